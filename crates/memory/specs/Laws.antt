@@ -1,0 +1,148 @@
+-- What is proved of this layer's definitions: statements alone, each with its proof in proofs/Laws.antt.
+use mathlib.Core.Path.{_≡_}
+use mathlib.Core.Bool.{Bool, true, false}
+use mathlib.Core.Logic.{_⊎_, _↔_, _≢_}
+use mathlib.Core.Option.{Option, none, some}
+use mathlib.Core.List.{List, [], _∷_, _++_, List·Memᴰ}
+use Prim.Native.Nat.{ℕ, zero, suc, _+_, _-_, _*_, _^_, _≤_, _<_}
+use lib.ListN.{length, take, drop, getElem?}
+use Rattle.memory.specs.Words.{reads, isSet, withBit, withoutBit, byte, withByte}
+use Rattle.memory.specs.Search.{first}
+use Rattle.memory.specs.Script.{Entry, store, barrier, barrierWord, encode, written, decode, Store, stores, segmented}
+use Rattle.memory.specs.Crash.{apply, unfenced, fenced, CrashImage, passed}
+use Rattle.memory.specs.Apply.{outcome, carryOut}
+use Rattle.memory.specs.declared.apply.Applied.the-variants.{Done}
+
+-- ---- bits and bytes
+
+-- a bit is what it was changed to, every other bit is as it was, and a word below 2^n stays below it
+pub record BitLaws : Type 0 where
+  pub with-sets : (w k : ℕ) → isSet (withBit w k) k ≡ true
+  pub without-clears : (w k : ℕ) → isSet (withoutBit w k) k ≡ false
+  pub with-keeps : (w k j : ℕ) → j ≢ k → isSet (withBit w k) j ≡ isSet w j
+  pub without-keeps : (w k j : ℕ) → j ≢ k → isSet (withoutBit w k) j ≡ isSet w j
+  pub with-fits : (w k n : ℕ) → k < n → w < 2 ^ n → withBit w k < 2 ^ n
+  pub without-fits : (w k n : ℕ) → k < n → w < 2 ^ n → withoutBit w k < 2 ^ n
+  pub none-above : (w n k : ℕ) → w < 2 ^ n → n ≤ k → isSet w k ≡ false
+  pub same-word : (w v n : ℕ) → w < 2 ^ n → v < 2 ^ n → ((k : ℕ) → k < n → isSet w k ≡ isSet v k) → w ≡ v
+
+-- the same of bytes
+pub record ByteLaws : Type 0 where
+  pub byte-fits : (w j : ℕ) → byte w j < 256
+  pub with-puts : (w j b : ℕ) → b < 256 → byte (withByte w j b) j ≡ b
+  pub with-keeps : (w j b i : ℕ) → b < 256 → i ≢ j → byte (withByte w j b) i ≡ byte w i
+  pub with-fits : (w j b n : ℕ) → b < 256 → 8 * j + 8 ≤ n → w < 2 ^ n → withByte w j b < 2 ^ n
+
+-- ---- the search
+
+-- p holds at no index below i: what every search loop knows
+abbrev pub NoneBelow : (ℕ → Bool) → ℕ → Type 0
+NoneBelow p i = (k : ℕ) → k < i → p k ≡ false
+
+pub record SearchLaws (p : ℕ → Bool) (n : ℕ) : Type 0 where
+  pub within : first p n ≤ n
+  pub holds : first p n < n → p (first p n) ≡ true
+  pub none-before : NoneBelow p (first p n)
+  pub least : (i : ℕ) → i < n → p i ≡ true → first p n ≤ i
+  pub equal-tests : (q : ℕ → Bool) → ((i : ℕ) → i < n → p i ≡ q i) → first p n ≡ first q n
+  -- the loop lemma: a search that found nothing below i, and stops there, has the answer
+  pub stops : (i : ℕ) → i ≤ n → NoneBelow p i → (i < n → p i ≡ true) → i ≡ first p n
+
+-- ---- scripts
+
+-- every store is inside an image of n words
+abbrev pub Inside : ℕ → List Entry → Type 0
+Inside n es = (i v : ℕ) → List·Memᴰ (store i v) es → (i < n) × (i ≢ barrierWord)
+
+-- no entry stores to word i
+abbrev pub Avoids : ℕ → List Entry → Type 0
+Avoids i es = (v : ℕ) → List·Memᴰ (store i v) es → ⊥
+
+-- every word, and every value stored, is below 2^64
+abbrev pub Fit : List ℕ → Type 0
+Fit m = (i : ℕ) → reads m i < 2 ^ 64
+
+abbrev pub FitStores : List Entry → Type 0
+FitStores es = (i v : ℕ) → List·Memᴰ (store i v) es → v < 2 ^ 64
+
+pub record ScriptLaws : Type 0 where
+  pub length-encode : (es : List Entry) → length (encode es) ≡ 2 * length es
+  -- what is encoded is read back, and what is read back was encoded
+  pub read-back : (n : ℕ) (es : List Entry) → Inside n es → decode n (encode es) ≡ some es
+  pub was-encoded : (n : ℕ) (ws : List ℕ) (es : List Entry) → decode n ws ≡ some es → (encode es ≡ ws) × Inside n es
+  pub carried-out : (m : List ℕ) (es : List Entry) → Inside (length m) es → carryOut m (encode es) ≡ outcome Done (apply m es)
+  -- entries, then others written to the rest of the buffer, are all of them written
+  pub lent-on : (es fs : List Entry) (buffer : List ℕ) → 2 * length es ≤ length buffer
+      → take (2 * length es) (written es buffer) ++ written fs (drop (2 * length es) (written es buffer)) ≡ written (es ++ fs) buffer
+  pub length-written : (es : List Entry) (buffer : List ℕ) → 2 * length es ≤ length buffer → length (written es buffer) ≡ length buffer
+
+pub record ApplyLaws : Type 0 where
+  pub length-apply : (m : List ℕ) (es : List Entry) → length (apply m es) ≡ length m
+  pub in-turn : (m : List ℕ) (es fs : List Entry) → apply m (es ++ fs) ≡ apply (apply m es) fs
+  -- a word holds the last store to it; one that is not stored to stays
+  pub last-store : (m : List ℕ) (es fs : List Entry) (i v : ℕ) → i < length m → Avoids i fs → reads (apply m (es ++ store i v ∷ fs)) i ≡ v
+  pub avoided : (m : List ℕ) (es : List Entry) (i : ℕ) → Avoids i es → reads (apply m es) i ≡ reads m i
+  pub fits : (m : List ℕ) (es : List Entry) → Fit m → FitStores es → Fit (apply m es)
+
+-- ---- crashes
+
+-- b is the number of entries up to the last barrier among the first k: 0, or entry b − 1 is that barrier
+pub record LastBarrier (es : List Entry) (k b : ℕ) : Type 0 where
+  pub passed-at : (b ≡ 0) ⊎ ((c : ℕ) × (b ≡ suc c) × (getElem? es c ≡ some barrier))
+  pub within : b ≤ k
+  pub none-since : (j : ℕ) → b ≤ j → j < k → getElem? es j ≢ some barrier
+
+-- entry j, since the last barrier and among the first k, stores v to word i
+pub record StoredSince (es : List Entry) (b k i j v : ℕ) : Type 0 where
+  pub since : b ≤ j
+  pub before : j < k
+  pub is : getElem? es j ≡ some (store i v)
+
+-- for a word, its content at the last barrier or the number of a store to it since
+pub data Choice (m : List ℕ) (es : List Entry) (b k i : ℕ) : ℕ → Type 0 where
+  old : Choice m es b k i (reads (apply m (take b es)) i)
+  new : {v : ℕ} (j : ℕ) → StoredSince es b k i j v → Choice m es b k i v
+
+-- the image of n words with the word f i at each index i
+abbrev pub image : ℕ → (ℕ → ℕ) → List ℕ
+image zero f = []
+image (suc n) f = f 0 ∷ image n (λ i. f (suc i))
+
+-- each word by itself is old or one of a segment's stores
+pub record Torn (m : List ℕ) (seg : List Store) (m' : List ℕ) : Type 0 where
+  pub same-length : length m' ≡ length m
+  pub each : (i : ℕ) → (reads m' i ≡ reads m i) ⊎ List·Memᴰ (i, reads m' i) seg
+
+-- where a crash of a script in segments falls: in one of them, those before it carried out, or after them all
+pub data FallsIn (m' : List ℕ) : List ℕ → List (List Store) → Type 0 where
+  after-all : {m : List ℕ} → m' ≡ m → FallsIn m' m []
+  here : {m : List ℕ} {seg : List Store} {segs : List (List Store)} → Torn m seg m' → FallsIn m' m (seg ∷ segs)
+  later : {m : List ℕ} {seg : List Store} {segs : List (List Store)} → FallsIn m' (apply m (stores seg)) segs → FallsIn m' m (seg ∷ segs)
+
+pub record CrashLaws : Type 0 where
+  -- there is a last barrier (or none yet) to speak of
+  pub last-barrier : (es : List Entry) (k : ℕ) → (b : ℕ) × LastBarrier es k b
+  -- possibility: whatever is chosen, word by word, is an image that a crash after k entries can leave
+  pub possible : (m : List ℕ) (es : List Entry) (k b : ℕ) → k ≤ length es → LastBarrier es k b
+      → (f : ℕ → ℕ) → ((i : ℕ) → Choice m es b k i (f i)) → CrashImage m es k (image (length m) f)
+  -- and no other image
+  pub only-chosen : (m : List ℕ) (es : List Entry) (k b : ℕ) (m' : List ℕ) → LastBarrier es k b → CrashImage m es k m'
+      → (i : ℕ) → Choice m es b k i (reads m' i)
+  -- with no entry carried out the image is as it was; with no barrier left to pass it is as carried out
+  pub none-yet : (m : List ℕ) (es : List Entry) (m' : List ℕ) → CrashImage m es 0 m' ↔ (m' ≡ m)
+  pub all-done : (m : List ℕ) (es : List Entry) (m' : List ℕ)
+      → CrashImage m (es ++ barrier ∷ []) (length (es ++ barrier ∷ [])) m' ↔ (m' ≡ apply m (es ++ barrier ∷ []))
+  pub all-passed : (m : List ℕ) (segs : List (List Store)) (k : ℕ) (m' : List ℕ)
+      → passed (segmented segs) k → CrashImage m (segmented segs) k m' → m' ≡ apply m (segmented segs)
+  -- words not stored to since the last barrier passed are as they were then
+  pub outside : (m : List ℕ) (es : List Entry) (k : ℕ) (m' : List ℕ) (i : ℕ) → CrashImage m es k m'
+      → Avoids i (unfenced (take k es)) → reads m' i ≡ reads (apply m (fenced (take k es))) i
+  -- the crash lemma
+  pub falls-in : (m : List ℕ) (segs : List (List Store)) (k : ℕ) (m' : List ℕ) → CrashImage m (segmented segs) k m' → FallsIn m' m segs
+  pub fits : (m : List ℕ) (es : List Entry) (k : ℕ) (m' : List ℕ) → Fit m → FitStores es → CrashImage m es k m' → Fit m'
+  -- entries that are not reached change no possibility
+  pub unreached : (m : List ℕ) (es fs : List Entry) (k : ℕ) (m' : List ℕ) → k ≤ length es
+      → CrashImage m (es ++ fs) k m' ↔ CrashImage m es k m'
+  -- a store of the value that a word has already changes no possibility
+  pub same-value : (m : List ℕ) (es fs : List Entry) (i j : ℕ) (m' : List ℕ)
+      → CrashImage m (es ++ store i (reads (apply m es) i) ∷ fs) (length es + suc j) m' ↔ CrashImage m (es ++ fs) (length es + j) m'

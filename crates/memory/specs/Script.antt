@@ -1,0 +1,55 @@
+-- Scripts: entries, the words that they are written as, and the entries read back from words.
+use mathlib.Core.Bool.{Bool, cond}
+use mathlib.Core.Option.{Option, none, some}
+use mathlib.Core.List.{List, [], _∷_, _++_, map}
+use Prim.Native.Nat.{ℕ, _-_, _*_, _^_}
+use lib.ListN.{length, drop}
+use lib.Dec.{eqb, ltb}
+
+-- an entry: a store of a value to the word at an index, or a barrier
+pub data Entry : Type 0 where
+  store : (index value : ℕ) → Entry
+  barrier : Entry
+
+-- the word that a barrier has where a store has its index
+abbrev pub barrierWord : ℕ
+barrierWord = 2 ^ 64 - 1
+
+-- an entry is two words: index and value for a store, 2^64 − 1 and 0 for a barrier
+unfoldable pub encode : List Entry → List ℕ
+encode [] = []
+encode (store i v ∷ es) = i ∷ v ∷ encode es
+encode (barrier ∷ es) = barrierWord ∷ 0 ∷ encode es
+
+-- a script buffer with entries written at its start: unused words stay
+unfoldable pub written : List Entry → List ℕ → List ℕ
+written es buffer = encode es ++ drop (2 * length es) buffer
+
+-- two words as an entry on an image of n words: a barrier, or a store inside the image
+unfoldable pub entryOf : ℕ → ℕ → ℕ → Option Entry
+entryOf n i v = cond (eqb i barrierWord) (cond (eqb v 0) (some barrier) none) (cond (ltb i n) (some (store i v)) none)
+
+-- an entry before others, where all are there
+abbrev pub onto : Option Entry → Option (List Entry) → Option (List Entry)
+onto none es = none
+onto (some e) none = none
+onto (some e) (some es) = some (e ∷ es)
+
+-- the whole entries of a script of words; none where its length is odd or two of its words are no entry
+unfoldable pub decode : ℕ → List ℕ → Option (List Entry)
+decode n [] = some []
+decode n (i ∷ []) = none
+decode n (i ∷ v ∷ ws) = onto (entryOf n i v) (decode n ws)
+
+-- a store by itself: index and value
+abbrev pub Store : Type 0
+Store = ℕ × ℕ
+
+-- stores as entries
+unfoldable pub stores : List Store → List Entry
+stores seg = map (λ (s : Store). store (s .0) (s .1)) seg
+
+-- a script in segments: the stores of each, and a barrier after them
+unfoldable pub segmented : List (List Store) → List Entry
+segmented [] = []
+segmented (seg ∷ segs) = stores seg ++ barrier ∷ segmented segs

@@ -1,4 +1,4 @@
--- What is proved of this layer's definitions: statements alone, each with its proof in proofs/Laws.antt.
+-- What is proved of this layer's definitions: the statements alone. proofs/Laws.antt has a proof of each record.
 use mathlib.Core.Path.{_≡_}
 use mathlib.Core.Bool.{Bool, true, false}
 use mathlib.Core.Logic.{_⊎_, _↔_, _≢_}
@@ -72,7 +72,7 @@ pub record ScriptLaws : Type 0 where
   pub was-encoded : (n : ℕ) (ws : List ℕ) (es : List Entry) → decode n ws ≡ some es → (encode es ≡ ws) × Inside n es
   pub carried-out : (m : List ℕ) (es : List Entry) → Inside (length m) es → carryOut m (encode es) ≡ outcome Done (apply m es)
   -- entries, then others written to the rest of the buffer, are all of them written
-  pub lent-on : (es fs : List Entry) (buffer : List ℕ) → 2 * length es ≤ length buffer
+  pub lent-on : (es fs : List Entry) (buffer : List ℕ)
       → take (2 * length es) (written es buffer) ++ written fs (drop (2 * length es) (written es buffer)) ≡ written (es ++ fs) buffer
   pub length-written : (es : List Entry) (buffer : List ℕ) → 2 * length es ≤ length buffer → length (written es buffer) ≡ length buffer
 
@@ -98,7 +98,7 @@ pub record StoredSince (es : List Entry) (b k i j v : ℕ) : Type 0 where
   pub before : j < k
   pub is : getElem? es j ≡ some (store i v)
 
--- for a word, its content at the last barrier or the number of a store to it since
+-- what may be chosen for word i: its content at the last barrier, or the value of a store to it since
 pub data Choice (m : List ℕ) (es : List Entry) (b k i : ℕ) : ℕ → Type 0 where
   old : Choice m es b k i (reads (apply m (take b es)) i)
   new : {v : ℕ} (j : ℕ) → StoredSince es b k i j v → Choice m es b k i v
@@ -124,10 +124,12 @@ pub record CrashLaws : Type 0 where
   pub last-barrier : (es : List Entry) (k : ℕ) → (b : ℕ) × LastBarrier es k b
   -- possibility: whatever is chosen, word by word, is an image that a crash after k entries can leave
   pub possible : (m : List ℕ) (es : List Entry) (k b : ℕ) → k ≤ length es → LastBarrier es k b
-      → (f : ℕ → ℕ) → ((i : ℕ) → Choice m es b k i (f i)) → CrashImage m es k (image (length m) f)
+      → (f : ℕ → ℕ) → ((i : ℕ) → i < length m → Choice m es b k i (f i)) → CrashImage m es k (image (length m) f)
   -- and no other image
   pub only-chosen : (m : List ℕ) (es : List Entry) (k b : ℕ) (m' : List ℕ) → LastBarrier es k b → CrashImage m es k m'
       → (i : ℕ) → Choice m es b k i (reads m' i)
+  -- among them the image as carried out
+  pub as-carried-out : (m : List ℕ) (es : List Entry) (k : ℕ) → k ≤ length es → CrashImage m es k (apply m (take k es))
   -- with no entry carried out the image is as it was; with no barrier left to pass it is as carried out
   pub none-yet : (m : List ℕ) (es : List Entry) (m' : List ℕ) → CrashImage m es 0 m' ↔ (m' ≡ m)
   pub all-done : (m : List ℕ) (es : List Entry) (m' : List ℕ)

@@ -26,17 +26,14 @@ fn is_entry(n: usize, index: u64, value: u64) -> bool
 fn is_script(n: usize, script: &[u64]) -> bool
     ensures { λ r. ⌜ r ≡ isScript n (now (script .entry)) ⌝ }
 {
-    if script.len() % 2 != 0 {
-        return false;
-    }
     let mut at = 0;
-    while at < script.len() {
+    while at + 1 < script.len() {
         if !is_entry(n, script[at], script[at + 1]) {
             return false;
         }
         at += 2;
     }
-    true
+    at == script.len()
 }
 
 // Makes the stores of a script that was checked.
@@ -45,7 +42,7 @@ fn make_stores(image: &mut [u64], script: &[u64])
     ensures { λ _. ⌜ now (image .exit) ≡ madeStores (now (image .entry)) (now (script .entry)) ⌝ }
 {
     let mut at = 0;
-    while at < script.len() {
+    while at + 1 < script.len() {
         let index = script[at];
         if index != BARRIER {
             image[index as usize] = script[at + 1];

@@ -1,66 +1,18 @@
+use borrow.Author.Tests.{not-true, not-false}
+use mathlib.Core.Path.{_≡_, refl, sym, _∙_}
+use Prim.Native.Nat.{ℕ, _≤_, _-_}
+use lib.ListN.{length, drop}
+use borrow.Author.Needs.{needs}
+use Rattle.memory.specs.Apply.{isScript}
+use Rattle.memory.proofs.Passes.{script-stops, script-more, script-last}
 use Rattle.memory.proofs.apply.is_script.Statement.{statement}
 use Rattle.memory.proofs.apply.is_script.Tie as tie
-use Rattle.memory.proofs.apply.is_script.Reads as reads
-use Rattle.memory.proofs.apply.is_script.Lts as lts
-use Rattle.memory.proofs.apply.is_entry.Reads as is-entry-reads
 
 abbrev Inv-loop : tie.InvT-loop
-Inv-loop n script at₀ at = ?
+Inv-loop n script at₀ at = (at ≤ length script) × (isScript n script ≡ isScript n (drop at script))
 
 abbrev μ-loop : tie.MeasureT-loop
-μ-loop n script at₀ at = ?
-
--- src/apply.rt:30:9
-returns : tie.Need-returns Inv-loop μ-loop
-returns c = ?
-
--- src/apply.rt:33:5
-loop-holds : tie.Need-loop-holds Inv-loop μ-loop
-loop-holds c = ?
-
--- src/apply.rt:34:25
-mul-is-entry : tie.Need-mul-is-entry Inv-loop μ-loop
-mul-is-entry c = ?
-
--- src/apply.rt:34:25
-shared-slice-read-is-entry : tie.Need-shared-slice-read-is-entry Inv-loop μ-loop
-shared-slice-read-is-entry c = ?
-
--- src/apply.rt:34:44
-add-is-entry : tie.Need-add-is-entry Inv-loop μ-loop
-add-is-entry c = ?
-
--- src/apply.rt:34:37
-mul-is-entry-2 : tie.Need-mul-is-entry-2 Inv-loop μ-loop
-mul-is-entry-2 c = ?
-
--- src/apply.rt:34:37
-shared-slice-read-is-entry-2 : tie.Need-shared-slice-read-is-entry-2 Inv-loop μ-loop
-shared-slice-read-is-entry-2 c = ?
-
--- src/apply.rt:34:13
-is-entry-requires : tie.Need-is-entry-requires Inv-loop μ-loop
-is-entry-requires c κs = ?
-
--- src/apply.rt:35:13
-returns-2 : tie.Need-returns-2 Inv-loop μ-loop
-returns-2 c = ?
-
--- src/apply.rt:37:9
-add-at : tie.Need-add-at Inv-loop μ-loop
-add-at c = ?
-
--- src/apply.rt:33:5
-loop-less : tie.Need-loop-less Inv-loop μ-loop
-loop-less c = ?
-
--- src/apply.rt:33:5
-loop-again : tie.Need-loop-again Inv-loop μ-loop
-loop-again c = ?
-
--- src/apply.rt:26:1
-returns-3 : tie.Need-returns-3 Inv-loop μ-loop
-returns-3 c = ?
+μ-loop n script at₀ at = length script - at
 
 pub is-script-spec : {M : Type 1} → statement M
 is-script-spec =
@@ -68,16 +20,16 @@ is-script-spec =
     (tie.spec
     Inv-loop
     μ-loop
-    returns
-    loop-holds
-    mul-is-entry
-    shared-slice-read-is-entry
-    add-is-entry
-    mul-is-entry-2
-    shared-slice-read-is-entry-2
-    is-entry-requires
-    returns-2
-    add-at
-    loop-less
-    loop-again
-    returns-3)
+    (λ c. (search needs, refl))
+    (λ c. search needs)
+    (λ c. search needs)
+    (λ c. search needs)
+    (λ c. search needs)
+    (λ c. search needs)
+    (λ c. search needs)
+    (λ c κs. search needs)
+    (λ c. sym (c .before .before .before .before .before .loop .inv .1 ∙ script-stops _ _ _ (c .before .before .before .before .loop-test .taken) (sym (c .before .is-entry .ensures) ∙ not-true (c .before .is-entry .result) (c .if1 .taken))))
+    (λ c. search needs)
+    (λ c. search needs)
+    (λ c. (search needs, c .before .before .before .before .before .loop .inv .1 ∙ script-more _ _ _ (c .before .before .before .before .loop-test .taken) (sym (c .before .is-entry .ensures) ∙ not-false (c .before .is-entry .result) (c .if1 .left))))
+    (λ c. sym (c .before .loop .inv .1 ∙ script-last _ _ _ (c .before .loop .inv .0) (c .loop-test .left))))

@@ -1,65 +1,39 @@
+use mathlib.Core.Path.{_≡_, refl, sym, _∙_, ap}
+use mathlib.Core.Bool.{true}
+use mathlib.Core.Logic.{⊎-elim}
+use mathlib.Core.List.{List}
+use Prim.Native.Nat.{ℕ, _+_, _-_, _≤_, _<_}
+use native.Mathlib.Omega.{arith}
+use lib.ListN.{length, getD, drop, set}
+use borrow.Author.Needs.{needs}
+use Rattle.memory.specs.Apply.{isScript, madeStores}
+use Rattle.memory.proofs.Passes.{Made, made-store, made-barrier, made-last}
 use Rattle.memory.proofs.apply.make_stores.Statement.{statement}
 use Rattle.memory.proofs.apply.make_stores.Tie as tie
-use Rattle.memory.proofs.apply.make_stores.Reads as reads
-use Rattle.memory.proofs.apply.make_stores.Lts as lts
 
 abbrev Inv-loop : tie.InvT-loop
-Inv-loop image₀ script at₀ image at = ?
+Inv-loop image₀ script at₀ image at = (length image ≡ length image₀) × (at ≤ length script) × (isScript (length image) (drop at script) ≡ true) × (madeStores image₀ script ≡ madeStores image (drop at script))
 
 abbrev μ-loop : tie.MeasureT-loop
-μ-loop image₀ script at₀ image at = ?
+μ-loop image₀ script at₀ image at = length script - at
 
--- src/apply.rt:48:5
-loop-holds : tie.Need-loop-holds Inv-loop μ-loop
-loop-holds c = ?
+-- the store is inside the image, and what is left of the script does the same after it
+stored : (c : tie.Then1 Inv-loop μ-loop)
+    → let l = c .before .before .before .loop in
+    let ws = c .before .before .before .before .args .script .now in
+    (getD ws (l .at) 0 < length (l .image)) × Made (l .image) (set (l .image) (getD ws (l .at) 0) (getD ws (l .at + 1) 0)) ws (l .at)
+stored c =
+    let l = c .before .before .before .loop in
+    made-store (l .image) (c .before .before .before .before .args .script .now) (l .at) (c .before .before .loop-test .taken) (l .inv .2) (c .if1 .taken)
 
--- src/apply.rt:49:21
-mul-index : tie.Need-mul-index Inv-loop μ-loop
-mul-index c = ?
-
--- src/apply.rt:49:21
-shared-slice-read-index : tie.Need-shared-slice-read-index Inv-loop μ-loop
-shared-slice-read-index c = ?
-
--- src/apply.rt:51:44
-add-image : tie.Need-add-image Inv-loop μ-loop
-add-image c = ?
-
--- src/apply.rt:51:37
-mul-image : tie.Need-mul-image Inv-loop μ-loop
-mul-image c = ?
-
--- src/apply.rt:51:37
-shared-slice-read-image : tie.Need-shared-slice-read-image Inv-loop μ-loop
-shared-slice-read-image c = ?
-
--- src/apply.rt:51:13
-mul-image-2 : tie.Need-mul-image-2 Inv-loop μ-loop
-mul-image-2 c = ?
-
--- src/apply.rt:51:13
-slice-write-image : tie.Need-slice-write-image Inv-loop μ-loop
-slice-write-image c = ?
-
--- src/apply.rt:53:9
-add-at : tie.Need-add-at Inv-loop μ-loop
-add-at c = ?
-
--- src/apply.rt:48:5
-loop-less : tie.Need-loop-less Inv-loop μ-loop
-loop-less c = ?
-
--- src/apply.rt:48:5
-loop-again : tie.Need-loop-again Inv-loop μ-loop
-loop-again c = ?
-
--- src/apply.rt:43:1
-same-length : tie.Need-same-length Inv-loop μ-loop
-same-length c = ?
-
--- src/apply.rt:43:1
-returns : tie.Need-returns Inv-loop μ-loop
-returns c = ?
+-- the invariant, once the entry is made
+kept : (c : tie.After-shared-slice-known Inv-loop μ-loop) (m' : List ℕ)
+    → let l = c .before .before .loop in
+    let a = c .before .before .before .args in
+    Made (l .image) m' (a .script .now) (l .at) → Inv-loop (a .image .now) (a .script .now) 0 m' (l .at + 2)
+kept c m' d =
+    let l = c .before .before .loop in
+    (d .same-length ∙ l .inv .0, omega (arith, c .before .loop-test .taken), d .checked, l .inv .3 ∙ d .same)
 
 pub make-stores-spec : {M : Type 1} → statement M
 make-stores-spec =
@@ -67,16 +41,21 @@ make-stores-spec =
     (tie.spec
     Inv-loop
     μ-loop
-    loop-holds
-    mul-index
-    shared-slice-read-index
-    add-image
-    mul-image
-    shared-slice-read-image
-    mul-image-2
-    slice-write-image
-    add-at
-    loop-less
-    loop-again
-    same-length
-    returns)
+    (λ c. (refl, search needs, c .pre, refl))
+    (λ c. search needs)
+    (λ c. search needs)
+    (λ c. search needs)
+    (λ c. search needs)
+    (λ c. search needs)
+    (λ c. search needs)
+    (λ c. let h = stored (c .before) .0 in search needs)
+    (λ c. stored (c .before) .0)
+    (λ c. search needs)
+    (λ c. search needs)
+    (λ c. let l = c .before .before .before .loop in
+    ⊎-elim
+    (λ w. rw (w .2) (kept (c .before) _ (stored (record { before = c .before; if1 = w .0 }) .1)))
+    (λ w. rw (w .1) (kept (c .before) (l .image) (made-barrier (l .image) _ _ (c .before .before .loop-test .taken) (l .inv .2) (w .0 .left))))
+    (c .if1 .came))
+    (λ c. search needs)
+    (λ c. sym (c .before .loop .inv .3 ∙ made-last _ _ _ (c .loop-test .left))))

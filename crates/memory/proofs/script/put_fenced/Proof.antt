@@ -1,47 +1,22 @@
+use mathlib.Core.Path.{refl}
+use mathlib.Core.List.{[], _∷_}
+use Rattle.memory.specs.Script.{store, barrier}
+use Rattle.memory.proofs.Written.{lent-written}
 use borrow.Author.Needs.{needs}
 use Rattle.memory.proofs.script.put_fenced.Statement.{statement}
 use Rattle.memory.proofs.script.put_fenced.Tie as tie
-use Rattle.memory.proofs.script.put_fenced.Reads as reads
-use Rattle.memory.proofs.script.put_fenced.Lts as lts
-use Rattle.memory.proofs.script.put_barrier.Reads as put-barrier-reads
-use Rattle.memory.proofs.script.put_store.Reads as put-store-reads
-
--- src/script.rt:33:5
-put-store-requires : tie.Need-put-store-requires
-put-store-requires c κs = search needs
-
--- src/script.rt:34:17
-sub-put-barrier : tie.Need-sub-put-barrier
-sub-put-barrier c = search needs
-
--- src/script.rt:34:17
-part-put-barrier-start : tie.Need-part-put-barrier-start
-part-put-barrier-start c = search needs
-
--- src/script.rt:34:17
-part-put-barrier-end : tie.Need-part-put-barrier-end
-part-put-barrier-end c = search needs
-
--- src/script.rt:34:5
-put-barrier-requires : tie.Need-put-barrier-requires
-put-barrier-requires c κs = search needs
-
--- src/script.rt:29:1
-same-length : tie.Need-same-length
-same-length c = search needs
-
--- src/script.rt:29:1
-returns : tie.Need-returns
-returns c = ?
 
 pub put-fenced-spec : {M : Type 1} → statement M
 put-fenced-spec =
     tie.close
     (tie.spec
-    put-store-requires
-    sub-put-barrier
-    part-put-barrier-start
-    part-put-barrier-end
-    put-barrier-requires
-    same-length
-    returns)
+    (λ c κs. search needs)
+    (λ c. search needs)
+    (λ c. search needs)
+    (λ c. search needs)
+    (λ c κs. search needs)
+    (λ c. search needs)
+    (λ c. let a = c .before .before .before .before .before .before .before .before .before .args in
+    let one = c .before .before .before .before .before .before .put-store in
+    let two = c .before .before .put-barrier in
+    lent-written (store (a .index) (a .value) ∷ []) (barrier ∷ []) 2 (a .script .now) (one .last .0) (two .last .0) refl (one .ensures) (two .ensures)))

@@ -1,46 +1,22 @@
+use mathlib.Core.Path.{refl}
+use mathlib.Core.List.{[], _∷_}
+use Rattle.memory.specs.Script.{store, barrier}
+use Rattle.memory.proofs.Written.{lent-written}
 use borrow.Author.Needs.{needs}
 use Rattle.memory.proofs.script.put_fenced_pair.Statement.{statement}
 use Rattle.memory.proofs.script.put_fenced_pair.Tie as tie
-use Rattle.memory.proofs.script.put_fenced_pair.Reads as reads
-use Rattle.memory.proofs.script.put_fenced_pair.Lts as lts
-use Rattle.memory.proofs.script.put_fenced.Reads as put-fenced-reads
-
--- src/script.rt:42:5
-put-fenced-requires : tie.Need-put-fenced-requires
-put-fenced-requires c κs = search needs
-
--- src/script.rt:43:16
-sub-put-fenced : tie.Need-sub-put-fenced
-sub-put-fenced c = search needs
-
--- src/script.rt:43:16
-part-put-fenced-start : tie.Need-part-put-fenced-start
-part-put-fenced-start c = search needs
-
--- src/script.rt:43:16
-part-put-fenced-end : tie.Need-part-put-fenced-end
-part-put-fenced-end c = search needs
-
--- src/script.rt:43:5
-put-fenced-requires-2 : tie.Need-put-fenced-requires-2
-put-fenced-requires-2 c κs = search needs
-
--- src/script.rt:38:1
-same-length : tie.Need-same-length
-same-length c = search needs
-
--- src/script.rt:38:1
-returns : tie.Need-returns
-returns c = ?
 
 pub put-fenced-pair-spec : {M : Type 1} → statement M
 put-fenced-pair-spec =
     tie.close
     (tie.spec
-    put-fenced-requires
-    sub-put-fenced
-    part-put-fenced-start
-    part-put-fenced-end
-    put-fenced-requires-2
-    same-length
-    returns)
+    (λ c κs. search needs)
+    (λ c. search needs)
+    (λ c. search needs)
+    (λ c. search needs)
+    (λ c κs. search needs)
+    (λ c. search needs)
+    (λ c. let a = c .before .before .before .before .before .before .before .before .before .args in
+    let one = c .before .before .before .before .before .before .put-fenced in
+    let two = c .before .before .put-fenced2 in
+    lent-written (store (a .index) (a .value) ∷ barrier ∷ []) (store (a .index2) (a .value2) ∷ barrier ∷ []) 4 (a .script .now) (one .last .0) (two .last .0) refl (one .ensures) (two .ensures)))

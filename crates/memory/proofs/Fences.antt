@@ -1,0 +1,58 @@
+-- The entries up to the last barrier and those since: how the two parts of a script share them out.
+use mathlib.Core.Path.{_≡_, refl, _∙_, ap}
+use mathlib.Core.Bool.{true, false, _||_, or-true, or-false}
+use mathlib.Core.Logic.{inl, inr}
+use mathlib.Core.List.{List, [], _∷_, _++_, List·Memᴰ, List·Memᴰ·head, List·Memᴰ·tail}
+use Rattle.memory.specs.Script.{Entry, store, barrier}
+use Rattle.memory.specs.Crash.{hasBarrier, fenced, unfenced}
+use Rattle.memory.proofs.Cases.{test}
+
+-- ---- whether there is a barrier
+
+pub barrier-append : (es fs : List Entry) → hasBarrier (es ++ fs) ≡ hasBarrier es || hasBarrier fs
+unfolding hasBarrier
+barrier-append [] fs = refl
+barrier-append (store i v ∷ es) fs = barrier-append es fs
+barrier-append (barrier ∷ es) fs = refl
+
+pub no-barrier : (es : List Entry) → (List·Memᴰ barrier es → ⊥) → hasBarrier es ≡ false
+unfolding hasBarrier
+no-barrier [] h = refl
+no-barrier (store i v ∷ es) h = no-barrier es (λ x. h (List·Memᴰ·tail x))
+no-barrier (barrier ∷ es) h = absurd (h (List·Memᴰ·head refl))
+
+-- ---- what is up to the last barrier, then what is since, is all
+
+pub rejoined : (es : List Entry) → fenced es ++ unfenced es ≡ es
+unfolding fenced unfenced
+rejoined [] = refl
+rejoined (e ∷ es) = elim (test (hasBarrier (e ∷ es))) [ inl q ↦ rw q (ap (λ t. e ∷ t) (rejoined es)) | inr q ↦ rw q ]
+
+-- ---- two parts
+
+-- `before` and `since` are the entries up to the last barrier of es, and those since
+pub record Fenced (es before since : List Entry) : Type 0 where
+  pub up-to : fenced es ≡ before
+  pub after : unfenced es ≡ since
+
+-- a barrier in the second part is after all of the first
+pub barrier-later : (es fs : List Entry) → hasBarrier fs ≡ true → Fenced (es ++ fs) (es ++ fenced fs) (unfenced fs)
+unfolding fenced unfenced
+barrier-later [] fs h = record { up-to = refl; after = refl }
+barrier-later (e ∷ es) fs h =
+    let q : hasBarrier (e ∷ (es ++ fs)) ≡ true = barrier-append (e ∷ es) fs ∙ rw h (or-true (hasBarrier (e ∷ es))) in
+    let r = barrier-later es fs h in
+    record { up-to = rw (q, r .up-to); after = rw (q, r .after) }
+
+-- a second part with none is since the last barrier
+pub none-later : (es fs : List Entry) → hasBarrier fs ≡ false → Fenced (es ++ fs) (fenced es) (unfenced es ++ fs)
+unfolding fenced unfenced
+none-later [] [] h = record { up-to = refl; after = refl }
+none-later [] (f ∷ fs) h = record { up-to = rw h; after = rw h }
+none-later (e ∷ es) fs h =
+    let q : hasBarrier (e ∷ (es ++ fs)) ≡ hasBarrier (e ∷ es) = barrier-append (e ∷ es) fs ∙ rw h (or-false (hasBarrier (e ∷ es))) in
+    let r = none-later es fs h in
+    elim (test (hasBarrier (e ∷ es))) [
+      | inl t ↦ record { up-to = rw (q, t, r .up-to); after = rw (q, t, r .after) }
+      | inr t ↦ record { up-to = rw (q, t); after = rw (q, t) }
+    ]

@@ -1,0 +1,14 @@
+pub mod Cases
+pub mod Lists
+pub mod Fields
+pub mod Masks
+pub mod First
+pub mod Bitmap
+pub mod Written
+pub mod Passes
+pub mod Stores
+pub mod Fences
+pub mod Crash
+pub mod Possible
+pub mod Segments
+pub mod Laws

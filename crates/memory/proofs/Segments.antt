@@ -1,0 +1,57 @@
+-- Scripts in segments, each of stores alone with a barrier after it: where a crash falls, and when all is carried out.
+use mathlib.Core.Path.{_≡_, refl, sym, _∙_}
+use mathlib.Core.Logic.{inl, inr}
+use mathlib.Core.List.{List, [], _∷_, List·Memᴰ, Memᴰ·cast, Memᴰ·of-map, append-eq-nil-iff}
+use Prim.Native.Nat.{ℕ}
+use native.Mathlib.Omega.{arith}
+use lib.ListN.{take, drop, take-append-drop}
+use Rattle.memory.specs.Words.{reads}
+use Rattle.memory.specs.Script.{store, barrier, Store, stores, segmented}
+use Rattle.memory.specs.Crash.{apply, hasBarrier, fenced, unfenced, CrashImage, passed}
+use Rattle.memory.specs.Laws.{Torn, FallsIn, after-all, here, later}
+use Rattle.memory.proofs.Lists.{mem-take}
+use Rattle.memory.proofs.Fences.{Fenced, no-barrier, barrier-later, none-later}
+use Rattle.memory.proofs.Crash.{none-yet, settled, crash-split}
+
+-- ---- stores alone
+
+-- they have no barrier, and are the pairs that they were made of
+pub no-barrier-stores : (seg : List Store) → List·Memᴰ barrier (stores seg) → ⊥
+unfolding stores
+no-barrier-stores seg x = let z : _≡_ {A = ℕ} 0 1 = cc (Memᴰ·of-map _ seg x .2) in omega arith
+
+pub store-of : (seg : List Store) (i v : ℕ) → List·Memᴰ (store i v) (stores seg) → List·Memᴰ (i, v) seg
+unfolding stores
+store-of seg i v x = let r = Memᴰ·of-map _ seg x in let q : _≡_ {A = Store} (i, v) (r .0 .0, r .0 .1) = cc (r .2) in Memᴰ·cast q (r .1)
+
+-- a crash among them leaves each word as it was or as one of them has it
+pub torn : (m : List ℕ) (seg : List Store) (k : ℕ) (m' : List ℕ) → CrashImage m (stores seg) k m' → Torn m seg m'
+unfolding apply fenced unfenced
+torn m seg k m' c = let f = none-later [] _ (no-barrier (take k (stores seg)) (λ x. no-barrier-stores seg (mem-take k (stores seg) x))) in record {
+  same-length = c .same-length;
+  each = λ i. elim (rw (f .up-to, f .after) at (c .each i)) [ inl q ↦ inl q | inr x ↦ inr (store-of seg i (reads m' i) (mem-take k (stores seg) x)) ];
+}
+
+-- ---- segments
+
+pub falls-in : (m : List ℕ) (segs : List (List Store)) (k : ℕ) (m' : List ℕ) → CrashImage m (segmented segs) k m' → FallsIn m' m segs
+unfolding segmented
+falls-in m [] k m' c = let z : k ≡ 0 = omega (arith, c .within) in after-all (none-yet m [] m' .0 (rw z at c))
+falls-in m (seg ∷ segs) k m' c = elim (crash-split m (stores seg) (segmented segs) k m' c) [
+  | inl x ↦ here (torn m seg k m' x)
+  | inr t ↦ later (falls-in (apply m (stores seg)) segs (t .0) m' (t .1))
+]
+
+-- a script in segments is all up to its last barrier
+pub all-fenced : (segs : List (List Store)) → Fenced (segmented segs) (segmented segs) []
+unfolding segmented hasBarrier fenced unfenced
+all-fenced [] = record { up-to = refl; after = refl }
+all-fenced (seg ∷ segs) = let f = barrier-later (stores seg) (barrier ∷ segmented segs) refl in let r = all-fenced segs in
+    record { up-to = rw (f .up-to, r .up-to); after = rw (f .after, r .after) }
+
+pub all-passed : (m : List ℕ) (segs : List (List Store)) (k : ℕ) (m' : List ℕ)
+    → passed (segmented segs) k → CrashImage m (segmented segs) k m' → m' ≡ apply m (segmented segs)
+all-passed m segs k m' h c =
+    let es = segmented segs in let a = all-fenced segs in
+    let f = rw take-append-drop at (none-later (take k es) (drop k es) h) in
+    settled m es k m' (record { up-to = sym (f .up-to) ∙ a .up-to; after = append-eq-nil-iff .0 (sym (f .after) ∙ a .after) .0 }) (c .within) .0 c

@@ -1,0 +1,141 @@
+-- Laws of a script's words: written, read back, lent on.
+use mathlib.Core.Path.{_≡_, refl, ap, sym, _∙_}
+use mathlib.Core.Bool.{Bool, true, false, cond}
+use mathlib.Core.Logic.{_⊎_, inl, inr, _≢_}
+use mathlib.Core.Option.{Option, none, some}
+use mathlib.Core.List.{List, [], _∷_, _++_, append-assoc, append-nil, List·Memᴰ, List·Memᴰ·head, List·Memᴰ·tail, List·Memᴰ·not-nil, List·Memᴰ·cases-cons}
+use Prim.Native.Nat.{ℕ, zero, suc, _+_, _-_, _*_, _≤_, _<_}
+use native.Mathlib.Omega.{arith}
+use native.Mathlib.Nat.{le-of-eq}
+use native.Mathlib.Decide.{decLt, ℕ-discrete}
+use lib.ListN.{length, take, drop, set, length-append, length-drop, drop-of-length-le}
+use lib.Seq.{take-all, take-at, drop-at, drop-drop}
+use lib.Dec.{eqb, ltb}
+use borrow.Author.Tests.{eq-eqb, ne-eqb, lt-ltb, le-ltb}
+use borrow.Rule.Slice.PartMut.{midOf, postOf, putMid}
+use Rattle.memory.specs.Script.{Entry, store, barrier, barrierWord, encode, written, entryOf, onto, decode}
+use Rattle.memory.specs.Crash.{apply}
+use Rattle.memory.specs.Apply.{outcome, applied, carryOut}
+use Rattle.memory.specs.Laws.{Inside, ScriptLaws}
+
+-- ---- written
+
+length-encode : (es : List Entry) → length (encode es) ≡ 2 * length es
+unfolding encode
+length-encode [] = refl
+length-encode (store i v ∷ es) = let h = length-encode es in omega arith
+length-encode (barrier ∷ es) = let h = length-encode es in omega arith
+
+encode-append : (es fs : List Entry) → encode (es ++ fs) ≡ encode es ++ encode fs
+unfolding encode
+encode-append [] fs = refl
+encode-append (store i v ∷ es) fs = ap (λ ws. i ∷ v ∷ ws) (encode-append es fs)
+encode-append (barrier ∷ es) fs = ap (λ ws. barrierWord ∷ 0 ∷ ws) (encode-append es fs)
+
+length-written : (es : List Entry) (buffer : List ℕ) → 2 * length es ≤ length buffer → length (written es buffer) ≡ length buffer
+unfolding written
+length-written es buffer h = simp (length-append, length-drop) (omega (arith, length-encode es))
+
+-- the words written, and the rest of the buffer
+take-written : (es : List Entry) (buffer : List ℕ) → take (2 * length es) (written es buffer) ≡ encode es
+unfolding written
+take-written es buffer = take-at (encode es) _ _ (length-encode es)
+
+drop-written : (es : List Entry) (buffer : List ℕ) → drop (2 * length es) (written es buffer) ≡ drop (2 * length es) buffer
+unfolding written
+drop-written es buffer = drop-at (encode es) _ _ (length-encode es)
+
+written-append : (es fs : List Entry) (buffer : List ℕ)
+    → take (2 * length es) (written es buffer) ++ written fs (drop (2 * length es) (written es buffer)) ≡ written (es ++ fs) buffer
+unfolding written
+written-append es fs buffer =
+    let two : 2 * length (es ++ fs) ≡ 2 * length es + 2 * length fs = simp length-append (omega arith) in
+    rw (take-written es buffer, drop-written es buffer, two, encode-append es fs, ← drop-drop (2 * length fs) (2 * length es) buffer, append-assoc) refl
+
+-- the rest of the buffer is lent on, as `&mut script[n..]`, and more is written there
+pub lent-written : (es fs : List Entry) (n : ℕ) (buffer xs ys : List ℕ) → 2 * length es ≡ n → xs ≡ written es buffer
+    → ys ≡ written fs (midOf n (length xs - n) xs) → putMid n (length xs - n) xs ys ≡ written (es ++ fs) buffer
+lent-written es fs n buffer xs ys l ex ey =
+    let rest : midOf n (length xs - n) xs ≡ drop n xs = take-all (length xs - n) (drop n xs) (le-of-eq (length-drop n xs)) in
+    let none : postOf n (length xs - n) xs ≡ [] = drop-of-length-le (drop n xs) (le-of-eq (length-drop n xs)) in
+    rw (none, append-nil, ey, rest, ex, ← l) (written-append es fs buffer)
+
+-- two words set at the start
+pub set-two : (buffer : List ℕ) (a b : ℕ) → 2 ≤ length buffer → set (set buffer 0 a) 1 b ≡ a ∷ b ∷ drop 2 buffer
+set-two [] a b h = absurd (omega arith)
+set-two (x ∷ []) a b h = absurd (omega arith)
+set-two (x ∷ y ∷ ws) a b h = refl
+
+-- ---- read back
+
+entry-barrier : (n : ℕ) → entryOf n barrierWord 0 ≡ some barrier
+unfolding entryOf
+entry-barrier n = refl
+
+entry-store : (n i v : ℕ) → i < n → i ≢ barrierWord → entryOf n i v ≡ some (store i v)
+unfolding entryOf
+entry-store n i v l h = rw (ne-eqb i barrierWord h, lt-ltb i n l)
+
+read-back : (n : ℕ) (es : List Entry) → Inside n es → decode n (encode es) ≡ some es
+unfolding encode decode
+read-back n [] h = refl
+read-back n (store i v ∷ es) h =
+    let in-image = h i v (List·Memᴰ·head refl) in
+    rw (entry-store n i v (in-image .0) (in-image .1), read-back n es (λ j u x. h j u (List·Memᴰ·tail x))) refl
+read-back n (barrier ∷ es) h = rw (entry-barrier n, read-back n es (λ j u x. h j u (List·Memᴰ·tail x))) refl
+
+none-some : {A X : Type 0} {a : A} → none ≡ some a → X
+none-some q = let never : _≡_ {A = ℕ} 0 1 = cc in absurd (omega arith)
+
+-- two words that are an entry: which one
+pub data Reads (n i v : ℕ) : Entry → Type 0 where
+  as-barrier : i ≡ barrierWord → v ≡ 0 → Reads n i v barrier
+  as-store : i < n → i ≢ barrierWord → Reads n i v (store i v)
+
+pub entry-reads : (n i v : ℕ) (e : Entry) → entryOf n i v ≡ some e → Reads n i v e
+unfolding entryOf
+entry-reads n i v e q = elim (ℕ-discrete i barrierWord) [
+  | yes b ↦ elim (ℕ-discrete v 0) [
+    | yes z ↦ let is : some barrier ≡ some e = rw (eq-eqb i barrierWord b, eq-eqb v 0 z) at q in
+        let same : barrier ≡ e = cc in rw (← same) (as-barrier b z)
+    | no z ↦ none-some (rw (eq-eqb i barrierWord b, ne-eqb v 0 z) at q)
+  ]
+  | no b ↦ elim (decLt i n) [
+    | yes l ↦ let is : some (store i v) ≡ some e = rw (ne-eqb i barrierWord b, lt-ltb i n l) at q in
+        let same : store i v ≡ e = cc in rw (← same) (as-store l b)
+    | no l ↦ none-some (rw (ne-eqb i barrierWord b, le-ltb i n (omega arith)) at q)
+  ]
+]
+
+-- entries that are there: the first and the others
+onto-both : (o : Option Entry) (os : Option (List Entry)) (es : List Entry) → onto o os ≡ some es
+    → (e : Entry) × (rest : List Entry) × (o ≡ some e) × (os ≡ some rest) × (es ≡ e ∷ rest)
+onto-both none os es q = none-some q
+onto-both (some e) none es q = none-some q
+onto-both (some e) (some rest) es q = (e, rest, refl, refl, cc)
+
+was-encoded : (n : ℕ) (ws : List ℕ) (es : List Entry) → decode n ws ≡ some es → (encode es ≡ ws) × Inside n es
+unfolding encode decode
+was-encoded n [] es q =
+    let none-left : es ≡ [] = cc in
+    rw none-left (refl, λ i v x. absurd (List·Memᴰ·not-nil x))
+was-encoded n (i ∷ []) es q = none-some q
+was-encoded n (i ∷ v ∷ ws) es q =
+    let b = onto-both (entryOf n i v) (decode n ws) es q in
+    let ih = was-encoded n ws (b .1) (b .3) in
+    rw (b .4) (go (b .0) (b .1) (entry-reads n i v (b .0) (b .2)) (ih .0) (ih .1))
+  where
+    go : (e : Entry) (rest : List Entry) → Reads n i v e → encode rest ≡ ws → Inside n rest → (encode (e ∷ rest) ≡ i ∷ v ∷ ws) × Inside n (e ∷ rest)
+    go barrier rest (as-barrier b z) h k = (rw (h, b, z) refl, λ j u x. elim (List·Memᴰ·cases-cons x) [ inl p ↦ let never : _≡_ {A = ℕ} 0 1 = cc in absurd (omega arith) | inr y ↦ k j u y ])
+    go (store i v) rest (as-store l b) h k = (rw h refl, λ j u x. elim (List·Memᴰ·cases-cons x) [ inl p ↦ let same : j ≡ i = cc in rw same (l, b) | inr y ↦ k j u y ])
+
+pub script-laws : ScriptLaws
+unfolding carryOut
+script-laws = record {
+  length-encode = length-encode;
+  read-back = read-back;
+  was-encoded = was-encoded;
+  carried-out = λ m es h. ap (applied m) (read-back (length m) es h);
+  lent-on = written-append;
+  length-written = length-written;
+}

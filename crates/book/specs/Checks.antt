@@ -1,0 +1,101 @@
+-- The refusals of each operation, in the paper's sequence.
+use mathlib.Core.Bool.{Bool, true, false, not}
+use mathlib.Core.Option.{Option, none, some}
+use mathlib.Core.List.{List, [], _∷_}
+use Prim.Native.Nat.{ℕ}
+use lib.ListN.{length}
+use Rattle.tree.specs.Memory.{Memory, reads, isSome}
+use Rattle.tree.specs.Test.{Test, lt, le, eq, ne, is, _and_, _or_}
+use Rattle.tree.specs.Layout.{Geometry, imageWords, mapWords, editionAt, geometryOf}
+use Rattle.tree.specs.Fingerprint.{ruleOf}
+use Rattle.tree.specs.Slots.{slotOf, emptySlot}
+use Rattle.tree.specs.Lookup.{pathFrom, find, freeRun}
+use Rattle.tree.specs.Subtree.{listing}
+use Rattle.tree.specs.Check.{isSoundTree, isSound}
+use Rattle.book.specs.declared.Target.{Target}
+use Rattle.book.specs.Heads.{headCount, headAt, isIdle, isClaimed, isFilled, targetOf, busy}
+use Rattle.book.specs.Refusals.{Refusal, _gives_}
+use Rattle.book.specs.Room.{roomOn, needs, atLevel31}
+use Rattle.book.specs.State.{State, Operation, format, recover, openReel, claim, fill, commit, abandon, remove, has, list, retire}
+
+-- 1: the image's length, R or N is wrong
+unfoldable pub badImage : ℕ → Geometry → Test
+badImage words g =
+    (lt (g .slots) 1 or lt 4096 (g .slots) or lt (g .nodes) 1 or lt 65536 (g .nodes)) or ne words (imageWords g)
+
+-- 3: a map, or a scratch map, is not of the map's length; a script is too short
+abbrev pub badMap : Geometry → ℕ → Test
+badMap g words = ne words (mapWords g)
+
+abbrev pub badScript : ℕ → Test
+badScript words = lt words 50
+
+-- 1, 2 and 3 first, for what is borrowed
+abbrev pub checked : List ℕ → Test → List Refusal → List Refusal
+checked image buffers rest =
+    let m = reads image in
+    (badImage (length image) (geometryOf m) gives 1) ∷ (ne (m editionAt) 1 gives 2) ∷ (buffers gives 3) ∷ rest
+
+-- 4 in Fill, Commit and Abandon: node or place is outside
+abbrev pub outside : Geometry → Target → Test
+outside g t = le (g .nodes) (t .node) or le 64 (t .place)
+
+-- 4 on a frame's path: a node of it is malformed
+abbrev pub noPath : Option (List ℕ) → Test
+noPath ns = is (not (isSome ns))
+
+unfoldable pub refusals : Operation → State → List Refusal
+refusals op s =
+    let m = reads (s .image) in
+    let g = geometryOf m in
+    let head = headAt (s .heads) in
+    elim op [
+      | format map slots nodes ↦
+        let g' : Geometry = record { slots = slots; nodes = nodes } in
+        (badImage (length (s .image)) g' gives 1) ∷ (badMap g' map gives 3) ∷ []
+      | recover map ↦
+        checked (s .image) (badMap g map) ((is (not (isSound (ruleOf m) g m)) gives 4) ∷ [])
+      | openReel map script reel ↦
+        checked (s .image) (badMap g map or badScript script)
+        ((lt (slotOf g m reel) (g .slots) gives 6) ∷ (le (g .slots) (emptySlot g m) gives 7) ∷ (le (g .nodes) (freeRun g (reads (s .pool)) 1) gives 8) ∷ [])
+      | claim map script h reel f ↦
+        let slot = slotOf g m reel in
+        let ns = pathFrom g m slot f in
+        checked (s .image) (badMap g map or badScript script)
+        ((le headCount h gives 11)
+        ∷ (is (not (isIdle (head h))) gives 12)
+        ∷ (le (g .slots) slot gives 5)
+        ∷ (is (busy (s .heads) slot) gives 13)
+        ∷ (noPath ns or is (atLevel31 (roomOn g m ns)) gives 4)
+        ∷ (is (isSome (find (ruleOf m) g m slot f)) gives 9)
+        ∷ (lt 0 (needs (roomOn g m ns)) and le (g .nodes) (freeRun g (reads (s .pool)) (needs (roomOn g m ns))) gives 8)
+        ∷ [])
+      | fill script h ↦
+        checked (s .image) (badScript script)
+        ((le headCount h gives 11) ∷ (is (not (isClaimed (head h))) gives 12) ∷ (outside g (targetOf (head h)) gives 4) ∷ [])
+      | commit script h ↦
+        checked (s .image) (badScript script)
+        ((le headCount h gives 11) ∷ (is (not (isFilled (head h))) gives 12) ∷ (outside g (targetOf (head h)) gives 4) ∷ [])
+      | abandon script h ↦
+        checked (s .image) (badScript script)
+        ((le headCount h gives 11) ∷ (is (isIdle (head h)) gives 12) ∷ (outside g (targetOf (head h)) gives 4) ∷ [])
+      | remove script reel f ↦
+        let slot = slotOf g m reel in
+        checked (s .image) (badScript script)
+        ((le (g .slots) slot gives 5)
+        ∷ (is (busy (s .heads) slot) gives 13)
+        ∷ (noPath (pathFrom g m slot f) gives 4)
+        ∷ (is (not (isSome (find (ruleOf m) g m slot f))) gives 10)
+        ∷ [])
+      | has reel f ↦
+        let slot = slotOf g m reel in
+        checked (s .image) (is false) ((le (g .slots) slot gives 5) ∷ (noPath (pathFrom g m slot f) gives 4) ∷ [])
+      | list scratch room reel ↦
+        let slot = slotOf g m reel in
+        checked (s .image) (badMap g scratch)
+        ((le (g .slots) slot gives 5) ∷ (is (not (isSoundTree g m slot)) gives 4) ∷ (lt room (length (listing g m slot)) gives 14) ∷ [])
+      | retire map scratch script reel ↦
+        let slot = slotOf g m reel in
+        checked (s .image) (badMap g map or badMap g scratch or badScript script)
+        ((le (g .slots) slot gives 5) ∷ (is (busy (s .heads) slot) gives 13) ∷ (is (not (isSoundTree g m slot)) gives 4) ∷ [])
+    ]

@@ -1,0 +1,129 @@
+-- The customer's demands, and with them where frames sit and what a script may hold: statements alone.
+use mathlib.Core.Path.{_≡_}
+use mathlib.Core.Bool.{cond}
+use mathlib.Core.Logic.{_⊎_, _↔_, _≢_}
+use mathlib.Core.List.{List, [], _∷_, List·Memᴰ}
+use Prim.Native.Nat.{ℕ, _≤_}
+use lib.ListN.{length}
+use lib.Dec.{eqb}
+use Rattle.tree.specs.Memory.{reads, encode, segmented, apply, passed, Inside, Fit, FitStores}
+use Rattle.tree.specs.Layout.{mapWords, reelAt, geometryOf}
+use Rattle.tree.specs.Reach.{Holds}
+use Rattle.book.specs.declared.Target.{Target}
+use Rattle.book.specs.declared.HeadState.the-variants.{Claimed}
+use Rattle.book.specs.Heads.{headAt}
+use Rattle.book.specs.State.{State, Operation, format, recover, openReel, claim, fill, commit, abandon, remove, has, list, retire, arguments}
+use Rattle.book.specs.Perform.{perform}
+use Rattle.book.specs.CarryOut.{carry, carried}
+use Rattle.book.specs.Table.{Table, noRun, reply, allIdle}
+use Rattle.book.specs.Agrees.{EachOnce, Agrees}
+use Rattle.book.specs.Ways.{Takes, SlotHas, Lacks}
+use Rattle.book.specs.Histories.{done, replied, Interrupted, Attempts, Recovered, Next, Follows}
+
+-- ---- 1: over any state, an operation is answered or refused; a refusal hands out nothing and leaves everything
+
+-- the numbers that the paper gives an operation
+abbrev pub numbers : Operation → List ℕ
+numbers (format words slots nodes) = 1 ∷ 3 ∷ []
+numbers (recover words) = 1 ∷ 2 ∷ 3 ∷ 4 ∷ []
+numbers (openReel words script reel) = 1 ∷ 2 ∷ 3 ∷ 6 ∷ 7 ∷ 8 ∷ []
+numbers (claim words script h reel f) = 1 ∷ 2 ∷ 3 ∷ 11 ∷ 12 ∷ 5 ∷ 13 ∷ 4 ∷ 9 ∷ 8 ∷ []
+numbers (fill script h) = 1 ∷ 2 ∷ 3 ∷ 11 ∷ 12 ∷ 4 ∷ []
+numbers (commit script h) = 1 ∷ 2 ∷ 3 ∷ 11 ∷ 12 ∷ 4 ∷ []
+numbers (abandon script h) = 1 ∷ 2 ∷ 3 ∷ 11 ∷ 12 ∷ 4 ∷ []
+numbers (remove script reel f) = 1 ∷ 2 ∷ 3 ∷ 5 ∷ 13 ∷ 4 ∷ 10 ∷ []
+numbers (has reel f) = 1 ∷ 2 ∷ 5 ∷ 4 ∷ []
+numbers (list scratch room reel) = 1 ∷ 2 ∷ 3 ∷ 5 ∷ 4 ∷ 14 ∷ []
+numbers (retire words scratch script reel) = 1 ∷ 2 ∷ 3 ∷ 5 ∷ 13 ∷ 4 ∷ []
+
+-- what a refusal leaves: everything, but for the map that a recovery refused 4 clears
+pub data Leaves (s : State) : Operation → ℕ → State → Type 0 where
+  as-before : {op : Operation} {n : ℕ} {s' : State} → s' ≡ s → Leaves s op n s'
+  map-cleared : {words : ℕ} {s' : State} → s' .image ≡ s .image → s' .heads ≡ s .heads → length (s' .pool) ≡ words
+      → ((i : ℕ) → reads (s' .pool) i ≡ 0) → Leaves s (recover words) 4 s'
+
+pub record Refused (op : Operation) (s : State) : Type 0 where
+  pub number : List·Memᴰ (perform op s .answer) (numbers op)
+  pub no-store : perform op s .work .script ≡ []
+  pub no-value : perform op s .work .value ≡ 0
+  pub no-listing : perform op s .work .listing ≡ []
+  pub left : Leaves s op (perform op s .answer) (perform op s .work .after)
+
+abbrev pub Demand1 : Type 0
+Demand1 = (op : Operation) (s : State) → perform op s .answer ≢ 0 → Refused op s
+
+-- ---- 2: in every history, book and table answer alike
+
+pub data IsFormat : Operation → Type 0 where
+  is-format : {words slots nodes : ℕ} → IsFormat (format words slots nodes)
+
+pub record Alike (op : Operation) (s : State) (t : Table) : Type 0 where
+  pub answer : perform op s .answer ≡ replied op s t .answer
+  pub value : perform op s .work .value ≡ replied op s t .work .value
+  pub listing : EachOnce (perform op s .work .listing) (replied op s t .work .frames)
+  pub not-edition : perform op s .answer ≢ 2
+  pub not-malformed : perform op s .answer ≢ 4
+  pub format-alone : perform op s .answer ≡ 1 → IsFormat op
+  -- an 8 comes exactly where the operation comes to it and lacks the nodes that it needs
+  pub no-run : reply op noRun t .answer ≡ 8 → (perform op s .answer ≡ 8) ↔ Lacks s op
+
+abbrev pub Demand2 : Type 0
+Demand2 = (s : State) (t : Table) → Follows s t → (op : Operation) → Fit (arguments op) → Alike op s t
+
+-- ---- 3: every history agrees with its table, through every crash
+
+-- whatever a crash after k entries, and any recoveries refused or interrupted after it, leave
+pub record Survives (op : Operation) (s : State) (t : Table) (k : ℕ) (m : List ℕ) : Type 0 where
+  -- a recovery answers 0, or 3 for a map of another length
+  pub accepted : (words : ℕ) (r : State) → r .image ≡ m
+      → perform (recover words) r .answer ≡ cond (eqb words (mapWords (geometryOf (reads m)))) 0 3
+  -- one that ends leaves the table before or the one after, whole, and the one after once no barrier is left to pass
+  pub whole : (s' : State) → Recovered m s'
+      → ((passed (segmented (perform op s .work .script)) k → ⊥) × Agrees s' (allIdle t))
+      ⊎ Agrees s' (allIdle (replied op s t .work .after))
+
+pub record Kept (s : State) (t : Table) : Type 0 where
+  pub agrees : Agrees s t
+  pub survives : (op : Operation) → Fit (arguments op) → (k : ℕ) (m m' : List ℕ) → Interrupted op s k m → Attempts m m' → Survives op s t k m'
+
+abbrev pub Demand3 : Type 0
+Demand3 = (s : State) (t : Table) → Follows s t → Kept s t
+
+-- ---- where frames sit
+
+-- an answered claim's head names the place that its frame takes
+pub record ClaimPlaced (op : Operation) (s : State) (h reel f : ℕ) : Type 0 where
+  pub target : Target
+  pub claimed : headAt (done op s .heads) h ≡ Claimed target
+  pub of-frame : target .frame ≡ f
+  pub of-reel : SlotHas (geometryOf (reads (s .image))) (reads (s .image)) reel (target .slot)
+  pub takes : Takes (geometryOf (reads (s .image))) (reads (s .image)) (reads (done op s .image)) (target .slot) f (target .node) (target .place)
+
+-- a frame that a reel held, and holds still, is where it was
+pub record StaysPut (s s' : State) : Type 0 where
+  pub same-place : {slot slot' n n' p p' f : ℕ} {w w' : List ℕ}
+      → Holds (geometryOf (reads (s .image))) (reads (s .image)) slot w n p f
+      → Holds (geometryOf (reads (s' .image))) (reads (s' .image)) slot' w' n' p' f
+      → reads (s .image) (reelAt slot) ≡ reads (s' .image) (reelAt slot')
+      → (slot ≡ slot') × (w ≡ w') × (n ≡ n') × (p ≡ p')
+
+pub record Places (s : State) : Type 0 where
+  pub claim : (words script h reel f : ℕ) → Fit (h ∷ reel ∷ f ∷ []) → perform (claim words script h reel f) s .answer ≡ 0
+      → ClaimPlaced (claim words script h reel f) s h reel f
+  pub stays : (s' : State) → Next s s' → StaysPut s s'
+
+abbrev pub Placed : Type 0
+Placed = (s : State) (t : Table) → Follows s t → Places s
+
+-- ---- scripts, over any state of words below 2^64
+
+pub record GoodScript (op : Operation) (s : State) : Type 0 where
+  pub short : length (segmented (perform op s .work .script)) ≤ 25
+  pub inside : Inside (length (s .image)) (segmented (perform op s .work .script))
+  pub fits : FitStores (segmented (perform op s .work .script))
+  -- carried out as words, it answers 0 and leaves the image that a history goes on with
+  pub carried-out : perform op s .answer ≡ 0
+      → carry (perform op s .work .after .image) (encode (segmented (perform op s .work .script))) ≡ carried 0 (done op s .image)
+
+abbrev pub Scripts : Type 0
+Scripts = (op : Operation) (s : State) → Fit (s .image) → Fit (s .heads) → Fit (arguments op) → GoodScript op s

@@ -1,0 +1,72 @@
+-- Histories of a book (the paper's runs): operations, and power lost at any moment (the paper's cuts).
+use mathlib.Core.Path.{_≡_}
+use mathlib.Core.Logic.{_⊎_, _≢_}
+use mathlib.Core.List.{List}
+use Prim.Native.Nat.{ℕ, _<_}
+use lib.ListN.{length}
+use Rattle.tree.specs.Memory.{reads, segmented, apply, CrashImage, passed, Fit}
+use Rattle.book.specs.State.{State, Operation, format, recover, arguments}
+use Rattle.book.specs.Perform.{perform}
+use Rattle.book.specs.Table.{Table, Reply, fed, reply, emptyTable, allIdle}
+use Rattle.book.specs.Agrees.{Agrees}
+
+-- an operation done, and its script carried out
+abbrev pub done : Operation → State → State
+done op s =
+    let w = perform op s .work in
+    record { image = apply (w .after .image) (segmented (w .script)); pool = w .after .pool; heads = w .after .heads }
+
+-- the table's reply, fed whether the book's answer is 8
+abbrev pub replied : Operation → State → Table → Reply
+replied op s t = reply op (fed (perform op s .answer)) t
+
+-- operations that run on steady power: an answered format
+pub data Steady : Operation → ℕ → Type 0 where
+  answered-format : {words slots nodes : ℕ} → Steady (format words slots nodes) 0
+
+-- the images that power lost within an operation can leave: of its script, after k entries; of one that writes the image
+-- itself, each word old or new. Power lost between two operations is k = 0 of the next.
+pub record Interrupted (op : Operation) (s : State) (k : ℕ) (m' : List ℕ) : Type 0 where
+  pub unsteady : Steady op (perform op s .answer) → ⊥
+  pub itself : List ℕ
+  pub same-length : length itself ≡ length (s .image)
+  pub old-or-new : (i : ℕ) → (reads itself i ≡ reads (s .image) i) ⊎ (reads itself i ≡ reads (perform op s .work .after .image) i)
+  pub script : CrashImage itself (segmented (perform op s .work .script)) k m'
+
+-- recoveries after a crash that were refused, or interrupted themselves, each with any map and any heads: from image to image
+pub data Attempts : List ℕ → List ℕ → Type 0 where
+  none-yet : {m : List ℕ} → Attempts m m
+  refused : {m m' : List ℕ} (words : ℕ) (s : State) → s .image ≡ m → perform (recover words) s .answer ≢ 0
+      → Attempts (done (recover words) s .image) m' → Attempts m m'
+  interrupted : {m m' m'' : List ℕ} (words : ℕ) (s : State) (k : ℕ) → s .image ≡ m → Interrupted (recover words) s k m'
+      → Attempts m' m'' → Attempts m m''
+
+-- then one that is answered and ends
+pub record Recovered (m : List ℕ) (s' : State) : Type 0 where
+  pub left : List ℕ
+  pub attempts : Attempts m left
+  pub words : ℕ
+  pub from : State
+  pub image : from .image ≡ left
+  pub answered : perform (recover words) from .answer ≡ 0
+  pub is : s' ≡ done (recover words) from
+
+-- what may come next in a history: an operation, or a crash in one and a recovery that ends
+pub data Next (s : State) : State → Type 0 where
+  performed : (op : Operation) → Fit (arguments op) → Next s (done op s)
+  crashed : {s' : State} {m : List ℕ} (op : Operation) → Fit (arguments op) → (k : ℕ) → Interrupted op s k m → Recovered m s' → Next s s'
+
+-- a history so far, by the state and the table that it has come to. It starts with any memory, map and heads and a format that
+-- is answered. At a crash the table becomes the one before, while a barrier was left to pass, or the one after: whichever the
+-- recovered book shows then. The history goes on with that one, and no later event can change it.
+pub data Follows : State → Table → Type 0 where
+  formatted : (words slots nodes : ℕ) (s : State) → Fit (s .image) → perform (format words slots nodes) s .answer ≡ 0
+      → Follows (done (format words slots nodes) s) (emptyTable slots nodes)
+  performed : {s : State} {t : Table} → Follows s t → (op : Operation) → Fit (arguments op)
+      → Follows (done op s) (replied op s t .work .after)
+  before : {s s' : State} {m : List ℕ} {t : Table} → Follows s t → (op : Operation) → Fit (arguments op) → (k : ℕ)
+      → Interrupted op s k m → Recovered m s' → (passed (segmented (perform op s .work .script)) k → ⊥) → Agrees s' (allIdle t)
+      → Follows s' (allIdle t)
+  after : {s s' : State} {m : List ℕ} {t : Table} → Follows s t → (op : Operation) → Fit (arguments op) → (k : ℕ)
+      → Interrupted op s k m → Recovered m s' → Agrees s' (allIdle (replied op s t .work .after))
+      → Follows s' (allIdle (replied op s t .work .after))

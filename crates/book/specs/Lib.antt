@@ -1,0 +1,12 @@
+pub mod Heads
+pub mod Refusals
+pub mod State
+pub mod Room
+pub mod Checks
+pub mod Perform
+pub mod Table
+pub mod Agrees
+pub mod CarryOut
+pub mod Histories
+pub mod Ways
+pub mod Demands

@@ -1,0 +1,202 @@
+-- The eleven operations, over any contents, any numbers and any lengths.
+use mathlib.Core.Bool.{Bool, true, false, cond, not, _||_}
+use mathlib.Core.Option.{Option, none, some}
+use mathlib.Core.List.{List, [], _∷_, _++_, map, flatMap}
+use Prim.Native.Nat.{ℕ, suc, _+_, _-_, _*_, _%_}
+use lib.ListN.{length}
+use lib.Dec.{eqb, ltb}
+use Rattle.tree.specs.Memory.{Memory, reads, withBit, withoutBit, withByte, Store, Entry, stores, segmented, apply, isSome}
+use Rattle.tree.specs.Layout.{Geometry, mapWords, reelAt, rootAt, nextAt, locateAt, setAt, levelAt, sizeAt, fingerprintsAt, frameAt, geometryOf}
+use Rattle.tree.specs.Lists.{range, upTo, keep}
+use Rattle.tree.specs.Path.{fanout, child}
+use Rattle.tree.specs.Fingerprint.{Rule, fingerprint, ruleOf}
+use Rattle.tree.specs.Slots.{slotOf, emptySlot, rootOf}
+use Rattle.tree.specs.Lookup.{Spot, spot, pathFrom, find, freeRun}
+use Rattle.tree.specs.Subtree.{Visit, tree, allTrees, listing}
+use Rattle.tree.specs.Pool.{mark, markAll, unmarkAll, clearMap, mapOf}
+use Rattle.book.specs.declared.Target.{Target}
+use Rattle.book.specs.declared.HeadState.{HeadState}
+use Rattle.book.specs.declared.HeadState.the-variants.{Idle, Claimed, Filled}
+use Rattle.book.specs.Heads.{headAt, targetOf, withHead, idleHeads}
+use Rattle.book.specs.Refusals.{refusal}
+use Rattle.book.specs.Room.{Room, clear, scaleUp, branchOut, roomOn, needs}
+use Rattle.book.specs.State.{State, Operation, format, recover, openReel, claim, fill, commit, abandon, remove, has, list, retire, Work, leaving, Outcome}
+use Rattle.book.specs.Checks.{refusals}
+
+-- ---- what is written
+
+-- Format: words 0 to 63, and all roots 0
+unfoldable pub formatStores : Geometry → List Store
+formatStores g =
+    (0, 1) ∷ (1, g .slots) ∷ (2, g .nodes)
+    ∷ (map (λ i. (i, 0)) (range 3 61) ++ map (λ s. (rootAt s, 0)) (upTo (g .slots)))
+
+-- Recover: every differing locate word of a reached node becomes its set word
+unfoldable pub recoverStores : Geometry → Memory → List Store
+recoverStores g m =
+    map (λ v. (locateAt g (v .node), m (setAt g (v .node))))
+    (keep (λ v. not (eqb (m (locateAt g (v .node))) (m (setAt g (v .node))))) (allTrees g m))
+
+-- a node made anew: next, locate and set 0, its level, its size
+abbrev pub newNode : Geometry → (node level size : ℕ) → List Store
+newNode g n level size = (nextAt g n, 0) ∷ (locateAt g n, 0) ∷ (setAt g n, 0) ∷ (levelAt g n, level) ∷ (sizeAt g n, size) ∷ []
+
+-- Open: the root node and the reel number, then the root
+unfoldable pub openScript : Geometry → (slot node reel : ℕ) → List (List Store)
+openScript g slot n reel = (newNode g n 0 16 ++ ((reelAt slot, reel) ∷ [])) ∷ ((rootAt slot, n + 1) ∷ []) ∷ []
+
+-- the nodes of a new group of children
+abbrev pub group : (start depth : ℕ) → List ℕ
+group start d = range start (fanout d)
+
+-- the place that a claim takes; start is the new group's first node
+abbrev pub placeIn : Room → (start f : ℕ) → Spot
+placeIn (clear t) start f = t
+placeIn (scaleUp n size) start f = spot n size
+placeIn (branchOut parent d) start f = spot (start + child d f) 0
+
+-- the scale-up or branch-out that comes before the locate store
+unfoldable pub roomScript : Geometry → Room → (start : ℕ) → List (List Store)
+roomScript g (clear t) start = []
+roomScript g (scaleUp n size) start = ((sizeAt g n, 2 * size) ∷ []) ∷ []
+roomScript g (branchOut parent d) start =
+    flatMap (λ n. newNode g n (suc d) 64) (group start d) ∷ ((nextAt g parent, start + 1) ∷ []) ∷ []
+
+-- the locate word of the place that a claim takes, as it is then: 0 in a node made anew
+abbrev pub locateThen : Geometry → Memory → Room → ℕ → ℕ
+locateThen g m (clear t) n = m (locateAt g n)
+locateThen g m (scaleUp n' size) n = m (locateAt g n)
+locateThen g m (branchOut parent d) n = 0
+
+-- Claim: room is made, then locate with the bit
+unfoldable pub claimScript : Geometry → Memory → Room → (start f : ℕ) → List (List Store)
+claimScript g m r start f =
+    let t = placeIn r start f in
+    roomScript g r start ++ (((locateAt g (t .node), withBit (locateThen g m r (t .node)) (t .place)) ∷ []) ∷ [])
+
+-- the nodes that a claim takes
+abbrev pub taken : Room → (start : ℕ) → List ℕ
+taken (clear t) start = []
+taken (scaleUp n size) start = []
+taken (branchOut parent d) start = group start d
+
+-- Fill: the frame, then the fingerprint word with its other seven bytes kept
+unfoldable pub fillScript : Rule → Geometry → Memory → Target → List (List Store)
+fillScript r g m t =
+    let i = fingerprintsAt g (t .node) (t .place) in
+    ((frameAt g (t .node) (t .place), t .frame) ∷ []) ∷ ((i, withByte (m i) (t .place % 8) (fingerprint r (t .frame))) ∷ []) ∷ []
+
+-- one bit of a bitmap word on, or off
+abbrev pub bitOn : Memory → (index place : ℕ) → List Store
+bitOn m i p = (i, withBit (m i) p) ∷ []
+
+abbrev pub bitOff : Memory → (index place : ℕ) → List Store
+bitOff m i p = (i, withoutBit (m i) p) ∷ []
+
+-- Remove: set without the bit, then locate without it
+unfoldable pub removeScript : Geometry → Memory → Spot → List (List Store)
+removeScript g m t = bitOff m (setAt g (t .node)) (t .place) ∷ bitOff m (locateAt g (t .node)) (t .place) ∷ []
+
+-- where the lookup found a frame
+abbrev pub orNone : Option Spot → Spot
+orNone none = spot 0 0
+orNone (some t) = t
+
+abbrev pub oneIf : Bool → ℕ
+oneIf b = cond b 1 0
+
+-- the nodes of a walk
+unfoldable pub nodesOf : List Visit → List ℕ
+nodesOf vs = map (λ v. v .node) vs
+
+-- ---- what an answered operation does
+
+-- a script, and the state as it is left
+abbrev pub writing : List (List Store) → State → Work
+writing script s = record { script = script; value = 0; listing = []; after = s }
+
+-- the state with a head's record written
+abbrev pub putHead : State → ℕ → HeadState → State
+putHead s h x = record { image = s .image; pool = s .pool; heads = withHead (s .heads) h x }
+
+unfoldable pub granted : Operation → State → Work
+granted op s =
+    let m = reads (s .image) in
+    let g = geometryOf m in
+    let target : ℕ → Target = λ h. targetOf (headAt (s .heads) h) in
+    elim op [
+      | format words slots nodes ↦
+        let g' : Geometry = record { slots = slots; nodes = nodes } in
+        leaving (record { image = apply (s .image) (stores (formatStores g')); pool = clearMap (mapWords g'); heads = idleHeads })
+      | recover words ↦
+        leaving (record {
+          image = apply (s .image) (stores (recoverStores g m));
+          pool = mapOf g (nodesOf (allTrees g m));
+          heads = idleHeads;
+        })
+      | openReel words script reel ↦
+        let n = freeRun g (reads (s .pool)) 1 in
+        writing (openScript g (emptySlot g m) n reel) (record { image = s .image; pool = mark (s .pool) n; heads = s .heads })
+      | claim words script h reel f ↦
+        let slot = slotOf g m reel in
+        let r = roomOn g m (pathFrom g m slot f) in
+        let start = freeRun g (reads (s .pool)) (needs r) in
+        let t = placeIn r start f in
+        writing (claimScript g m r start f) (record {
+          image = s .image;
+          pool = markAll (s .pool) (taken r start);
+          heads = withHead (s .heads) h (Claimed (record { slot = slot; node = t .node; place = t .place; frame = f }));
+        })
+      | fill script h ↦
+        writing (fillScript (ruleOf m) g m (target h)) (putHead s h (Filled (target h)))
+      | commit script h ↦ writing (bitOn m (setAt g (target h .node)) (target h .place) ∷ []) (putHead s h Idle)
+      | abandon script h ↦ writing (bitOff m (locateAt g (target h .node)) (target h .place) ∷ []) (putHead s h Idle)
+      | remove script reel f ↦ writing (removeScript g m (orNone (find (ruleOf m) g m (slotOf g m reel) f))) s
+      | has reel f ↦ record { script = []; value = oneIf (isSome (find (ruleOf m) g m (slotOf g m reel) f)); listing = []; after = s }
+      | list scratch room reel ↦
+        let fs = listing g m (slotOf g m reel) in
+        record { script = []; value = length fs; listing = fs; after = s }
+      | retire words scratch script reel ↦
+        let slot = slotOf g m reel in
+        writing (((rootAt slot, 0) ∷ []) ∷ [])
+        (record { image = s .image; pool = unmarkAll (s .pool) (nodesOf (tree g m slot)); heads = s .heads })
+    ]
+
+-- ---- any operation
+
+-- what a refusal leaves: everything, but for the map that a recovery refused 4 clears
+unfoldable pub leaves : Operation → State → ℕ → State
+leaves (recover words) s n = cond (eqb n 4) (record { image = s .image; pool = clearMap words; heads = s .heads }) s
+leaves (format words slots nodes) s n = s
+leaves (openReel words script reel) s n = s
+leaves (claim words script h reel f) s n = s
+leaves (fill script h) s n = s
+leaves (commit script h) s n = s
+leaves (abandon script h) s n = s
+leaves (remove script reel f) s n = s
+leaves (has reel f) s n = s
+leaves (list scratch room reel) s n = s
+leaves (retire words scratch script reel) s n = s
+
+-- an end that is none of 1, 2 and 3
+abbrev pub pastChecks : ℕ → Bool
+pastChecks n = eqb n 0 || ltb 3 n
+
+-- List's and Retire's scratch map is all 0 after any end but 1, 2 or 3
+unfoldable pub clears : Operation → ℕ → Bool
+clears (list scratch room reel) n = pastChecks n
+clears (retire words scratch script reel) n = pastChecks n
+clears (format words slots nodes) n = false
+clears (recover words) n = false
+clears (openReel words script reel) n = false
+clears (claim words script h reel f) n = false
+clears (fill script h) n = false
+clears (commit script h) n = false
+clears (abandon script h) n = false
+clears (remove script reel f) n = false
+clears (has reel f) n = false
+
+unfoldable pub perform : Operation → State → Outcome
+perform op s =
+    let n = refusal (refusals op s) in
+    record { answer = n; work = cond (eqb n 0) (granted op s) (leaving (leaves op s n)); cleared = clears op n }

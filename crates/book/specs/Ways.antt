@@ -1,0 +1,64 @@
+-- What the demands say of paths and nodes, by ways alone and not by the book's own searches.
+use mathlib.Core.Path.{_≡_}
+use mathlib.Core.Bool.{true, false}
+use mathlib.Core.List.{List, []}
+use Prim.Native.Nat.{ℕ, suc, _+_, _*_, _≤_, _<_}
+use Rattle.tree.specs.Memory.{Memory, reads, isSet}
+use Rattle.tree.specs.Layout.{Geometry, nextAt, locateAt, sizeAt, geometryOf, reelAt}
+use Rattle.tree.specs.Path.{fanout, child, wayOf}
+use Rattle.tree.specs.Slots.{Filled}
+use Rattle.tree.specs.Reach.{Reaches}
+use Rattle.book.specs.State.{State, Operation, openReel, claim}
+use Rattle.book.specs.Agrees.{Reached}
+
+module _ (g : Geometry) (m : Memory) where
+  -- k adjacent nodes from a on, inside the pool, that no reel reaches
+  pub record UnreachedRun (k a : ℕ) : Type 0 where
+    pub inside : a + k ≤ g .nodes
+    pub free : (i : ℕ) → i < k → Reached g m (a + i) → ⊥
+
+  -- the lowest such run
+  pub record LowestRun (k a : ℕ) : Type 0 where
+    pub run : UnreachedRun k a
+    pub lowest : (b : ℕ) → UnreachedRun k b → a ≤ b
+
+  -- every place of a node is located
+  abbrev pub Full : ℕ → Type 0
+  Full n = (p : ℕ) → p < m (sizeAt g n) → isSet (m (locateAt g n)) p ≡ true
+
+  -- the nodes of a frame's path above level d are full
+  abbrev pub FullAbove : (slot f d : ℕ) → Type 0
+  FullAbove slot f d = (j n : ℕ) → j < d → Reaches g m slot (wayOf j f) n → Full n
+
+  -- the path is full to its end, a node of size 64 at level d
+  pub record FullPath (slot f d : ℕ) : Type 0 where
+    pub last : ℕ
+    pub there : Reaches g m slot (wayOf d f) last
+    pub ends : m (nextAt g last) ≡ 0
+    pub wide : m (sizeAt g last) ≡ 64
+    pub full : FullAbove slot f (suc d)
+
+-- the place that a frame gets on its path, from a memory m to m' once the claim's script is carried out
+pub data Takes (g : Geometry) (m m' : Memory) (slot f : ℕ) : (node place : ℕ) → Type 0 where
+  -- the first node from the root with a clear place, and the lowest such place
+  first-clear : {d n p : ℕ} → Reaches g m slot (wayOf d f) n → FullAbove g m slot f d → p < m (sizeAt g n)
+      → isSet (m (locateAt g n)) p ≡ false → ((q : ℕ) → q < p → isSet (m (locateAt g n)) q ≡ true) → Takes g m m' slot f n p
+  -- none, and the root alone below size 64: it is scaled up, and the old size is the place
+  scaled-up : {n : ℕ} → Reaches g m slot [] n → m (nextAt g n) ≡ 0 → m (sizeAt g n) < 64 → Full g m n
+      → m' (sizeAt g n) ≡ 2 * m (sizeAt g n) → Takes g m m' slot f n (m (sizeAt g n))
+  -- none, and the last node has size 64: place 0 of the frame's child in a new group, the lowest run of free nodes
+  branched-out : {d start : ℕ} → FullPath g m slot f d → LowestRun g m (fanout d) start
+      → Reaches g m' slot (wayOf (suc d) f) (start + child d f) → Takes g m m' slot f (start + child d f) 0
+
+-- a filled slot with a reel's number
+pub record SlotHas (g : Geometry) (m : Memory) (reel s : ℕ) : Type 0 where
+  pub open-slot : Filled g m s
+  pub number : m (reelAt s) ≡ reel
+
+-- the operation needs nodes that the book lacks
+pub data Lacks (s : State) : Operation → Type 0 where
+  no-node : {words script reel : ℕ} → ((a : ℕ) → UnreachedRun (geometryOf (reads (s .image))) (reads (s .image)) 1 a → ⊥)
+      → Lacks s (openReel words script reel)
+  no-run : {words script h reel f slot d : ℕ} → SlotHas (geometryOf (reads (s .image))) (reads (s .image)) reel slot
+      → FullPath (geometryOf (reads (s .image))) (reads (s .image)) slot f d
+      → ((a : ℕ) → UnreachedRun (geometryOf (reads (s .image))) (reads (s .image)) (fanout d) a → ⊥) → Lacks s (claim words script h reel f)

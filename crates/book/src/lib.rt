@@ -1,0 +1,21 @@
+// The types that the operations' definitions and their code share: a head's record and its state.
+
+// What a head is about: a place of a node in a slot's tree, for a frame.
+pub struct Target {
+    pub slot: u64,
+    pub node: u64,
+    pub place: u64,
+    pub frame: u64,
+}
+
+// A head's state: idle, or a place claimed, or claimed and filled with its frame.
+pub enum HeadState {
+    Idle,
+    Claimed(Target),
+    Filled(Target),
+}
+
+// A head's record.
+pub struct Head {
+    pub state: HeadState,
+}

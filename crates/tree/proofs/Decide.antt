@@ -1,0 +1,91 @@
+-- The computed test of an image decides soundness.
+use mathlib.Core.Path.{_≡_, refl, sym, _∙_, ap, ap₂, subst}
+use mathlib.Core.Bool.{Bool, true, false, not, _&&_}
+use mathlib.Core.Logic.{_⊎_, inl, inr, _↔_}
+use mathlib.Core.Option.{Option, none, some}
+use mathlib.Core.List.{List, [], _∷_, List·Memᴰ}
+use Prim.Native.Nat.{ℕ}
+use lib.ListN.{length}
+use Rattle.memory.specs.Words.{Memory}
+use Rattle.tree.specs.Test.{Test, eq, _and_, holds}
+use Rattle.tree.specs.Lists.{every, distinct, Distinct}
+use Rattle.tree.specs.Layout.{Geometry, reelAt}
+use Rattle.tree.specs.Path.{wayOf}
+use Rattle.tree.specs.Fingerprint.{Rule, fingerprint}
+use Rattle.tree.specs.Node.{frame, storedFingerprint}
+use Rattle.tree.specs.Slots.{Filled, filledSlots}
+use Rattle.tree.specs.Reach.{Reaches, Holds}
+use Rattle.tree.specs.Sound.{Sound}
+use Rattle.tree.specs.Lookup.{Spot, spot, find}
+use Rattle.tree.specs.Subtree.{Visit, visit, tree, allTrees, heldPlaces}
+use Rattle.tree.specs.Check.{isAt, walkable, inPlace, isSound}
+use Rattle.tree.specs.Laws.{LookupRule, SoundLaws}
+use Rattle.tree.proofs.Cases.{and-true, true-and, true-not-false, some-inj}
+use Rattle.tree.proofs.Tests.{says, said}
+use Rattle.tree.proofs.Lists.{every-at, at-every}
+use Rattle.tree.proofs.Distinct.{distinct-says, distinct-said, same-element, distinct-by}
+use Rattle.tree.proofs.Ways.{length-way}
+use Rattle.tree.proofs.Slots.{filled-slots, distinct-slots, own-slot}
+use Rattle.tree.proofs.Reach.{slot-filled}
+use Rattle.tree.proofs.Subtree.{visited, held-places}
+use Rattle.tree.proofs.Lookup.{find-holds, lookup-rule}
+use Rattle.tree.proofs.Trees.{SoundTrees, decides-tree, decides-trees}
+
+is-at : (n p : ℕ) (o : Option Spot) → isAt n p o ≡ true → o ≡ some (spot n p)
+is-at n p none h = absurd (true-not-false h refl)
+is-at n p (some t) h = let a = says (eq (t .node) n and eq (t .place) p) h in ap₂ (λ a b. some (spot a b)) (a .0) (a .1)
+
+at-is : (n p : ℕ) (o : Option Spot) → o ≡ some (spot n p) → isAt n p o ≡ true
+at-is n p o q = rw q (said (eq n n and eq p p) (refl, refl))
+
+module _ (r : Rule) (g : Geometry) (m : Memory) where
+  -- each held frame is where the lookup finds it
+  record Placed : Type 0 where
+    at : {s : ℕ} {w : List ℕ} {n p f : ℕ} → Holds g m s w n p f → find r g m s f ≡ some (spot n p)
+
+  placed : every (λ s. every (inPlace r g m s) (tree g m s)) (filledSlots g m) ≡ true → Placed
+  unfolding inPlace
+  placed h = record { at = λ {s} {w} {n} {p} {f} x.
+    let b = slot-filled (x .there) in
+    let e = every-at _ (every-at _ (every-at _ h (filled-slots g m .1 b)) (visited g m b w n .1 (x .there))) (held-places g m n p .1 (x .place, x .set)) in
+    is-at n p (find r g m s f) (rw (x .is) at e) }
+
+  was-placed : Placed → every (λ s. every (inPlace r g m s) (tree g m s)) (filledSlots g m) ≡ true
+  unfolding inPlace
+  was-placed a = at-every _ (filledSlots g m) (λ s x. at-every _ (tree g m s) (λ v y. at-every _ (heldPlaces g m (v .node)) (λ p z.
+    let k = held-places g m (v .node) p .0 z in
+    at-is (v .node) p (find r g m s (frame g m (v .node) p))
+    (a .at (record { there = visited g m (filled-slots g m .0 x) (v .way) (v .node) .0 y; place = k .0; set = k .1; is = refl })))))
+
+  sound : isSound r g m ≡ true → Sound r g m
+  unfolding isSound
+  sound h =
+      let k = and-true (walkable g m (allTrees g m) && distinct (λ s. m (reelAt s)) (filledSlots g m)) _ h in
+      let t = and-true (walkable g m (allTrees g m)) _ (k .0) in
+      made (decides-trees g m .0 (t .0)) (distinct-says (λ s. m (reelAt s)) (filledSlots g m) (t .1)) (placed (k .1))
+    where
+      made : SoundTrees g m → Distinct (λ s. m (reelAt s)) (filledSlots g m) → Placed → Sound r g m
+      made a d l = record {
+        well-formed = λ x. a .well-formed x;
+        once = λ x y. a .once x y;
+        reels = λ b b' q. same-element d (filled-slots g m .1 b) (filled-slots g m .1 b') q;
+        on-path = λ {s} {w} {n} {p} {f} x.
+          let t = find-holds r g m (slot-filled (x .there)) f n p (l .at x) in
+          let e : w ≡ wayOf (t .0) f = a .once (x .there) (t .1 .there) .1 in
+          e ∙ ap (λ d. wayOf d f) (sym (ap length e ∙ length-way (t .0) f));
+        frame-once = λ x x'.
+          let q = some-inj (sym (l .at x) ∙ l .at x') in
+          (a .once (x .there) (rw (sym (ap (λ t. t .node) q)) at (x' .there)) .1, ap (λ t. t .place) q);
+        fingerprints = λ {s} {w} {n} {p} {f} x. find-holds r g m (slot-filled (x .there)) f n p (l .at x) .2;
+      }
+
+  was-sound : Sound r g m → isSound r g m ≡ true
+  unfolding isSound
+  was-sound d =
+      true-and
+      (true-and (decides-trees g m .1 (record { well-formed = λ x. d .well-formed x; once = λ x y. d .once x y }))
+      (distinct-said (λ s. m (reelAt s)) (distinct-by (λ s. m (reelAt s)) (distinct-slots g m) (λ s s' x y q. d .reels (filled-slots g m .0 x) (filled-slots g m .0 y) q))))
+      (was-placed (record { at = λ {s} {w} {n} {p} {f} x. lookup-rule r g m d (slot-filled (x .there)) .at f n p .1 (w, x) }))
+
+  pub sound-laws : SoundLaws r g m
+  sound-laws = record { tree = λ b. decides-tree g m b; image = (sound, was-sound); own-slot = λ d b. own-slot d b }

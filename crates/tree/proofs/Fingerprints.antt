@@ -1,0 +1,49 @@
+-- Fingerprints over a table in which each byte occurs once.
+use mathlib.Core.Path.{_≡_, refl, sym, _∙_, ap}
+use mathlib.Core.Bool.{true}
+use Prim.Native.Nat.{ℕ, zero, suc, _+_, _*_, _%_, _^_, _<_}
+use native.Mathlib.Omega.{arith}
+use lib.Bits.{bitXor, xor-lt}
+use Rattle.memory.specs.Words.{byte, field}
+use Rattle.tree.specs.Fingerprint.{folded, tableEntry, OnceEach}
+use Rattle.tree.specs.Test.{eq, _and_, holds}
+use Rattle.tree.specs.Lists.{range, upTo, every}
+use Rattle.tree.specs.Laws.{FingerprintLaws}
+use Rattle.tree.proofs.Tests.{says}
+use Rattle.tree.proofs.Lists.{upTo-members, every-at}
+
+byte-lt : (w j : ℕ) → byte w j < 2 ^ 8
+unfolding byte field
+byte-lt w j = omega arith
+
+pub folded-lt : {table : ℕ → ℕ} → OnceEach table → (k f : ℕ) → folded table k f < 256
+unfolding folded
+folded-lt t zero f = omega arith
+folded-lt {table} t (suc k) f = t .entries (bitXor (folded table k f) (byte f k)) (xor-lt 8 (folded table k f) (byte f k) (folded-lt t k f) (byte-lt f k))
+
+entry-lt : (i : ℕ) → tableEntry i < 256
+unfolding tableEntry
+entry-lt i = omega arith
+
+-- where the table has a byte: 23 is the inverse of 167
+placeOf : ℕ → ℕ
+placeOf b = 23 * (b + 243) % 256
+
+-- both ways round, computed for all 256 bytes
+inverses : every (λ i. holds (eq (placeOf (tableEntry i)) i and eq (tableEntry (placeOf i)) i)) (upTo 256) ≡ true
+unfolding every upTo range placeOf tableEntry
+inverses = refl
+
+pub table-once : OnceEach tableEntry
+unfolding placeOf
+table-once = record {
+  entries = λ i h. entry-lt i;
+  occurs = λ b h. (placeOf b, omega arith, both b h .1);
+  once = λ i j h k e. sym (both i h .0) ∙ ap placeOf e ∙ both j k .0;
+}
+  where
+    both : (i : ℕ) → i < 256 → (placeOf (tableEntry i) ≡ i) × (tableEntry (placeOf i) ≡ i)
+    both i h = says (eq (placeOf (tableEntry i)) i and eq (tableEntry (placeOf i)) i) (every-at _ inverses (upTo-members 256 .1 h))
+
+pub fingerprint-laws : FingerprintLaws
+fingerprint-laws = record { table-once = table-once; fits = λ t k f. folded-lt t k f }

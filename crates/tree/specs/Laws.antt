@@ -1,0 +1,160 @@
+-- What is proved of this layer's definitions: statements alone, each with its proof in proofs/.
+use mathlib.Core.Path.{_≡_}
+use mathlib.Core.Bool.{Bool, true, false, not}
+use mathlib.Core.Logic.{_↔_}
+use mathlib.Core.Option.{Option, none, some}
+use mathlib.Core.List.{List, _∷_, _++_, List·Memᴰ}
+use Prim.Native.Nat.{ℕ, _+_, _/_, _%_, _^_, _≤_, _<_}
+use lib.ListN.{length, getElem?}
+use Rattle.memory.specs.Words.{Memory, marked}
+use Rattle.memory.specs.Search.{first}
+use Rattle.memory.specs.Apply.{isSome}
+use Rattle.tree.specs.Lists.{Distinct}
+use Rattle.tree.specs.Layout.{Geometry, reelAt, rootAt}
+use Rattle.tree.specs.Path.{fanout, child, wayOf, bitsTo}
+use Rattle.tree.specs.Fingerprint.{Rule, folded, tableEntry, OnceEach}
+use Rattle.tree.specs.Node.{wellFormed, held, frame}
+use Rattle.tree.specs.Slots.{Filled, filledSlots, slotOf, emptySlot}
+use Rattle.tree.specs.Reach.{Reaches, Holds, FrameOf}
+use Rattle.tree.specs.Sound.{Sound, SoundTree}
+use Rattle.tree.specs.Lookup.{Spot, spot, firstSpot, pathFrom, matches, lookup, find, isFreeRun, freeRun}
+use Rattle.tree.specs.Subtree.{Visit, visit, tree, framesIn, listing}
+use Rattle.tree.specs.Check.{isSoundTree, isSound}
+
+-- ---- children and ways
+
+pub record ChildLaws : Type 0 where
+  pub below : (k f : ℕ) → k < 31 → child k f < fanout k
+  -- a child number by a quotient and a remainder
+  pub remainder : (k f : ℕ) → k < 31 → child k f ≡ f / 2 ^ bitsTo k % fanout k
+  -- frames go one way to level k exactly if they agree in the bits that it reads
+  pub same-way : (k f f' : ℕ) → (wayOf k f ≡ wayOf k f') ↔ (f % 2 ^ bitsTo k ≡ f' % 2 ^ bitsTo k)
+  pub length-way : (k f : ℕ) → length (wayOf k f) ≡ k
+
+pub record ReachLaws (g : Geometry) (m : Memory) : Type 0 where
+  pub one-node : {s : ℕ} {w : List ℕ} {n n' : ℕ} → Reaches g m s w n → Reaches g m s w n' → n ≡ n'
+  pub depth : {s : ℕ} {w : List ℕ} {n : ℕ} → Reaches g m s w n → length w ≤ 31
+  pub slot-filled : {s : ℕ} {w : List ℕ} {n : ℕ} → Reaches g m s w n → Filled g m s
+
+-- ---- slots
+
+pub record SlotLaws (g : Geometry) (m : Memory) : Type 0 where
+  pub listed : {s : ℕ} → List·Memᴰ s (filledSlots g m) ↔ Filled g m s
+  pub listed-once : Distinct (λ s. s) (filledSlots g m)
+  -- a reel's slot is filled, has its number, and is the lowest such
+  pub reel : (reel : ℕ) → slotOf g m reel < g .slots → Filled g m (slotOf g m reel) × (m (reelAt (slotOf g m reel)) ≡ reel)
+  pub lowest : {s : ℕ} → Filled g m s → slotOf g m (m (reelAt s)) ≤ s
+  pub empty : emptySlot g m < g .slots → m (rootAt (emptySlot g m)) ≡ 0
+  pub lowest-empty : (s : ℕ) → s < g .slots → m (rootAt s) ≡ 0 → emptySlot g m ≤ s
+
+-- ---- fingerprints
+
+pub record FingerprintLaws : Type 0 where
+  -- in the paper's table every byte occurs once
+  pub table-once : OnceEach tableEntry
+  -- with such a table a fingerprint is a byte, whatever number of bytes is folded
+  pub fits : {table : ℕ → ℕ} → OnceEach table → (k f : ℕ) → folded table k f < 256
+
+-- ---- the path of a frame
+
+-- a malformed node that one of the frame's ways reaches
+pub record Malformed (g : Geometry) (m : Memory) (s f : ℕ) : Type 0 where
+  pub level : ℕ
+  pub node : ℕ
+  pub there : Reaches g m s (wayOf level f) node
+  pub is : wellFormed g m level node ≡ false
+
+pub record PathLaws (g : Geometry) (m : Memory) (s f : ℕ) : Type 0 where
+  -- the nodes of the path are those that the frame's ways reach, level by level, and they are well formed
+  pub nodes : (ns : List ℕ) → pathFrom g m s f ≡ some ns → (d n : ℕ) → (getElem? ns d ≡ some n) ↔ Reaches g m s (wayOf d f) n
+  pub formed : (ns : List ℕ) → pathFrom g m s f ≡ some ns → (d n : ℕ) → getElem? ns d ≡ some n → wellFormed g m d n ≡ true
+  -- there is none exactly if one of them is malformed
+  pub malformed : (pathFrom g m s f ≡ none) ↔ Malformed g m s f
+
+-- ---- the lookup
+
+-- the first node of a list at which a search ends below its bound
+pub record FirstAt (search bound : ℕ → ℕ) (ns : List ℕ) (n p : ℕ) : Type 0 where
+  pub above : List ℕ
+  pub below : List ℕ
+  pub split : ns ≡ above ++ n ∷ below
+  pub is : search n ≡ p
+  pub within : p < bound n
+  pub none-above : (x : ℕ) → List·Memᴰ x above → bound x ≤ search x
+
+pub record SpotLaws (search bound : ℕ → ℕ) (ns : List ℕ) : Type 0 where
+  pub found : (n p : ℕ) → (firstSpot search bound ns ≡ some (spot n p)) ↔ FirstAt search bound ns n p
+  pub nowhere : (firstSpot search bound ns ≡ none) ↔ ((n : ℕ) → List·Memᴰ n ns → bound n ≤ search n)
+
+-- a place of some of the nodes where the lookup finds a frame
+pub record Match (r : Rule) (g : Geometry) (m : Memory) (f : ℕ) (ns : List ℕ) : Type 0 where
+  pub node : ℕ
+  pub place : ℕ
+  pub member : List·Memᴰ node ns
+  pub low : place < 64
+  pub is : matches r g m f node place ≡ true
+
+-- on any image: yes exactly if some place on the path has its set bit 1, the frame, and the frame's fingerprint
+pub record LookupSays (r : Rule) (g : Geometry) (m : Memory) : Type 0 where
+  pub yes : (f : ℕ) (ns : List ℕ) → (isSome (lookup r g m f ns) ≡ true) ↔ Match r g m f ns
+
+-- the lookup's rule, for any table and any number of bytes: on a sound image it finds a frame exactly where it is held,
+-- so that its answer is that of comparing all
+pub record LookupRule (r : Rule) (g : Geometry) (m : Memory) (s : ℕ) : Type 0 where
+  pub at : (f n p : ℕ) → (find r g m s f ≡ some (spot n p)) ↔ ((w : List ℕ) × Holds g m s w n p f)
+  pub yes : (f : ℕ) → (isSome (find r g m s f) ≡ true) ↔ FrameOf g m s f
+
+-- ---- trees and listings
+
+pub record TreeLaws (g : Geometry) (m : Memory) (s : ℕ) : Type 0 where
+  -- the nodes of a filled slot's tree are those that it reaches, and what it lists are its frames
+  pub visited : (w : List ℕ) (n : ℕ) → List·Memᴰ (visit w n) (tree g m s) ↔ Reaches g m s w n
+  pub listed : (f : ℕ) → List·Memᴰ f (listing g m s) ↔ FrameOf g m s f
+  pub visited-once : SoundTree g m s → Distinct (λ v. v .node) (tree g m s)
+  pub listed-once : (r : Rule) → Sound r g m → Distinct (λ f. f) (listing g m s)
+
+-- ---- soundness
+
+pub record SoundLaws (r : Rule) (g : Geometry) (m : Memory) : Type 0 where
+  -- the tests decide
+  pub tree : {s : ℕ} → Filled g m s → (isSoundTree g m s ≡ true) ↔ SoundTree g m s
+  pub image : (isSound r g m ≡ true) ↔ Sound r g m
+  -- on a sound image a filled slot is its reel's
+  pub own-slot : {s : ℕ} → Sound r g m → Filled g m s → slotOf g m (m (reelAt s)) ≡ s
+
+-- ---- the pool map
+
+-- k adjacent nodes from n on inside the pool, none of them used
+pub record FreeRun (g : Geometry) (map : Memory) (k n : ℕ) : Type 0 where
+  pub inside : n + k ≤ g .nodes
+  pub free : (i : ℕ) → i < k → marked map (n + i) ≡ false
+
+pub record RunLaws (g : Geometry) (map : Memory) (k : ℕ) : Type 0 where
+  pub free : (n : ℕ) → (isFreeRun g map k n ≡ true) ↔ FreeRun g map k n
+  -- one is found if there is any, and it is the lowest
+  pub found : freeRun g map k < g .nodes → FreeRun g map k (freeRun g map k)
+  pub lowest : (n : ℕ) → 0 < k → FreeRun g map k n → (freeRun g map k ≤ n) × (freeRun g map k < g .nodes)
+
+-- ---- level 31
+
+-- n places, of which those set are told apart by numbers below b: with b below n one is clear
+pub record RoomLaw : Type 0 where
+  pub clear : (set : ℕ → Bool) (n b : ℕ) (key : ℕ → ℕ) → b < n → ((p : ℕ) → p < n → set p ≡ true → key p < b)
+      → ((p q : ℕ) → p < n → q < n → set p ≡ true → set q ≡ true → key p ≡ key q → p ≡ q) → first (λ p. not (set p)) n < n
+
+-- of a sound image: the frames of a node of level 31 agree in bits 0 to 58 and are told by the others, so that at most 32 exist
+pub record LevelLaws (g : Geometry) (m : Memory) : Type 0 where
+  pub agree : {s : ℕ} {w : List ℕ} {n p p' f f' : ℕ} → length w ≡ 31 → Holds g m s w n p f → Holds g m s w n p' f' → f % 2 ^ 59 ≡ f' % 2 ^ 59
+  pub told : {s : ℕ} {w : List ℕ} {n : ℕ} → Reaches g m s w n → length w ≡ 31 → (p q : ℕ) → (p < 64) × (held g m n p ≡ true) → (q < 64) × (held g m n q ≡ true)
+      → frame g m n p / 2 ^ 59 ≡ frame g m n q / 2 ^ 59 → p ≡ q
+  pub few : {s : ℕ} {w : List ℕ} {n : ℕ} → ((i : ℕ) → m i < 2 ^ 64) → Reaches g m s w n → length w ≡ 31 → length (framesIn g m n) ≤ 32
+
+-- ---- congruence
+
+pub record SameLaws (g : Geometry) (m m' : Memory) : Type 0 where
+  pub reaches : {s : ℕ} {w : List ℕ} {n : ℕ} → Reaches g m s w n ↔ Reaches g m' s w n
+  pub holds : {s : ℕ} {w : List ℕ} {n p f : ℕ} → Holds g m s w n p f ↔ Holds g m' s w n p f
+  pub trees : {s : ℕ} → Filled g m s → tree g m s ≡ tree g m' s
+  pub listings : {s : ℕ} → Filled g m s → listing g m s ≡ listing g m' s
+  -- a sound memory and one with the same in which every node reached is well formed are sound together
+  pub sound : {r : Rule} → Sound r g m → ((s : ℕ) (w : List ℕ) (n : ℕ) → Reaches g m s w n → wellFormed g m' (length w) n ≡ true) → Sound r g m'

@@ -1,0 +1,66 @@
+-- Layout of the image: the index of each word that has a meaning.
+use Prim.Native.Nat.{ℕ, _+_, _*_, _/_}
+use Rattle.memory.specs.Words.{Memory}
+use Rattle.tree.specs.Test.{Test, le, _and_}
+
+-- the paper's R and N: how many reel slots and nodes an image has
+pub record Geometry : Type 0 where
+  pub slots : ℕ
+  pub nodes : ℕ
+
+-- R is 1 to 4,096, N is 1 to 65,536
+unfoldable pub inRange : Geometry → Test
+inRange g = le 1 (g .slots) and le (g .slots) 4096 and le 1 (g .nodes) and le (g .nodes) 65536
+
+abbrev pub imageWords : Geometry → ℕ
+imageWords g = 64 + 2 * g .slots + 80 * g .nodes
+
+-- the pool map's length; bit n of the map is `marked map n` of the layer below
+abbrev pub mapWords : Geometry → ℕ
+mapWords g = (g .nodes + 63) / 64
+
+-- the header: word 0 is the edition, word 1 is R, word 2 is N
+abbrev pub editionAt : ℕ
+editionAt = 0
+
+abbrev pub slotsAt : ℕ
+slotsAt = 1
+
+abbrev pub nodesAt : ℕ
+nodesAt = 2
+
+unfoldable pub geometryOf : Memory → Geometry
+geometryOf m = record { slots = m slotsAt; nodes = m nodesAt }
+
+-- a slot's two words: reel number, root
+abbrev pub reelAt : ℕ → ℕ
+reelAt s = 64 + 2 * s
+
+abbrev pub rootAt : ℕ → ℕ
+rootAt s = 64 + 2 * s + 1
+
+-- the first of a node's 80 words, and those that have a meaning
+abbrev pub nodeAt : Geometry → ℕ → ℕ
+nodeAt g n = 64 + 2 * g .slots + 80 * n
+
+abbrev pub nextAt : Geometry → ℕ → ℕ
+nextAt g n = nodeAt g n
+
+abbrev pub locateAt : Geometry → ℕ → ℕ
+locateAt g n = nodeAt g n + 1
+
+abbrev pub setAt : Geometry → ℕ → ℕ
+setAt g n = nodeAt g n + 2
+
+abbrev pub levelAt : Geometry → ℕ → ℕ
+levelAt g n = nodeAt g n + 3
+
+abbrev pub sizeAt : Geometry → ℕ → ℕ
+sizeAt g n = nodeAt g n + 4
+
+-- the word that has the fingerprint of place p, in byte p mod 8
+abbrev pub fingerprintsAt : Geometry → ℕ → ℕ → ℕ
+fingerprintsAt g n p = nodeAt g n + 8 + p / 8
+
+abbrev pub frameAt : Geometry → ℕ → ℕ → ℕ
+frameAt g n p = nodeAt g n + 16 + p

@@ -1,0 +1,16 @@
+pub mod Test
+pub mod Lists
+pub mod Layout
+pub mod Path
+pub mod Fingerprint
+pub mod Node
+pub mod Slots
+pub mod Reach
+pub mod Sound
+pub mod Lookup
+pub mod Subtree
+pub mod Check
+pub mod Same
+pub mod Laws
+pub mod Memory
+pub mod Pool

@@ -51,51 +51,51 @@ refusals op s =
     let head = headAt (s .heads) in
     elim op [
       | format map slots nodes ↦
-        let g' : Geometry = record { slots = slots; nodes = nodes } in
-        (badImage (length (s .image)) g' gives 1) ∷ (badMap g' map gives 3) ∷ []
+          let g' : Geometry = record { slots = slots; nodes = nodes } in
+          (badImage (length (s .image)) g' gives 1) ∷ (badMap g' map gives 3) ∷ []
       | recover map ↦
-        checked (s .image) (badMap g map) ((is (not (isSound (ruleOf m) g m)) gives 4) ∷ [])
+          checked (s .image) (badMap g map) ((is (not (isSound (ruleOf m) g m)) gives 4) ∷ [])
       | openReel map script reel ↦
-        checked (s .image) (badMap g map or badScript script)
-        ((lt (slotOf g m reel) (g .slots) gives 6) ∷ (le (g .slots) (emptySlot g m) gives 7) ∷ (le (g .nodes) (freeRun g (reads (s .pool)) 1) gives 8) ∷ [])
+          checked (s .image) (badMap g map or badScript script)
+          ((lt (slotOf g m reel) (g .slots) gives 6) ∷ (le (g .slots) (emptySlot g m) gives 7) ∷ (le (g .nodes) (freeRun g (reads (s .pool)) 1) gives 8) ∷ [])
       | claim map script h reel f ↦
-        let slot = slotOf g m reel in
-        let ns = pathFrom g m slot f in
-        checked (s .image) (badMap g map or badScript script)
-        ((le headCount h gives 11)
-        ∷ (is (not (isIdle (head h))) gives 12)
-        ∷ (le (g .slots) slot gives 5)
-        ∷ (is (busy (s .heads) slot) gives 13)
-        ∷ (noPath ns or is (atLevel31 (roomOn g m ns)) gives 4)
-        ∷ (is (isSome (find (ruleOf m) g m slot f)) gives 9)
-        ∷ (lt 0 (needs (roomOn g m ns)) and le (g .nodes) (freeRun g (reads (s .pool)) (needs (roomOn g m ns))) gives 8)
-        ∷ [])
+          let slot = slotOf g m reel in
+          let ns = pathFrom g m slot f in
+          checked (s .image) (badMap g map or badScript script)
+          ((le headCount h gives 11)
+          ∷ (is (not (isIdle (head h))) gives 12)
+          ∷ (le (g .slots) slot gives 5)
+          ∷ (is (busy (s .heads) slot) gives 13)
+          ∷ (noPath ns or is (atLevel31 (roomOn g m ns)) gives 4)
+          ∷ (is (isSome (find (ruleOf m) g m slot f)) gives 9)
+          ∷ (lt 0 (needs (roomOn g m ns)) and le (g .nodes) (freeRun g (reads (s .pool)) (needs (roomOn g m ns))) gives 8)
+          ∷ [])
       | fill script h ↦
-        checked (s .image) (badScript script)
-        ((le headCount h gives 11) ∷ (is (not (isClaimed (head h))) gives 12) ∷ (outside g (targetOf (head h)) gives 4) ∷ [])
+          checked (s .image) (badScript script)
+          ((le headCount h gives 11) ∷ (is (not (isClaimed (head h))) gives 12) ∷ (outside g (targetOf (head h)) gives 4) ∷ [])
       | commit script h ↦
-        checked (s .image) (badScript script)
-        ((le headCount h gives 11) ∷ (is (not (isFilled (head h))) gives 12) ∷ (outside g (targetOf (head h)) gives 4) ∷ [])
+          checked (s .image) (badScript script)
+          ((le headCount h gives 11) ∷ (is (not (isFilled (head h))) gives 12) ∷ (outside g (targetOf (head h)) gives 4) ∷ [])
       | abandon script h ↦
-        checked (s .image) (badScript script)
-        ((le headCount h gives 11) ∷ (is (isIdle (head h)) gives 12) ∷ (outside g (targetOf (head h)) gives 4) ∷ [])
+          checked (s .image) (badScript script)
+          ((le headCount h gives 11) ∷ (is (isIdle (head h)) gives 12) ∷ (outside g (targetOf (head h)) gives 4) ∷ [])
       | remove script reel f ↦
-        let slot = slotOf g m reel in
-        checked (s .image) (badScript script)
-        ((le (g .slots) slot gives 5)
-        ∷ (is (busy (s .heads) slot) gives 13)
-        ∷ (noPath (pathFrom g m slot f) gives 4)
-        ∷ (is (not (isSome (find (ruleOf m) g m slot f))) gives 10)
-        ∷ [])
+          let slot = slotOf g m reel in
+          checked (s .image) (badScript script)
+          ((le (g .slots) slot gives 5)
+          ∷ (is (busy (s .heads) slot) gives 13)
+          ∷ (noPath (pathFrom g m slot f) gives 4)
+          ∷ (is (not (isSome (find (ruleOf m) g m slot f))) gives 10)
+          ∷ [])
       | has reel f ↦
-        let slot = slotOf g m reel in
-        checked (s .image) (is false) ((le (g .slots) slot gives 5) ∷ (noPath (pathFrom g m slot f) gives 4) ∷ [])
+          let slot = slotOf g m reel in
+          checked (s .image) (is false) ((le (g .slots) slot gives 5) ∷ (noPath (pathFrom g m slot f) gives 4) ∷ [])
       | list scratch room reel ↦
-        let slot = slotOf g m reel in
-        checked (s .image) (badMap g scratch)
-        ((le (g .slots) slot gives 5) ∷ (is (not (isSoundTree g m slot)) gives 4) ∷ (lt room (length (listing g m slot)) gives 14) ∷ [])
+          let slot = slotOf g m reel in
+          checked (s .image) (badMap g scratch)
+          ((le (g .slots) slot gives 5) ∷ (is (not (isSoundTree g m slot)) gives 4) ∷ (lt room (length (listing g m slot)) gives 14) ∷ [])
       | retire map scratch script reel ↦
-        let slot = slotOf g m reel in
-        checked (s .image) (badMap g map or badMap g scratch or badScript script)
-        ((le (g .slots) slot gives 5) ∷ (is (busy (s .heads) slot) gives 13) ∷ (is (not (isSoundTree g m slot)) gives 4) ∷ [])
+          let slot = slotOf g m reel in
+          checked (s .image) (badMap g map or badMap g scratch or badScript script)
+          ((le (g .slots) slot gives 5) ∷ (is (busy (s .heads) slot) gives 13) ∷ (is (not (isSoundTree g m slot)) gives 4) ∷ [])
     ]

@@ -2,11 +2,11 @@
 use mathlib.Core.Path.{_≡_}
 use mathlib.Core.Bool.{cond}
 use mathlib.Core.Logic.{_⊎_, _↔_, _≢_}
-use mathlib.Core.List.{List, [], _∷_, List·Memᴰ}
+use mathlib.Core.List.{List, [], _∷_, _++_, List·Memᴰ}
 use Prim.Native.Nat.{ℕ, _≤_}
 use lib.ListN.{length}
 use lib.Dec.{eqb}
-use Rattle.tree.specs.Memory.{reads, encode, segmented, apply, passed, Inside, Fit, FitStores}
+use Rattle.tree.specs.Memory.{reads, Entry, barrier, encode, segmented, apply, passed, Inside, Fit, FitStores}
 use Rattle.tree.specs.Layout.{mapWords, reelAt, geometryOf}
 use Rattle.tree.specs.Reach.{Holds}
 use Rattle.book.specs.declared.Target.{Target}
@@ -119,6 +119,7 @@ Placed = (s : State) (t : Table) → Follows s t → Places s
 
 pub record GoodScript (op : Operation) (s : State) : Type 0 where
   pub short : length (segmented (perform op s .work .script)) ≤ 25
+  pub fenced : (segmented (perform op s .work .script) ≡ []) ⊎ ((es : List Entry) × (segmented (perform op s .work .script) ≡ es ++ barrier ∷ []))
   pub inside : Inside (length (s .image)) (segmented (perform op s .work .script))
   pub fits : FitStores (segmented (perform op s .work .script))
   -- carried out as words, it answers 0 and leaves the image that a history goes on with

@@ -126,40 +126,40 @@ granted op s =
     let target : ℕ → Target = λ h. targetOf (headAt (s .heads) h) in
     elim op [
       | format words slots nodes ↦
-        let g' : Geometry = record { slots = slots; nodes = nodes } in
-        leaving (record { image = apply (s .image) (stores (formatStores g')); pool = clearMap (mapWords g'); heads = idleHeads })
+          let g' : Geometry = record { slots = slots; nodes = nodes } in
+          leaving (record { image = apply (s .image) (stores (formatStores g')); pool = clearMap (mapWords g'); heads = idleHeads })
       | recover words ↦
-        leaving (record {
-          image = apply (s .image) (stores (recoverStores g m));
-          pool = mapOf g (nodesOf (allTrees g m));
-          heads = idleHeads;
-        })
+          leaving (record {
+            image = apply (s .image) (stores (recoverStores g m));
+            pool = mapOf g (nodesOf (allTrees g m));
+            heads = idleHeads;
+          })
       | openReel words script reel ↦
-        let n = freeRun g (reads (s .pool)) 1 in
-        writing (openScript g (emptySlot g m) n reel) (record { image = s .image; pool = mark (s .pool) n; heads = s .heads })
+          let n = freeRun g (reads (s .pool)) 1 in
+          writing (openScript g (emptySlot g m) n reel) (record { image = s .image; pool = mark (s .pool) n; heads = s .heads })
       | claim words script h reel f ↦
-        let slot = slotOf g m reel in
-        let r = roomOn g m (pathFrom g m slot f) in
-        let start = freeRun g (reads (s .pool)) (needs r) in
-        let t = placeIn r start f in
-        writing (claimScript g m r start f) (record {
-          image = s .image;
-          pool = markAll (s .pool) (taken r start);
-          heads = withHead (s .heads) h (Claimed (record { slot = slot; node = t .node; place = t .place; frame = f }));
-        })
+          let slot = slotOf g m reel in
+          let r = roomOn g m (pathFrom g m slot f) in
+          let start = freeRun g (reads (s .pool)) (needs r) in
+          let t = placeIn r start f in
+          writing (claimScript g m r start f) (record {
+            image = s .image;
+            pool = markAll (s .pool) (taken r start);
+            heads = withHead (s .heads) h (Claimed (record { slot = slot; node = t .node; place = t .place; frame = f }));
+          })
       | fill script h ↦
-        writing (fillScript (ruleOf m) g m (target h)) (putHead s h (Filled (target h)))
+          writing (fillScript (ruleOf m) g m (target h)) (putHead s h (Filled (target h)))
       | commit script h ↦ writing (bitOn m (setAt g (target h .node)) (target h .place) ∷ []) (putHead s h Idle)
       | abandon script h ↦ writing (bitOff m (locateAt g (target h .node)) (target h .place) ∷ []) (putHead s h Idle)
       | remove script reel f ↦ writing (removeScript g m (orNone (find (ruleOf m) g m (slotOf g m reel) f))) s
       | has reel f ↦ record { script = []; value = oneIf (isSome (find (ruleOf m) g m (slotOf g m reel) f)); listing = []; after = s }
       | list scratch room reel ↦
-        let fs = listing g m (slotOf g m reel) in
-        record { script = []; value = length fs; listing = fs; after = s }
+          let fs = listing g m (slotOf g m reel) in
+          record { script = []; value = length fs; listing = fs; after = s }
       | retire words scratch script reel ↦
-        let slot = slotOf g m reel in
-        writing (((rootAt slot, 0) ∷ []) ∷ [])
-        (record { image = s .image; pool = unmarkAll (s .pool) (nodesOf (tree g m slot)); heads = s .heads })
+          let slot = slotOf g m reel in
+          writing (((rootAt slot, 0) ∷ []) ∷ [])
+          (record { image = s .image; pool = unmarkAll (s .pool) (nodesOf (tree g m slot)); heads = s .heads })
     ]
 
 -- ---- any operation

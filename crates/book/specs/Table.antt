@@ -112,41 +112,41 @@ tableRefusals op fed t =
     let head = tableHead t in
     elim op [
       | format words slots nodes ↦
-        let g' : Geometry = record { slots = slots; nodes = nodes } in
-        (badImage (imageWords g) g' gives 1) ∷ (badMap g' words gives 3) ∷ []
+          let g' : Geometry = record { slots = slots; nodes = nodes } in
+          (badImage (imageWords g) g' gives 1) ∷ (badMap g' words gives 3) ∷ []
       | recover words ↦ (badMap g words gives 3) ∷ []
       | openReel words script reel ↦
-        (badMap g words or badScript script gives 3)
-        ∷ (is (isPresent t reel) gives 6)
-        ∷ (le (t .slots) (length (t .reels)) gives 7)
-        ∷ (is (isNoRun fed) gives 8)
-        ∷ []
+          (badMap g words or badScript script gives 3)
+          ∷ (is (isPresent t reel) gives 6)
+          ∷ (le (t .slots) (length (t .reels)) gives 7)
+          ∷ (is (isNoRun fed) gives 8)
+          ∷ []
       | claim words script h reel f ↦
-        (badMap g words or badScript script gives 3)
-        ∷ (le headCount h gives 11)
-        ∷ (is (not (isIdle (head h))) gives 12)
-        ∷ (is (not (isPresent t reel)) gives 5)
-        ∷ (is (isBusy t reel) gives 13)
-        ∷ (is (isHeld t reel f) gives 9)
-        ∷ (is (isNoRun fed) gives 8)
-        ∷ []
+          (badMap g words or badScript script gives 3)
+          ∷ (le headCount h gives 11)
+          ∷ (is (not (isIdle (head h))) gives 12)
+          ∷ (is (not (isPresent t reel)) gives 5)
+          ∷ (is (isBusy t reel) gives 13)
+          ∷ (is (isHeld t reel f) gives 9)
+          ∷ (is (isNoRun fed) gives 8)
+          ∷ []
       | fill script h ↦ (badScript script gives 3) ∷ (le headCount h gives 11) ∷ (is (not (isClaimed (head h))) gives 12) ∷ []
       | commit script h ↦ (badScript script gives 3) ∷ (le headCount h gives 11) ∷ (is (not (isFilled (head h))) gives 12) ∷ []
       | abandon script h ↦ (badScript script gives 3) ∷ (le headCount h gives 11) ∷ (is (isIdle (head h)) gives 12) ∷ []
       | remove script reel f ↦
-        (badScript script gives 3)
-        ∷ (is (not (isPresent t reel)) gives 5)
-        ∷ (is (isBusy t reel) gives 13)
-        ∷ (is (not (isHeld t reel f)) gives 10)
-        ∷ []
+          (badScript script gives 3)
+          ∷ (is (not (isPresent t reel)) gives 5)
+          ∷ (is (isBusy t reel) gives 13)
+          ∷ (is (not (isHeld t reel f)) gives 10)
+          ∷ []
       | has reel f ↦ (is (not (isPresent t reel)) gives 5) ∷ []
       | list scratch room reel ↦
-        (badMap g scratch gives 3) ∷ (is (not (isPresent t reel)) gives 5) ∷ (lt room (length (framesOf t reel)) gives 14) ∷ []
+          (badMap g scratch gives 3) ∷ (is (not (isPresent t reel)) gives 5) ∷ (lt room (length (framesOf t reel)) gives 14) ∷ []
       | retire words scratch script reel ↦
-        (badMap g words or badMap g scratch or badScript script gives 3)
-        ∷ (is (not (isPresent t reel)) gives 5)
-        ∷ (is (isBusy t reel) gives 13)
-        ∷ []
+          (badMap g words or badMap g scratch or badScript script gives 3)
+          ∷ (is (not (isPresent t reel)) gives 5)
+          ∷ (is (isBusy t reel) gives 13)
+          ∷ []
     ]
 
 -- ---- what it becomes

@@ -1,13 +1,13 @@
 -- Laws of the layer below that this one needs: to be replaced by that layer's own proofs of its Laws.
-use mathlib.Core.Path.{_≡_, refl, sym, _∙_, ap}
+use mathlib.Core.Path.{_≡_, _∙_}
 use mathlib.Core.Bool.{Bool, true, false, cond}
 use mathlib.Core.Logic.{_⊎_, inl, inr}
-use Prim.Native.Nat.{ℕ, zero, suc, _+_, _≤_, _<_}
+use Prim.Native.Nat.{ℕ, zero, suc, _≤_, _<_}
 use native.Mathlib.Omega.{arith}
 use native.Mathlib.Decide.{decLt}
 use Rattle.memory.specs.Search.{first}
 use Rattle.memory.specs.Laws.{NoneBelow, SearchLaws}
-use Rattle.tree.proofs.Cases.{test, true-not-false, Compared, compared, less, same, more}
+use Rattle.tree.proofs.Cases.{test, true-not-false, compared, less, same, more}
 
 -- the answer of a search, with its three facts
 record Least (p : ℕ → Bool) (n k : ℕ) : Type 0 where
@@ -30,9 +30,10 @@ first-least p (suc n) = go (test (p 0)) (first-least (λ i. p (suc i)) n)
 
 unique : {p : ℕ → Bool} {n k k' : ℕ} → Least p n k → Least p n k' → k ≡ k'
 unique {k = k} {k' = k'} a b = elim (compared k k') [
-  less l ↦ absurd (true-not-false (a .holds (omega arith)) (b .before k l))
+  | less l ↦ absurd (true-not-false (a .holds (omega arith)) (b .before k l))
   | same q ↦ q
-  | more l ↦ absurd (true-not-false (b .holds (omega arith)) (a .before k' l)) ]
+  | more l ↦ absurd (true-not-false (b .holds (omega arith)) (a .before k' l))
+]
 
 pub search-laws : (p : ℕ → Bool) (n : ℕ) → SearchLaws p n
 search-laws p n = let l = first-least p n in record {
@@ -40,6 +41,8 @@ search-laws p n = let l = first-least p n in record {
   holds = l .holds;
   none-before = l .before;
   least = λ i h e. elim (decLt i (first p n)) [ yes k ↦ absurd (true-not-false e (l .before i k)) | no k ↦ omega arith ];
-  equal-tests = λ q h. let r = first-least q n in unique l (record { within = r .within; holds = λ k. h (first q n) k ∙ r .holds k; before = λ i k. h i (omega (arith, r .within)) ∙ r .before i k });
+  equal-tests = λ q h.
+      let r = first-least q n in
+      unique l (record { within = r .within; holds = λ k. h (first q n) k ∙ r .holds k; before = λ i k. h i (omega (arith, r .within)) ∙ r .before i k });
   stops = λ i h b e. unique (record { within = h; holds = e; before = b }) l;
 }

@@ -1,25 +1,24 @@
 -- The computed test of an image decides soundness.
-use mathlib.Core.Path.{_≡_, refl, sym, _∙_, ap, ap₂, subst}
-use mathlib.Core.Bool.{Bool, true, false, not, _&&_}
-use mathlib.Core.Logic.{_⊎_, inl, inr, _↔_}
+use mathlib.Core.Path.{_≡_, refl, sym, _∙_, ap, ap₂}
+use mathlib.Core.Bool.{true, _&&_}
 use mathlib.Core.Option.{Option, none, some}
-use mathlib.Core.List.{List, [], _∷_, List·Memᴰ}
+use mathlib.Core.List.{List}
 use Prim.Native.Nat.{ℕ}
 use lib.ListN.{length}
 use Rattle.memory.specs.Words.{Memory}
-use Rattle.tree.specs.Test.{Test, eq, _and_, holds}
+use Rattle.tree.specs.Test.{eq, _and_}
 use Rattle.tree.specs.Lists.{every, distinct, Distinct}
 use Rattle.tree.specs.Layout.{Geometry, reelAt}
 use Rattle.tree.specs.Path.{wayOf}
-use Rattle.tree.specs.Fingerprint.{Rule, fingerprint}
-use Rattle.tree.specs.Node.{frame, storedFingerprint}
-use Rattle.tree.specs.Slots.{Filled, filledSlots}
-use Rattle.tree.specs.Reach.{Reaches, Holds}
+use Rattle.tree.specs.Fingerprint.{Rule}
+use Rattle.tree.specs.Node.{frame}
+use Rattle.tree.specs.Slots.{filledSlots}
+use Rattle.tree.specs.Reach.{Holds}
 use Rattle.tree.specs.Sound.{Sound}
 use Rattle.tree.specs.Lookup.{Spot, spot, find}
-use Rattle.tree.specs.Subtree.{Visit, visit, tree, allTrees, heldPlaces}
+use Rattle.tree.specs.Subtree.{tree, allTrees, heldPlaces}
 use Rattle.tree.specs.Check.{isAt, walkable, inPlace, isSound}
-use Rattle.tree.specs.Laws.{LookupRule, SoundLaws}
+use Rattle.tree.specs.Laws.{SoundLaws}
 use Rattle.tree.proofs.Cases.{and-true, true-and, true-not-false, some-inj}
 use Rattle.tree.proofs.Tests.{says, said}
 use Rattle.tree.proofs.Lists.{every-at, at-every}
@@ -45,17 +44,19 @@ module _ (r : Rule) (g : Geometry) (m : Memory) where
 
   placed : every (λ s. every (inPlace r g m s) (tree g m s)) (filledSlots g m) ≡ true → Placed
   unfolding inPlace
-  placed h = record { at = λ {s} {w} {n} {p} {f} x.
-    let b = slot-filled (x .there) in
-    let e = every-at _ (every-at _ (every-at _ h (filled-slots g m .1 b)) (visited g m b w n .1 (x .there))) (held-places g m n p .1 (x .place, x .set)) in
-    is-at n p (find r g m s f) (rw (x .is) at e) }
+  placed h = record {
+    at = λ {s} {w} {n} {p} {f} x.
+        let b = slot-filled (x .there) in
+        let e = every-at _ (every-at _ (every-at _ h (filled-slots g m .1 b)) (visited g m b w n .1 (x .there))) (held-places g m n p .1 (x .place, x .set)) in
+        is-at n p (find r g m s f) (rw (x .is) at e);
+  }
 
   was-placed : Placed → every (λ s. every (inPlace r g m s) (tree g m s)) (filledSlots g m) ≡ true
   unfolding inPlace
   was-placed a = at-every _ (filledSlots g m) (λ s x. at-every _ (tree g m s) (λ v y. at-every _ (heldPlaces g m (v .node)) (λ p z.
-    let k = held-places g m (v .node) p .0 z in
-    at-is (v .node) p (find r g m s (frame g m (v .node) p))
-    (a .at (record { there = visited g m (filled-slots g m .0 x) (v .way) (v .node) .0 y; place = k .0; set = k .1; is = refl })))))
+      let k = held-places g m (v .node) p .0 z in
+      at-is (v .node) p (find r g m s (frame g m (v .node) p))
+      (a .at (record { there = visited g m (filled-slots g m .0 x) (v .way) (v .node) .0 y; place = k .0; set = k .1; is = refl })))))
 
   sound : isSound r g m ≡ true → Sound r g m
   unfolding isSound
@@ -70,12 +71,12 @@ module _ (r : Rule) (g : Geometry) (m : Memory) where
         once = λ x y. a .once x y;
         reels = λ b b' q. same-element d (filled-slots g m .1 b) (filled-slots g m .1 b') q;
         on-path = λ {s} {w} {n} {p} {f} x.
-          let t = find-holds r g m (slot-filled (x .there)) f n p (l .at x) in
-          let e : w ≡ wayOf (t .0) f = a .once (x .there) (t .1 .there) .1 in
-          e ∙ ap (λ d. wayOf d f) (sym (ap length e ∙ length-way (t .0) f));
+            let t = find-holds r g m (slot-filled (x .there)) f n p (l .at x) in
+            let e : w ≡ wayOf (t .0) f = a .once (x .there) (t .1 .there) .1 in
+            e ∙ ap (λ d. wayOf d f) (sym (ap length e ∙ length-way (t .0) f));
         frame-once = λ x x'.
-          let q = some-inj (sym (l .at x) ∙ l .at x') in
-          (a .once (x .there) (rw (sym (ap (λ t. t .node) q)) at (x' .there)) .1, ap (λ t. t .place) q);
+            let q = some-inj (sym (l .at x) ∙ l .at x') in
+            (a .once (x .there) (rw (sym (ap (λ t. t .node) q)) at (x' .there)) .1, ap (λ t. t .place) q);
         fingerprints = λ {s} {w} {n} {p} {f} x. find-holds r g m (slot-filled (x .there)) f n p (l .at x) .2;
       }
 
@@ -84,7 +85,8 @@ module _ (r : Rule) (g : Geometry) (m : Memory) where
   was-sound d =
       true-and
       (true-and (decides-trees g m .1 (record { well-formed = λ x. d .well-formed x; once = λ x y. d .once x y }))
-      (distinct-said (λ s. m (reelAt s)) (distinct-by (λ s. m (reelAt s)) (distinct-slots g m) (λ s s' x y q. d .reels (filled-slots g m .0 x) (filled-slots g m .0 y) q))))
+      (distinct-said (λ s. m (reelAt s)) (distinct-by (λ s. m (reelAt s)) (distinct-slots g m) (λ s s' x y q.
+      d .reels (filled-slots g m .0 x) (filled-slots g m .0 y) q))))
       (was-placed (record { at = λ {s} {w} {n} {p} {f} x. lookup-rule r g m d (slot-filled (x .there)) .at f n p .1 (w, x) }))
 
   pub sound-laws : SoundLaws r g m

@@ -1,15 +1,16 @@
 -- Lists in which no key occurs twice: what the test says, and lists put together.
 use mathlib.Core.Path.{_≡_, refl, sym, _∙_, ap, subst}
-use mathlib.Core.Bool.{Bool, true, false, cond, not, _&&_, _||_}
-use mathlib.Core.Logic.{_⊎_, inl, inr, _↔_, _≢_}
-use mathlib.Core.List.{List, [], _∷_, _++_, map, flatMap, List·Memᴰ, List·Memᴰ·head, List·Memᴰ·tail, List·Memᴰ·cases-cons, List·Memᴰ·not-nil, List·Memᴰ·append-cases, Memᴰ·append-left, Memᴰ·append-right, Memᴰ·of-map}
-use Prim.Native.Nat.{ℕ, zero, suc, _+_, _≤_, _<_}
+use mathlib.Core.Bool.{Bool, true, false, not}
+use mathlib.Core.Logic.{_⊎_, inl, inr, _≢_}
+use mathlib.Core.List.{List, [], _∷_, _++_, map, flatMap, List·Memᴰ·append-cases, Memᴰ·append-left, Memᴰ·append-right}
+use mathlib.Core.List.{List·Memᴰ, List·Memᴰ·head, List·Memᴰ·tail, List·Memᴰ·cases-cons, List·Memᴰ·not-nil, Memᴰ·of-map}
+use Prim.Native.Nat.{ℕ, zero, suc}
 use native.Mathlib.Omega.{arith}
 use lib.Dec.{eqb}
 use borrow.Author.Tests.{eqb-true, eq-eqb, not-true}
 use Rattle.tree.specs.Lists.{range, upTo, keep, hasKey, distinct, Distinct, empty, onto}
-use Rattle.tree.proofs.Cases.{test, true-not-false, not-false, and-true, true-and, or-true, or-left, or-right}
-use Rattle.tree.proofs.Lists.{Within, within, together, in-range, kept}
+use Rattle.tree.proofs.Cases.{test, true-not-false, not-false, and-true, or-true, or-left, or-right}
+use Rattle.tree.proofs.Lists.{within, together, in-range, kept}
 
 module _ {A : Type 0} (key : A → ℕ) where
   -- ---- the test
@@ -24,7 +25,8 @@ module _ {A : Type 0} (key : A → ℕ) where
   key-has k [] h = absurd (true-not-false h refl)
   key-has k (x ∷ xs) h = go (or-true (eqb (key x) k) (hasKey key k xs) h) (λ t. key-has k xs t)
     where
-      go : (eqb (key x) k ≡ true) ⊎ (hasKey key k xs ≡ true) → (hasKey key k xs ≡ true → (y : A) × List·Memᴰ y xs × (key y ≡ k)) → (y : A) × List·Memᴰ y (x ∷ xs) × (key y ≡ k)
+      go : (eqb (key x) k ≡ true) ⊎ (hasKey key k xs ≡ true) → (hasKey key k xs ≡ true → (y : A) × List·Memᴰ y xs × (key y ≡ k))
+          → (y : A) × List·Memᴰ y (x ∷ xs) × (key y ≡ k)
       go (inl e) ih = (x, List·Memᴰ·head refl, eqb-true (key x) k e)
       go (inr e) ih = let t = ih e in (t .0, List·Memᴰ·tail (t .1), t .2)
 
@@ -55,8 +57,9 @@ module _ {A : Type 0} {key : A → ℕ} where
   unfolding keep
   distinct-keep p empty = empty
   distinct-keep p (onto {x} {xs} a d) = elim (test (p x)) [
-    inl e ↦ rw e (onto (λ y z. a y (kept p xs z .0)) (distinct-keep p d))
-    | inr e ↦ rw e (distinct-keep p d) ]
+    | inl e ↦ rw e (onto (λ y z. a y (kept p xs z .0)) (distinct-keep p d))
+    | inr e ↦ rw e (distinct-keep p d)
+  ]
 
   -- ---- lists put together
 
@@ -71,10 +74,12 @@ module _ {A : Type 0} {key : A → ℕ} where
   distinct-apart : (xs : List A) {ys : List A} {x y : A} → Distinct key (xs ++ ys) → List·Memᴰ x xs → List·Memᴰ y ys → key x ≢ key y
   distinct-apart [] d z t e = List·Memᴰ·not-nil z
   distinct-apart (x ∷ xs) {y = y} (onto a d) z t e = elim (List·Memᴰ·cases-cons z) [
-    inl q ↦ a y (Memᴰ·append-right xs t) (sym e ∙ ap key q)
-    | inr z' ↦ distinct-apart xs d z' t e ]
+    | inl q ↦ a y (Memᴰ·append-right xs t) (sym e ∙ ap key q)
+    | inr z' ↦ distinct-apart xs d z' t e
+  ]
 
-  distinct-append : {xs ys : List A} → Distinct key xs → Distinct key ys → ((x y : A) → List·Memᴰ x xs → List·Memᴰ y ys → key x ≢ key y) → Distinct key (xs ++ ys)
+  distinct-append : {xs ys : List A} → Distinct key xs → Distinct key ys → ((x y : A) → List·Memᴰ x xs → List·Memᴰ y ys → key x ≢ key y)
+      → Distinct key (xs ++ ys)
   distinct-append empty e h = e
   distinct-append {ys = ys} (onto {x} {xs} a d) e h =
       onto (λ y z q. elim (List·Memᴰ·append-cases xs {t = ys} z) [ inl t ↦ a y t q | inr t ↦ h x y (List·Memᴰ·head refl) t (sym q) ])
@@ -92,8 +97,10 @@ module _ {A B : Type 0} {key : B → ℕ} (f : A → List B) where
       → key b ≡ key b' → s ≡ s'
   unfolding flatMap
   same-part d (List·Memᴰ·head q) x (List·Memᴰ·head q') x' e = q ∙ sym q'
-  same-part {b = b} d (List·Memᴰ·head {x = z} q) x (List·Memᴰ·tail y') x' e = absurd (distinct-apart (f z) d (subst (λ t. List·Memᴰ b (f t)) q x) (together f y' x') e)
-  same-part {b' = b'} d (List·Memᴰ·tail y) x (List·Memᴰ·head {x = z} q) x' e = absurd (distinct-apart (f z) d (subst (λ t. List·Memᴰ b' (f t)) q x') (together f y x) (sym e))
+  same-part {b = b} d (List·Memᴰ·head {x = z} q) x (List·Memᴰ·tail y') x' e =
+      absurd (distinct-apart (f z) d (subst (λ t. List·Memᴰ b (f t)) q x) (together f y' x') e)
+  same-part {b' = b'} d (List·Memᴰ·tail y) x (List·Memᴰ·head {x = z} q) x' e =
+      absurd (distinct-apart (f z) d (subst (λ t. List·Memᴰ b' (f t)) q x') (together f y x) (sym e))
   same-part d (List·Memᴰ·tail {x = z} y) x (List·Memᴰ·tail y') x' e = same-part (distinct-right (f z) d) y x y' x' e
 
   -- lists that are distinct, with keys that tell their indices, are distinct together
@@ -106,8 +113,8 @@ module _ {A B : Type 0} {key : B → ℕ} (f : A → List B) where
       distinct-append (h x (List·Memᴰ·head refl))
       (distinct-parts d (λ s y. h s (List·Memᴰ·tail y)) (λ s s' b b' y y'. k s s' b b' (List·Memᴰ·tail y) (List·Memᴰ·tail y')))
       (λ b b' y z e.
-        let t = within f xs z in
-        a (t .from) (t .member) (sym (k x (t .from) b b' (List·Memᴰ·head refl) (List·Memᴰ·tail (t .member)) y (t .inside) e)))
+      let t = within f xs z in
+      a (t .from) (t .member) (sym (k x (t .from) b b' (List·Memᴰ·head refl) (List·Memᴰ·tail (t .member)) y (t .inside) e)))
 
 distinct-range : (from n : ℕ) → Distinct (λ c. c) (range from n)
 unfolding range

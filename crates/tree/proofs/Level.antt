@@ -1,15 +1,13 @@
 -- Frames held at one way agree in the bits that it reads; at level 31 at most 32 of them exist.
-use mathlib.Core.Path.{_≡_, refl, sym, _∙_, ap, subst}
+use mathlib.Core.Path.{_≡_, refl, sym, _∙_}
 use mathlib.Core.Bool.{true}
-use mathlib.Core.List.{List, map, List·Memᴰ}
-use Prim.Native.Nat.{ℕ, _+_, _*_, _/_, _%_, _^_, _≤_, _<_}
-use native.Mathlib.Omega.{arith}
+use mathlib.Core.List.{List, List·Memᴰ}
+use Prim.Native.Nat.{ℕ, _/_, _%_, _^_, _<_}
 use lib.ListN.{length, length-map}
 use lib.Pow.{shr-lt, split}
 use Rattle.memory.specs.Words.{Memory}
-use Rattle.tree.specs.Lists.{upTo, Distinct}
+use Rattle.tree.specs.Lists.{Distinct}
 use Rattle.tree.specs.Layout.{Geometry, frameAt}
-use Rattle.tree.specs.Path.{wayOf, bitsTo}
 use Rattle.tree.specs.Fingerprint.{Rule}
 use Rattle.tree.specs.Node.{held, frame}
 use Rattle.tree.specs.Reach.{Reaches, Holds}
@@ -40,8 +38,8 @@ module _ {r : Rule} {g : Geometry} {m : Memory} (d : Sound r g m) where
     agree = λ l x x'. agree l x x';
     told = λ t l p q a b e. told t l p q a b e;
     few = λ {s} {w} {n} fits t l.
-      let held? : (p : ℕ) → List·Memᴰ p (heldPlaces g m n) → (p < 64) × (held g m n p ≡ true) = λ p z. held-places g m n p .0 z in
-      let k : Distinct (λ p. frame g m n p / 2 ^ 59) (heldPlaces g m n) =
+        let held? : (p : ℕ) → List·Memᴰ p (heldPlaces g m n) → (p < 64) × (held g m n p ≡ true) = λ p z. held-places g m n p .0 z in
+        let k : Distinct (λ p. frame g m n p / 2 ^ 59) (heldPlaces g m n) =
         distinct-by _ (distinct-keep (held g m n) (distinct-upTo 64)) (λ p q x y e. told t l p q (held? p x) (held? q y) e) in
-      rw (length-map (heldPlaces g m n) (frame g m n)) (pigeon _ 32 (heldPlaces g m n) k (λ p z. shr-lt 5 59 (fits (frameAt g n p))));
+        rw (length-map (heldPlaces g m n) (frame g m n)) (pigeon _ 32 (heldPlaces g m n) k (λ p z. shr-lt 5 59 (fits (frameAt g n p))));
   }

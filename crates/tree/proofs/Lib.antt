@@ -15,7 +15,13 @@ pub mod Trees
 pub mod Listing
 pub mod Runs
 pub mod Same
+pub mod Words
+pub mod Grows
+pub mod Link
+pub mod Retire
+pub mod SetBit
 pub mod Decide
 pub mod Fingerprints
 pub mod Pigeon
 pub mod Level
+pub mod Laws

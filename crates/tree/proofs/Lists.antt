@@ -1,15 +1,14 @@
 -- Laws of the lists in specs/Lists.antt, and membership in lists put together.
 use mathlib.Core.Path.{_≡_, refl, sym, _∙_, ap, ap₂, subst}
-use mathlib.Core.Bool.{Bool, true, false, cond, not, _&&_, _||_}
-use mathlib.Core.Logic.{_⊎_, inl, inr, _↔_, _≢_}
-use mathlib.Core.List.{List, [], _∷_, _++_, map, flatMap, List·Memᴰ, List·Memᴰ·head, List·Memᴰ·tail, List·Memᴰ·cases-cons, List·Memᴰ·not-nil, List·Memᴰ·append-cases, Memᴰ·append-left, Memᴰ·append-right}
+use mathlib.Core.Bool.{Bool, true, false}
+use mathlib.Core.Logic.{_⊎_, inl, inr, _↔_}
+use mathlib.Core.List.{List, [], _∷_, _++_, map, flatMap, List·Memᴰ·append-cases, Memᴰ·append-left, Memᴰ·append-right}
+use mathlib.Core.List.{List·Memᴰ, List·Memᴰ·head, List·Memᴰ·tail, List·Memᴰ·cases-cons, List·Memᴰ·not-nil}
 use Prim.Native.Nat.{ℕ, zero, suc, _+_, _≤_, _<_}
 use native.Mathlib.Omega.{arith}
 use native.Mathlib.Decide.{ℕ-discrete}
-use lib.Dec.{eqb}
-use borrow.Author.Tests.{eqb-true, eqb-false, eq-eqb, not-true}
-use Rattle.tree.specs.Lists.{range, upTo, keep, every, hasKey, distinct, Distinct, empty, onto}
-use Rattle.tree.proofs.Cases.{test, true-not-false, not-false, and-true, true-and, or-true, or-left, or-right}
+use Rattle.tree.specs.Lists.{range, upTo, keep, every}
+use Rattle.tree.proofs.Cases.{test, and-true, true-and}
 
 -- ---- membership
 
@@ -47,12 +46,15 @@ map-cong f f' (x ∷ xs) h = ap₂ _∷_ (h x (List·Memᴰ·head refl)) (map-co
 pub in-range : (from n : ℕ) {c : ℕ} → List·Memᴰ c (range from n) → (from ≤ c) × (c < from + n)
 unfolding range
 in-range from zero x = absurd (List·Memᴰ·not-nil x)
-in-range from (suc n) x = elim (List·Memᴰ·cases-cons x) [ inl q ↦ (omega arith, omega arith) | inr y ↦ let t = in-range (suc from) n y in (omega arith, omega arith) ]
+in-range from (suc n) x = elim (List·Memᴰ·cases-cons x) [ inl q ↦ omega arith | inr y ↦ let t = in-range (suc from) n y in omega arith ]
 
 range-has : (from n : ℕ) {c : ℕ} → from ≤ c → c < from + n → List·Memᴰ c (range from n)
 unfolding range
 range-has from zero l h = absurd (omega arith)
-range-has from (suc n) {c} l h = elim (ℕ-discrete c from) [ yes q ↦ List·Memᴰ·head q | no q ↦ List·Memᴰ·tail (range-has (suc from) n (omega arith) (omega arith)) ]
+range-has from (suc n) {c} l h = elim (ℕ-discrete c from) [
+  | yes q ↦ List·Memᴰ·head q
+  | no q ↦ List·Memᴰ·tail (range-has (suc from) n (omega arith) (omega arith))
+]
 
 pub upTo-members : (n : ℕ) {c : ℕ} → List·Memᴰ c (upTo n) ↔ (c < n)
 unfolding upTo

@@ -1,26 +1,25 @@
 -- The lookup, on any image and on a sound one.
 use mathlib.Core.Path.{_≡_, refl, sym, _∙_, ap, ap₂, subst}
-use mathlib.Core.Bool.{Bool, true, false}
-use mathlib.Core.Logic.{_⊎_, inl, inr, _↔_}
+use mathlib.Core.Bool.{true}
+use mathlib.Core.Logic.{_↔_}
 use mathlib.Core.Option.{Option, none, some}
-use mathlib.Core.List.{List, [], _∷_, _++_, List·Memᴰ, List·Memᴰ·head, List·Memᴰ·tail, List·Memᴰ·not-nil, Memᴰ·append-right}
-use Prim.Native.Nat.{ℕ, zero, suc, _≤_, _<_}
+use mathlib.Core.List.{List, [], _∷_, List·Memᴰ, List·Memᴰ·head, List·Memᴰ·tail, Memᴰ·append-right}
+use Prim.Native.Nat.{ℕ, zero, suc, _<_}
 use native.Mathlib.Omega.{arith}
 use lib.ListN.{length, getElem?}
 use Rattle.memory.specs.Words.{Memory}
-use Rattle.memory.specs.Search.{first}
 use Rattle.memory.specs.Apply.{isSome}
 use Rattle.tree.specs.Test.{Test, is, eq, _and_, holds}
 use Rattle.tree.specs.Layout.{Geometry}
 use Rattle.tree.specs.Path.{wayOf}
 use Rattle.tree.specs.Fingerprint.{Rule, fingerprint}
-use Rattle.tree.specs.Node.{wellFormed, held, frame, storedFingerprint}
+use Rattle.tree.specs.Node.{held, frame, storedFingerprint}
 use Rattle.tree.specs.Slots.{Filled}
-use Rattle.tree.specs.Reach.{Reaches, Holds, FrameOf}
+use Rattle.tree.specs.Reach.{Reaches, Holds}
 use Rattle.tree.specs.Sound.{Sound, SoundTree}
 use Rattle.tree.specs.Lookup.{Spot, spot, pathFrom, matches, foundAt, lookup, lookupOn, find}
-use Rattle.tree.specs.Laws.{Malformed, PathLaws, FirstAt, Match, LookupSays, LookupRule}
-use Rattle.tree.proofs.Cases.{true-not-false, Seen, seen, nothing, just, some-inj, none-some}
+use Rattle.tree.specs.Laws.{PathLaws, Match, LookupSays, LookupRule}
+use Rattle.tree.proofs.Cases.{true-not-false, seen, nothing, just, some-inj, none-some}
 use Rattle.tree.proofs.Tests.{says, said}
 use Rattle.tree.proofs.Assumed.{search-laws}
 use Rattle.tree.proofs.Ways.{length-way}
@@ -51,9 +50,11 @@ module _ (r : Rule) (g : Geometry) (m : Memory) where
   lookup-match : (f : ℕ) (ns : List ℕ) (n p : ℕ) → lookup r g m f ns ≡ some (spot n p) → List·Memᴰ n ns × (p < 64) × (matches r g m f n p ≡ true)
   unfolding lookup foundAt
   lookup-match f ns n p h =
-      let t = spot-laws (foundAt r g m f) (λ n. 64) ns .found n p .0 h in
-      (rw (t .split) (Memᴰ·append-right (t .above) (List·Memᴰ·head refl)), t .within,
-      rw (t .is) at (search-laws (matches r g m f n) 64 .holds (rw (t .is) (t .within))))
+      let t = spot-laws (foundAt r g m f) (λ n. 64) ns .found n p .0 h in (
+        rw (t .split) (Memᴰ·append-right (t .above) (List·Memᴰ·head refl)),
+        t .within,
+        rw (t .is) at (search-laws (matches r g m f n) 64 .holds (rw (t .is) (t .within))),
+      )
 
   match-lookup : (f : ℕ) (ns : List ℕ) → Match r g m f ns → lookup r g m f ns ≡ none → ⊥
   unfolding lookup foundAt
@@ -63,35 +64,44 @@ module _ (r : Rule) (g : Geometry) (m : Memory) where
       omega (arith, t .low)
 
   pub lookup-says : LookupSays r g m
-  lookup-says = record { yes = λ f ns. elim (seen (lookup r g m f ns)) [
-    nothing q ↦ (λ h. absurd (true-not-false h (ap isSome q)), λ t. absurd (match-lookup f ns t q))
-    | just a q ↦ (λ h. let t = lookup-match f ns (a .node) (a .place) q in record { node = a .node; place = a .place; member = t .0; low = t .1; is = t .2 }, λ t. some-is q) ] }
+  lookup-says = record {
+    yes = λ f ns. elim (seen (lookup r g m f ns)) [
+      | nothing q ↦ (λ h. absurd (true-not-false h (ap isSome q)), λ t. absurd (match-lookup f ns t q))
+      | just a q ↦
+          let t = lookup-match f ns (a .node) (a .place) q in
+          (λ h. record { node = a .node; place = a .place; member = t .0; low = t .1; is = t .2 }, λ t. some-is q)
+    ];
+  }
 
   -- what the lookup from a slot finds is held there, on any image
   pub find-holds : {s : ℕ} → Filled g m s → (f n p : ℕ) → find r g m s f ≡ some (spot n p)
       → (d : ℕ) × Holds g m s (wayOf d f) n p f × (storedFingerprint g m n p ≡ fingerprint r f)
   unfolding find
   find-holds {s} b f n p h = elim (seen (pathFrom g m s f)) [
-    nothing q ↦ none-some (sym (ap (lookupOn r g m f) q) ∙ h)
+    | nothing q ↦ none-some (sym (ap (lookupOn r g m f) q) ∙ h)
     | just ns q ↦
-      let t = lookup-match f ns n p (sym (ap (lookupOn r g m f) q) ∙ h) in
-      let i = index-of (t .0) in
-      let a = match-facts f n p .0 (t .2) in
-      (i .0, record { there = path-laws f b .nodes ns q (i .0) n .0 (i .1); place = t .1; set = a .0; is = a .1 .0 }, a .1 .1) ]
+        let t = lookup-match f ns n p (sym (ap (lookupOn r g m f) q) ∙ h) in
+        let i = index-of (t .0) in
+        let a = match-facts f n p .0 (t .2) in
+        (i .0, record { there = path-laws f b .nodes ns q (i .0) n .0 (i .1); place = t .1; set = a .0; is = a .1 .0 }, a .1 .1)
+  ]
 
   -- where no node is malformed, a frame held on its path with its fingerprint is found, if not there then elsewhere
   pub holds-found : {s : ℕ} → SoundTree g m s → (d : ℕ) {n p f : ℕ} → Holds g m s (wayOf d f) n p f
       → storedFingerprint g m n p ≡ fingerprint r f → (t : Spot) × (find r g m s f ≡ some t)
   unfolding find
   holds-found {s} a d {n} {p} {f} x e = elim (seen (pathFrom g m s f)) [
-    nothing q ↦
-      let t = laws .malformed .0 q in
-      absurd (true-not-false (rw (length-way (t .level) f) at (a .well-formed (t .there))) (t .is))
+    | nothing q ↦
+        let t = laws .malformed .0 q in
+        absurd (true-not-false (rw (length-way (t .level) f) at (a .well-formed (t .there))) (t .is))
     | just ns q ↦
-      let k : Match r g m f ns = record { node = n; place = p; member = of-index ns d (laws .nodes ns q d n .1 (x .there)); low = x .place; is = match-facts f n p .1 (x .set, (x .is, e)) } in
-      elim (seen (lookup r g m f ns)) [
-        nothing z ↦ absurd (match-lookup f ns k z)
-        | just t z ↦ (t, ap (lookupOn r g m f) q ∙ z) ] ]
+        let on = of-index ns d (laws .nodes ns q d n .1 (x .there)) in
+        let k : Match r g m f ns = record { node = n; place = p; member = on; low = x .place; is = match-facts f n p .1 (x .set, (x .is, e)) } in
+        elim (seen (lookup r g m f ns)) [
+          | nothing z ↦ absurd (match-lookup f ns k z)
+          | just t z ↦ (t, ap (lookupOn r g m f) q ∙ z)
+        ]
+  ]
     where
       laws : PathLaws g m s f
       laws = path-laws f (slot-filled (x .there))
@@ -102,10 +112,13 @@ module _ (r : Rule) (g : Geometry) (m : Memory) where
   pub lookup-rule : {s : ℕ} → Sound r g m → Filled g m s → LookupRule r g m s
   lookup-rule {s} d b = record {
     at = λ f n p. (λ h. let t = find-holds b f n p h in (wayOf (t .0) f, t .1), λ t. held-at f n p (t .0) (t .1));
-    yes = λ f. (λ h. elim (seen (find r g m s f)) [
-      nothing q ↦ absurd (true-not-false h (ap isSome q))
-      | just t q ↦ let x = find-holds b f (t .node) (t .place) q in record { way = wayOf (x .0) f; node = t .node; place = t .place; holds = x .1 } ],
-      λ t. some-is (held-at f (t .node) (t .place) (t .way) (t .holds)));
+    yes = λ f. (
+      λ h. elim (seen (find r g m s f)) [
+        | nothing q ↦ absurd (true-not-false h (ap isSome q))
+        | just t q ↦ let x = find-holds b f (t .node) (t .place) q in record { way = wayOf (x .0) f; node = t .node; place = t .place; holds = x .1 }
+      ],
+      λ t. some-is (held-at f (t .node) (t .place) (t .way) (t .holds)),
+    );
   }
     where
       held-at : (f n p : ℕ) (w : List ℕ) → Holds g m s w n p f → find r g m s f ≡ some (spot n p)

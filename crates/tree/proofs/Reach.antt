@@ -1,12 +1,11 @@
 -- Ways: a way leads to one node, and there are 31 steps at most.
 use mathlib.Core.Path.{_≡_, sym, _∙_, ap}
-use mathlib.Core.List.{List, [], _∷_}
-use Prim.Native.Nat.{ℕ, suc, _+_, _-_, _≤_, _<_}
+use mathlib.Core.List.{List}
+use Prim.Native.Nat.{ℕ, _+_, _-_, _≤_}
 use native.Mathlib.Omega.{arith}
 use lib.ListN.{length}
 use Rattle.memory.specs.Words.{Memory}
-use Rattle.tree.specs.Layout.{Geometry, nextAt, rootAt}
-use Rattle.tree.specs.Path.{fanout}
+use Rattle.tree.specs.Layout.{Geometry, nextAt}
 use Rattle.tree.specs.Slots.{Filled}
 use Rattle.tree.specs.Reach.{Reaches, root, down}
 use Rattle.tree.proofs.Ways.{fanout-depth}

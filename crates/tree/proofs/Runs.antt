@@ -1,8 +1,8 @@
 -- The lowest run of adjacent free nodes.
-use mathlib.Core.Path.{_≡_, sym, _∙_, ap}
-use mathlib.Core.Bool.{true, false}
-use mathlib.Core.Logic.{_⊎_, inl, inr, _↔_}
-use Prim.Native.Nat.{ℕ, _+_, _≤_, _<_}
+use mathlib.Core.Path.{_≡_}
+use mathlib.Core.Bool.{true}
+use mathlib.Core.Logic.{_↔_}
+use Prim.Native.Nat.{ℕ, _+_, _<_}
 use native.Mathlib.Omega.{arith}
 use native.Mathlib.Decide.{decLt}
 use Rattle.memory.specs.Words.{Memory, marked}
@@ -20,9 +20,16 @@ module _ (g : Geometry) (map : Memory) (k : ℕ) where
   unfolding isFreeRun
   free-run n =
       let l = search-laws (λ i. marked map (n + i)) k in
-      let t : Test = le (n + k) (g .nodes) and eq (first (λ i. marked map (n + i)) k) k in
-      (λ h. let a = says t h in record { inside = a .0; free = λ i b. l .none-before i (omega (arith, a .1)) },
-      λ a. said t (a .inside, elim (decLt (first (λ i. marked map (n + i)) k) k) [ yes b ↦ absurd (true-not-false (l .holds b) (a .free _ b)) | no b ↦ omega (arith, l .within) ]))
+      let t : Test = le (n + k) (g .nodes) and eq (first (λ i. marked map (n + i)) k) k in (
+        λ h. let a = says t h in record { inside = a .0; free = λ i b. l .none-before i (omega (arith, a .1)) },
+        λ a. said t (
+          a .inside,
+          elim (decLt (first (λ i. marked map (n + i)) k) k) [
+            | yes b ↦ absurd (true-not-false (l .holds b) (a .free _ b))
+            | no b ↦ omega (arith, l .within)
+          ],
+        ),
+      )
 
   pub run-laws : RunLaws g map k
   unfolding freeRun
@@ -32,7 +39,7 @@ module _ (g : Geometry) (map : Memory) (k : ℕ) where
         free = free-run;
         found = λ h. free-run (freeRun g map k) .0 (l .holds h);
         lowest = λ n h a.
-          let b : n < g .nodes = omega (arith, a .inside) in
-          let c = l .least n b (free-run n .1 a) in
-          (c, omega arith);
+            let b : n < g .nodes = omega (arith, a .inside) in
+            let c = l .least n b (free-run n .1 a) in
+            (c, omega arith);
       }

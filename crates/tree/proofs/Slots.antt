@@ -1,14 +1,13 @@
 -- Reel slots: the filled ones, a reel's, the lowest empty one.
-use mathlib.Core.Path.{_≡_, refl, sym, _∙_, ap}
-use mathlib.Core.Bool.{Bool, true, false, not}
+use mathlib.Core.Path.{_≡_, refl}
+use mathlib.Core.Bool.{true, not}
 use mathlib.Core.Logic.{_↔_}
-use mathlib.Core.List.{List, List·Memᴰ}
-use Prim.Native.Nat.{ℕ, _≤_, _<_}
+use mathlib.Core.List.{List·Memᴰ}
+use Prim.Native.Nat.{ℕ, _<_}
 use native.Mathlib.Omega.{arith}
 use lib.Dec.{eqb}
 use borrow.Author.Tests.{eqb-true, eq-eqb, not-true, not-false}
 use Rattle.memory.specs.Words.{Memory}
-use Rattle.memory.specs.Search.{first}
 use Rattle.memory.specs.Laws.{SearchLaws}
 use Rattle.tree.specs.Test.{Test, is, eq, _and_, holds}
 use Rattle.tree.specs.Lists.{upTo, Distinct}
@@ -31,8 +30,10 @@ filled-test m s = (λ h. nonzero (m (rootAt s)) (not-true (eqb (m (rootAt s)) 0)
 module _ (g : Geometry) (m : Memory) where
   pub filled-slots : {s : ℕ} → List·Memᴰ s (filledSlots g m) ↔ Filled g m s
   unfolding filledSlots
-  filled-slots {s} = (λ x. let t = kept (filled m) (upTo (g .slots)) x in record { inside = upTo-members (g .slots) .0 (t .0); linked = filled-test m s .0 (t .1) },
-    λ b. keeps (filled m) (upTo-members (g .slots) .1 (b .inside)) (filled-test m s .1 (b .linked)))
+  filled-slots {s} = (
+    λ x. let t = kept (filled m) (upTo (g .slots)) x in record { inside = upTo-members (g .slots) .0 (t .0); linked = filled-test m s .0 (t .1) },
+    λ b. keeps (filled m) (upTo-members (g .slots) .1 (b .inside)) (filled-test m s .1 (b .linked)),
+  )
 
   pub distinct-slots : Distinct (λ s. s) (filledSlots g m)
   unfolding filledSlots
@@ -50,7 +51,9 @@ module _ (g : Geometry) (m : Memory) where
   slot-laws = record {
     listed = filled-slots;
     listed-once = distinct-slots;
-    reel = λ reel h. let t = says (isReel reel (slotOf g m reel)) (reel-search reel .holds h) in (record { inside = h; linked = filled-test m (slotOf g m reel) .0 (t .0) }, t .1);
+    reel = λ reel h.
+        let t = says (isReel reel (slotOf g m reel)) (reel-search reel .holds h) in
+        (record { inside = h; linked = filled-test m (slotOf g m reel) .0 (t .0) }, t .1);
     lowest = λ {s} b. reel-search (m (reelAt s)) .least s (b .inside) (said (isReel (m (reelAt s)) s) (filled-test m s .1 (b .linked), refl));
     empty = λ h. eqb-true (m (rootAt (emptySlot g m))) 0 (not-false _ (not-true _ (search-laws (λ s. not (filled m s)) (g .slots) .holds h)));
     lowest-empty = λ s h e. search-laws (λ s. not (filled m s)) (g .slots) .least s h (rw (eq-eqb (m (rootAt s)) 0 e));

@@ -1,14 +1,13 @@
 -- The first node of a list at which a search ends below its bound.
-use mathlib.Core.Path.{_≡_, refl, sym, _∙_, ap}
-use mathlib.Core.Bool.{true, false, cond}
-use mathlib.Core.Logic.{_⊎_, inl, inr, _↔_}
-use mathlib.Core.Option.{Option, none, some}
+use mathlib.Core.Path.{_≡_, refl, sym, ap}
+use mathlib.Core.Bool.{true, false}
+use mathlib.Core.Logic.{_⊎_, inl, inr}
+use mathlib.Core.Option.{none, some}
 use mathlib.Core.List.{List, [], _∷_, _++_, List·Memᴰ, List·Memᴰ·head, List·Memᴰ·tail, List·Memᴰ·cases-cons, List·Memᴰ·not-nil}
 use Prim.Native.Nat.{ℕ, _≤_, _<_}
-use native.Mathlib.Omega.{arith}
 use lib.Dec.{ltb}
 use borrow.Author.Tests.{ltb-true, ltb-false, lt-ltb, le-ltb}
-use Rattle.tree.specs.Lookup.{Spot, spot, firstSpot}
+use Rattle.tree.specs.Lookup.{spot, firstSpot}
 use Rattle.tree.specs.Laws.{FirstAt, SpotLaws}
 use Rattle.tree.proofs.Cases.{test, some-inj, none-some}
 
@@ -24,9 +23,14 @@ module _ (search bound : ℕ → ℕ) where
           let q = some-inj (rw e at h) in
           let qn : x ≡ n = ap (λ t. t .node) q in
           let qp : search x ≡ p = ap (λ t. t .place) q in
-          rw (← qn) (record { above = []; below = ns; split = refl; is = qp; within = rw (← qp) (ltb-true (search x) (bound x) e); none-above = λ y z. absurd (List·Memᴰ·not-nil z) })
+          let l : p < bound x = rw (← qp) (ltb-true (search x) (bound x) e) in
+          rw (← qn) (record { above = []; below = ns; split = refl; is = qp; within = l; none-above = λ y z. absurd (List·Memᴰ·not-nil z) })
       go (inr e) ih = let t = ih (rw e at h) in record {
-        above = x ∷ t .above; below = t .below; split = ap (λ l. x ∷ l) (t .split); is = t .is; within = t .within;
+        above = x ∷ t .above;
+        below = t .below;
+        split = ap (λ l. x ∷ l) (t .split);
+        is = t .is;
+        within = t .within;
         none-above = λ y z. elim (List·Memᴰ·cases-cons z) [ inl q ↦ rw q (ltb-false (search x) (bound x) e) | inr z' ↦ t .none-above y z' ];
       }
 
@@ -40,8 +44,9 @@ module _ (search bound : ℕ → ℕ) where
   unfolding firstSpot
   nowhere [] h n z = absurd (List·Memᴰ·not-nil z)
   nowhere (x ∷ ns) h n z = elim (test (ltb (search x) (bound x))) [
-    inl e ↦ none-some (sym (rw e at h))
-    | inr e ↦ elim (List·Memᴰ·cases-cons z) [ inl q ↦ rw q (ltb-false (search x) (bound x) e) | inr z' ↦ nowhere ns (rw e at h) n z' ] ]
+    | inl e ↦ none-some (sym (rw e at h))
+    | inr e ↦ elim (List·Memᴰ·cases-cons z) [ inl q ↦ rw q (ltb-false (search x) (bound x) e) | inr z' ↦ nowhere ns (rw e at h) n z' ]
+  ]
 
   was-nowhere : (ns : List ℕ) → ((n : ℕ) → List·Memᴰ n ns → bound n ≤ search n) → firstSpot search bound ns ≡ none
   unfolding firstSpot

@@ -1,9 +1,9 @@
 -- The test of a reel's tree, and of all trees together, decides that no node is malformed or reached twice.
-use mathlib.Core.Path.{_≡_, refl, sym, _∙_, ap, subst}
-use mathlib.Core.Bool.{Bool, true, false, not, _&&_}
-use mathlib.Core.Logic.{_⊎_, inl, inr, _↔_}
-use mathlib.Core.List.{List, [], _∷_, _++_, flatMap, List·Memᴰ}
-use Prim.Native.Nat.{ℕ, zero, suc, _+_, _-_, _≤_, _<_}
+use mathlib.Core.Path.{_≡_, refl, sym, _∙_, ap}
+use mathlib.Core.Bool.{true}
+use mathlib.Core.Logic.{_↔_}
+use mathlib.Core.List.{List, _∷_, _++_, flatMap, List·Memᴰ}
+use Prim.Native.Nat.{ℕ, zero, suc}
 use native.Mathlib.Omega.{arith}
 use lib.ListN.{length, length-append, drop}
 use lib.Seq.{drop-append-seam}
@@ -37,21 +37,23 @@ module _ (g : Geometry) (m : Memory) where
   distinct-subtree a zero r = empty
   distinct-subtree {s} a (suc left) {w} {n} r =
       onto {x = visit w n} (λ y z q.
-        let t = within below (upTo (children g m (length w) n)) z in
-        let b = under (t .from) (t .member) y (t .inside) in
-        let k = a .once (b .there) (rw (sym q) at r) in
-        omega (arith, sym (length-append (b .more) (t .from ∷ w)) ∙ ap length (sym (b .is) ∙ k)))
+      let t = within below (upTo (children g m (length w) n)) z in
+      let b = under (t .from) (t .member) y (t .inside) in
+      let k = a .once (b .there) (rw (sym q) at r) in
+      omega (arith, sym (length-append (b .more) (t .from ∷ w)) ∙ ap length (sym (b .is) ∙ k)))
       (distinct-parts below (distinct-upTo (children g m (length w) n)) (λ c x. distinct-subtree a left (step c x)) (λ c c' v v' x x' z z' q.
-        let b = under c x v z in
-        let b' = under c' x' v' z' in
-        let e = sym (b .is) ∙ a .once (b .there) (rw (sym q) at (b' .there)) ∙ b' .is in
-        let k = same-end (b .more) (b' .more) (c ∷ w) (c' ∷ w) refl e in
-        cc))
+      let b = under c x v z in
+      let b' = under c' x' v' z' in
+      let e = sym (b .is) ∙ a .once (b .there) (rw (sym q) at (b' .there)) ∙ b' .is in
+      let k = same-end (b .more) (b' .more) (c ∷ w) (c' ∷ w) refl e in
+      cc))
     where
       below : ℕ → List Visit
       below c = subtree g m left (c ∷ w) (childOf g m n c)
+
       step : (c : ℕ) → List·Memᴰ c (upTo (children g m (length w) n)) → Reaches g m s (c ∷ w) (childOf g m n c)
       step c x = let k = children-lt g m (length w) n c .0 (upTo-members _ .0 x) in down r (k .0) (k .1) refl
+
       under : (c : ℕ) → List·Memᴰ c (upTo (children g m (length w) n)) → (v : Visit) → List·Memᴰ v (below c) → Below g m s (c ∷ w) v
       under c x v z = subtree-below g m s left (step c x) v z
 
@@ -70,17 +72,20 @@ module _ (g : Geometry) (m : Memory) where
   unfolding walkable
   walked-once {vs} h = distinct-says (λ v. v .node) vs (and-true (every (λ v. wellFormed g m (length (v .way)) (v .node)) vs) _ h .1)
 
-  walks : (vs : List Visit) → ((v : Visit) → List·Memᴰ v vs → wellFormed g m (length (v .way)) (v .node) ≡ true) → Distinct (λ v. v .node) vs → walkable g m vs ≡ true
+  walks : (vs : List Visit) → ((v : Visit) → List·Memᴰ v vs → wellFormed g m (length (v .way)) (v .node) ≡ true) → Distinct (λ v. v .node) vs
+      → walkable g m vs ≡ true
   unfolding walkable
   walks vs h d = true-and (at-every (λ v. wellFormed g m (length (v .way)) (v .node)) vs h) (distinct-said (λ v. v .node) d)
 
   pub decides-tree : {s : ℕ} → Filled g m s → (isSoundTree g m s ≡ true) ↔ SoundTree g m s
   unfolding isSoundTree
-  decides-tree {s} b = (λ h. record {
-    well-formed = λ r. formed-at h (visited g m b _ _ .1 r);
-    once = λ r r'. ap (λ v. v .way) (same-element (walked-once h) (visited g m b _ _ .1 r) (visited g m b _ _ .1 r') refl);
-  },
-    λ a. walks (tree g m s) (λ v x. a .well-formed (visited g m b (v .way) (v .node) .0 x)) (distinct-tree a b))
+  decides-tree {s} b = (
+    λ h. record {
+      well-formed = λ r. formed-at h (visited g m b _ _ .1 r);
+      once = λ r r'. ap (λ v. v .way) (same-element (walked-once h) (visited g m b _ _ .1 r) (visited g m b _ _ .1 r') refl);
+    },
+    λ a. walks (tree g m s) (λ v x. a .well-formed (visited g m b (v .way) (v .node) .0 x)) (distinct-tree a b),
+  )
 
   -- all trees together: the first two clauses of soundness
   pub record SoundTrees : Type 0 where
@@ -92,21 +97,29 @@ module _ (g : Geometry) (m : Memory) where
 
   pub decides-trees : (walkable g m (allTrees g m) ≡ true) ↔ SoundTrees
   unfolding allTrees
-  decides-trees = (λ h. record {
-    well-formed = λ r. formed-at h (together (tree g m) (slot r) (here r));
-    once = λ {s} {s'} {w} {w'} {n} r r'. same s s' w w' n h r r' (same-part (tree g m) (walked-once h) (slot r) (here r) (slot r') (here r') refl);
-  },
+  decides-trees = (
+    λ h. record {
+      well-formed = λ r. formed-at h (together (tree g m) (slot r) (here r));
+      once = λ {s} {s'} {w} {w'} {n} r r'. same s s' w w' n h r r' (same-part (tree g m) (walked-once h) (slot r) (here r) (slot r') (here r') refl);
+    },
     λ a. walks (allTrees g m) (λ v x. let t = within (tree g m) (filledSlots g m) x in a .well-formed (there t))
-    (distinct-parts (tree g m) (distinct-slots g m) (λ s x. distinct-tree (of-trees a) (filled-slots g m .0 x)) (λ s s' v v' x x' z z' q.
-      a .once (visited g m (filled-slots g m .0 x) (v .way) (v .node) .0 z) (rw (sym q) at (visited g m (filled-slots g m .0 x') (v' .way) (v' .node) .0 z')) .0)))
+        (distinct-parts (tree g m) (distinct-slots g m) (λ s x. distinct-tree (of-trees a) (filled-slots g m .0 x)) (λ s s' v v' x x' z z' q.
+        let r = visited g m (filled-slots g m .0 x) (v .way) (v .node) .0 z in
+        let r' = visited g m (filled-slots g m .0 x') (v' .way) (v' .node) .0 z' in
+        a .once r (rw (sym q) at r') .0)),
+  )
     where
       slot : {s : ℕ} {w : List ℕ} {n : ℕ} → Reaches g m s w n → List·Memᴰ s (filledSlots g m)
       slot r = filled-slots g m .1 (slot-filled r)
+
       here : {s : ℕ} {w : List ℕ} {n : ℕ} → Reaches g m s w n → List·Memᴰ (visit w n) (tree g m s)
       here {s} {w} {n} r = visited g m (slot-filled r) w n .1 r
+
       there : {v : Visit} (t : Within (tree g m) (filledSlots g m) v) → Reaches g m (t .from) (v .way) (v .node)
       there {v} t = visited g m (filled-slots g m .0 (t .member)) (v .way) (v .node) .0 (t .inside)
-      same : (s s' : ℕ) (w w' : List ℕ) (n : ℕ) → walkable g m (flatMap (tree g m) (filledSlots g m)) ≡ true → Reaches g m s w n → Reaches g m s' w' n → s ≡ s' → (s ≡ s') × (w ≡ w')
+
+      same : (s s' : ℕ) (w w' : List ℕ) (n : ℕ) → walkable g m (flatMap (tree g m) (filledSlots g m)) ≡ true → Reaches g m s w n
+          → Reaches g m s' w' n → s ≡ s' → (s ≡ s') × (w ≡ w')
       same s s' w w' n h r r' q =
           let k = rw (← q) at (here r') in
           (q, ap (λ v. v .way) (same-element (distinct-part (tree g m) (walked-once h) (slot r)) (here r) k refl))

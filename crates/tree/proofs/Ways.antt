@@ -1,9 +1,9 @@
 -- A child number is one digit of the frame, so a way fixes the frame's low bits.
 use mathlib.Core.Path.{_≡_, refl, sym, _∙_, ap, ap₂}
-use mathlib.Core.Bool.{true, false, cond}
-use mathlib.Core.Logic.{_⊎_, inl, inr, _↔_}
-use mathlib.Core.List.{List, [], _∷_}
-use Prim.Native.Nat.{ℕ, zero, suc, _+_, _-_, _*_, _/_, _%_, _^_, _≤_, _<_}
+use mathlib.Core.Bool.{cond}
+use mathlib.Core.Logic.{inl, inr, _↔_}
+use mathlib.Core.List.{_∷_}
+use Prim.Native.Nat.{ℕ, zero, suc, _+_, _-_, _*_, _/_, _%_, _^_, _<_}
 use native.Mathlib.Omega.{arith}
 use lib.ListN.{length}
 use lib.Dec.{ltb}
@@ -25,12 +25,13 @@ bitsTo-suc k = elim (test (ltb k 3)) [ inl e ↦ rw e (omega (arith, ltb-true k 
 child-digit : (k f : ℕ) → child k f ≡ f / 2 ^ bitsTo k % 2 ^ width k
 unfolding child bit field width
 child-digit k f = elim (test (ltb k 3)) [
-  inl e ↦ let a : k + (k - 3) ≡ k = omega (arith, ltb-true k 3 e) in rw (e, a)
+  | inl e ↦ let a : k + (k - 3) ≡ k = omega (arith, ltb-true k 3 e) in rw (e, a)
   | inr e ↦
-    let h = ltb-false k 3 e in
-    let a : 2 * k - 3 ≡ k + (k - 3) = omega arith in
-    let b : 2 * k - 2 ≡ k + (k - 3) + 1 = omega arith in
-    rw (e, a, b, ← shr-shr f (k + (k - 3)) 1) (omega arith) ]
+      let h = ltb-false k 3 e in
+      let a : 2 * k - 3 ≡ k + (k - 3) = omega arith in
+      let b : 2 * k - 2 ≡ k + (k - 3) + 1 = omega arith in
+      rw (e, a, b, ← shr-shr f (k + (k - 3)) 1) (omega arith)
+]
 
 fanout-pow : (k : ℕ) → k < 31 → 2 ^ width k ≡ fanout k
 unfolding fanout width
@@ -46,8 +47,9 @@ child-lt k f h = elim (test (ltb k 3)) [ inl e ↦ rw e (omega arith) | inr e �
 pub fanout-depth : (k c : ℕ) → c < fanout k → k < 31
 unfolding fanout
 fanout-depth k c h = elim (test (ltb k 3)) [
-  inl e ↦ omega (arith, ltb-true k 3 e)
-  | inr e ↦ elim (test (ltb k 31)) [ inl e' ↦ ltb-true k 31 e' | inr e' ↦ let z : c < 0 = rw (e, e') at h in absurd (omega arith) ] ]
+  | inl e ↦ omega (arith, ltb-true k 3 e)
+  | inr e ↦ elim (test (ltb k 31)) [ inl e' ↦ ltb-true k 31 e' | inr e' ↦ let z : c < 0 = rw (e, e') at h in absurd (omega arith) ]
+]
 
 pub length-way : (k f : ℕ) → length (wayOf k f) ≡ k
 unfolding wayOf

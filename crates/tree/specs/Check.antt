@@ -1,11 +1,11 @@
 -- Soundness as the operations compute it; Laws.antt states that this decides `Sound`.
-use mathlib.Core.Bool.{Bool, true, false, _&&_}
+use mathlib.Core.Bool.{Bool, false, _&&_}
 use mathlib.Core.Option.{Option, none, some}
 use mathlib.Core.List.{List}
 use Prim.Native.Nat.{ℕ}
 use lib.ListN.{length}
 use Rattle.memory.specs.Words.{Memory}
-use Rattle.tree.specs.Test.{Test, eq, _and_, holds}
+use Rattle.tree.specs.Test.{eq, _and_, holds}
 use Rattle.tree.specs.Lists.{every, distinct}
 use Rattle.tree.specs.Layout.{Geometry, reelAt}
 use Rattle.tree.specs.Fingerprint.{Rule}

@@ -1,25 +1,27 @@
 -- What is proved of this layer's definitions: statements alone, each with its proof in proofs/.
 use mathlib.Core.Path.{_≡_}
 use mathlib.Core.Bool.{Bool, true, false, not}
-use mathlib.Core.Logic.{_↔_}
-use mathlib.Core.Option.{Option, none, some}
+use mathlib.Core.Logic.{_⊎_, _↔_}
+use mathlib.Core.Option.{none, some}
 use mathlib.Core.List.{List, _∷_, _++_, List·Memᴰ}
-use Prim.Native.Nat.{ℕ, _+_, _/_, _%_, _^_, _≤_, _<_}
+use Prim.Native.Nat.{ℕ, suc, _+_, _/_, _%_, _^_, _≤_, _<_}
 use lib.ListN.{length, getElem?}
 use Rattle.memory.specs.Words.{Memory, marked}
 use Rattle.memory.specs.Search.{first}
 use Rattle.memory.specs.Apply.{isSome}
 use Rattle.tree.specs.Lists.{Distinct}
-use Rattle.tree.specs.Layout.{Geometry, reelAt, rootAt}
+use Rattle.tree.specs.Layout.{Geometry, reelAt, rootAt, nextAt, locateAt, setAt, levelAt, sizeAt}
 use Rattle.tree.specs.Path.{fanout, child, wayOf, bitsTo}
 use Rattle.tree.specs.Fingerprint.{Rule, folded, tableEntry, OnceEach}
-use Rattle.tree.specs.Node.{wellFormed, held, frame}
+use Rattle.tree.specs.Node.{childOf, wellFormed, held, frame}
 use Rattle.tree.specs.Slots.{Filled, filledSlots, slotOf, emptySlot}
 use Rattle.tree.specs.Reach.{Reaches, Holds, FrameOf}
 use Rattle.tree.specs.Sound.{Sound, SoundTree}
-use Rattle.tree.specs.Lookup.{Spot, spot, firstSpot, pathFrom, matches, lookup, find, isFreeRun, freeRun}
-use Rattle.tree.specs.Subtree.{Visit, visit, tree, framesIn, listing}
+use Rattle.tree.specs.Lookup.{spot, firstSpot, pathFrom, matches, lookup, find, isFreeRun, freeRun}
+use Rattle.tree.specs.Subtree.{visit, tree, framesIn, listing}
 use Rattle.tree.specs.Check.{isSoundTree, isSound}
+use Rattle.tree.specs.Same.{Stores}
+use Rattle.tree.specs.Changes.{Opens, NewRoot, Links, NewChild, Grown, Retired, Commits, Committed, Removes, Removed}
 
 -- ---- children and ways
 
@@ -35,6 +37,20 @@ pub record ReachLaws (g : Geometry) (m : Memory) : Type 0 where
   pub one-node : {s : ℕ} {w : List ℕ} {n n' : ℕ} → Reaches g m s w n → Reaches g m s w n' → n ≡ n'
   pub depth : {s : ℕ} {w : List ℕ} {n : ℕ} → Reaches g m s w n → length w ≤ 31
   pub slot-filled : {s : ℕ} {w : List ℕ} {n : ℕ} → Reaches g m s w n → Filled g m s
+
+-- ---- nodes
+
+-- a well-formed node at depth d, fact by fact
+pub record WellFormed (g : Geometry) (m : Memory) (d n : ℕ) : Type 0 where
+  pub inside : n < g .nodes
+  pub level : m (levelAt g n) ≡ d
+  pub size : (m (sizeAt g n) ≡ 64) ⊎ ((d ≡ 0) × ((m (sizeAt g n) ≡ 16) ⊎ (m (sizeAt g n) ≡ 32)))
+  pub locate : m (locateAt g n) < 2 ^ m (sizeAt g n)
+  pub set : m (setAt g n) < 2 ^ m (sizeAt g n)
+  pub next : (m (nextAt g n) ≡ 0) ⊎ ((m (sizeAt g n) ≡ 64) × ((d < 31) × (childOf g m n (fanout d) ≤ g .nodes)))
+
+pub record NodeLaws (g : Geometry) (m : Memory) : Type 0 where
+  pub facts : (d n : ℕ) → (wellFormed g m d n ≡ true) ↔ WellFormed g m d n
 
 -- ---- slots
 
@@ -158,3 +174,12 @@ pub record SameLaws (g : Geometry) (m m' : Memory) : Type 0 where
   pub listings : {s : ℕ} → Filled g m s → listing g m s ≡ listing g m' s
   -- a sound memory and one with the same in which every node reached is well formed are sound together
   pub sound : {r : Rule} → Sound r g m → ((s : ℕ) (w : List ℕ) (n : ℕ) → Reaches g m s w n → wellFormed g m' (length w) n ≡ true) → Sound r g m'
+
+-- ---- the changes of one word
+
+pub record ChangeLaws (r : Rule) (g : Geometry) (m m' : Memory) (sound : Sound r g m) : Type 0 where
+  pub opened : {s n : ℕ} → Opens g m s n → Stores m (rootAt s) (suc n) m' → Grown r g m m' (NewRoot s n)
+  pub linked : {s : ℕ} {w : List ℕ} {n start : ℕ} → Links g m s w n start → Stores m (nextAt g n) (suc start) m' → Grown r g m m' (NewChild s w start)
+  pub retired : {s : ℕ} → Filled g m s → Stores m (rootAt s) 0 m' → Retired r g m m' s
+  pub committed : {s : ℕ} {w : List ℕ} {n p f v : ℕ} → Commits r g m s w n p f v → Stores m (setAt g n) v m' → Committed r g m m' s w n p f
+  pub removed : {s : ℕ} {w : List ℕ} {n p v : ℕ} → Removes g m s w n p v → Stores m (setAt g n) v m' → Removed r g m m' n p

@@ -11,6 +11,7 @@ pub mod Lookup
 pub mod Subtree
 pub mod Check
 pub mod Same
+pub mod Changes
 pub mod Laws
 pub mod Memory
 pub mod Pool

@@ -6,7 +6,7 @@ use Prim.Native.Nat.{ℕ, zero, suc, _+_}
 use lib.Dec.{eqb, ltb}
 use Rattle.memory.specs.Words.{Memory, isSet, marked}
 use Rattle.memory.specs.Search.{first}
-use Rattle.tree.specs.Test.{Test, is, le, eq, _and_, holds}
+use Rattle.tree.specs.Test.{is, le, eq, _and_, holds}
 use Rattle.tree.specs.Layout.{Geometry, nextAt, locateAt, sizeAt}
 use Rattle.tree.specs.Path.{levels, child}
 use Rattle.tree.specs.Fingerprint.{Rule, fingerprint}

@@ -5,7 +5,7 @@ use Prim.Native.Nat.{ℕ, _-_, _<_}
 use lib.Dec.{eqb}
 use Rattle.memory.specs.Words.{Memory}
 use Rattle.memory.specs.Search.{first}
-use Rattle.tree.specs.Test.{Test, is, eq, _and_, holds}
+use Rattle.tree.specs.Test.{is, eq, _and_, holds}
 use Rattle.tree.specs.Lists.{upTo, keep}
 use Rattle.tree.specs.Layout.{Geometry, reelAt, rootAt}
 

@@ -25,3 +25,5 @@ pub mod Fingerprints
 pub mod Pigeon
 pub mod Level
 pub mod Laws
+pub mod Memory
+pub mod StoreLists

@@ -6,3 +6,4 @@ pub mod Done
 pub mod Settled
 pub mod Mended
 pub mod Recovery
+pub mod Assembly

@@ -5,14 +5,15 @@ use mathlib.Core.List.{List, [], _∷_, List·Memᴰ, List·Memᴰ·head, List·
 use Prim.Native.Nat.{ℕ, _<_}
 use native.Mathlib.Omega.{arith}
 use native.Mathlib.Decide.{ℕ-discrete}
-use lib.ListN.{length, set, length-set}
+use lib.ListN.{length, set, drop, length-set}
 use lib.Seq.{getD-set-same, getD-set-other}
 use Rattle.memory.specs.Words.{reads}
-use Rattle.memory.specs.Script.{Store, stores, segmented}
-use Rattle.memory.specs.Crash.{apply, CrashImage}
+use Rattle.memory.specs.Script.{Entry, Store, stores, segmented}
+use Rattle.memory.specs.Crash.{apply, hasBarrier, CrashImage, passed}
 use Rattle.memory.proofs.Laws.{crash-laws}
 use Rattle.memory.proofs.Stores.{content}
 use Rattle.memory.proofs.Segments.{store-of}
+use Rattle.tree.proofs.Cases.{test, true-not-false}
 
 -- a word is old or holds one of the stores
 pub stored : (m : List ℕ) (seg : List Store) (i : ℕ)
@@ -41,3 +42,7 @@ apply-none m = refl
 pub crash-none : (m : List ℕ) (k : ℕ) (m' : List ℕ) → CrashImage m (segmented []) k m' → m' ≡ m
 unfolding segmented
 crash-none m k m' c = let z : k ≡ 0 = omega (arith, c .within) in crash-laws .none-yet m [] m' .0 (rw z at c)
+
+-- after k entries a barrier is left to pass, or none is
+pub passed-or : (es : List Entry) (k : ℕ) → passed es k ⊎ (passed es k → ⊥)
+passed-or es k = elim (test (hasBarrier (drop k es))) [ inl e ↦ inr (λ q. true-not-false e q) | inr e ↦ inl e ]

@@ -1,30 +1,28 @@
 -- Demands 2 and 3 from what each operation does to a book that agrees with a table.
 use mathlib.Core.Path.{_≡_, refl, sym, _∙_, ap, ap₂, subst}
-use mathlib.Core.Bool.{Bool, true, false, cond}
+use mathlib.Core.Bool.{cond}
 use mathlib.Core.Logic.{_⊎_, inl, inr, _≢_}
-use mathlib.Core.List.{List, []}
+use mathlib.Core.List.{List}
 use Prim.Native.Nat.{ℕ}
 use native.Mathlib.Decide.{ℕ-discrete}
-use native.Mathlib.Omega.{arith}
-use lib.ListN.{length}
 use lib.Seq.{ext-getD}
 use lib.Dec.{eqb}
 use Rattle.tree.specs.Memory.{reads, segmented, apply, CrashImage, passed, Fit}
 use Rattle.tree.specs.Layout.{Geometry, mapWords, geometryOf}
-use Rattle.tree.proofs.Cases.{test}
 use Rattle.tree.proofs.Memory.{crash-laws}
 use Rattle.tree.proofs.StoreLists.{crash-none, passed-or}
-use Rattle.book.specs.State.{State, Operation, format, recover, openReel, claim, fill, commit, abandon, remove, has, list, retire, Work, leaving, arguments}
+use Rattle.book.specs.State.{State, Operation, format, recover, openReel, claim, fill, commit, abandon, remove, has, list, retire, arguments}
 use Rattle.book.specs.Perform.{granted, leaves, perform}
 use Rattle.book.specs.Table.{Table, Reel, geometry, fed, tableWork, emptyTable, allIdle}
 use Rattle.book.specs.Agrees.{Shows, Agrees}
 use Rattle.book.specs.Histories.{done, replied, answered-format, Interrupted, Attempts, Recovered, Follows, formatted, performed, before, after}
-use Rattle.book.specs.Demands.{Alike, Demand2, Survives, Kept, Demand3}
+use Rattle.book.specs.Demands.{Alike, Demand2, Survives, Demand3}
 use Rattle.book.proofs.Performed.{work-granted, work-refused, reply-granted, reply-refused}
 use Rattle.book.proofs.Done.{done-granted, done-refused, leaves-image, leaves-all}
 use Rattle.book.proofs.View.{View}
 use Rattle.book.proofs.Assumed.{Assumed}
-use Rattle.book.proofs.Settled.{idleTable, idle-table}
+use Rattle.book.proofs.Settled.{idle-table}
+use Rattle.book.proofs.Formatted.{format-agrees}
 use Rattle.book.proofs.Recovery.{recover-answers, interrupted-view, recovered-agrees, attempts-view, recovered-view}
 
 -- ---- what is assumed of each operation
@@ -52,11 +50,6 @@ pub record Steps : Type 0 where
 
 pub record AllAlike : Type 0 where
   pub alike : {s : State} {t : Table} → Agrees s t → (op : Operation) → Fit (arguments op) → Alike op s t
-
--- a format that is answered leaves an empty table's book
-pub record Formats : Type 0 where
-  pub formatted : (words slots nodes : ℕ) (s : State) → Fit (s .image) → perform (format words slots nodes) s .answer ≡ 0
-      → Agrees (done (format words slots nodes) s) (emptyTable slots nodes)
 
 -- ---- the three kinds of operation
 
@@ -128,13 +121,13 @@ module _ (known : Assumed) where
   whole : {m : List ℕ} (t : Table) {s' : State} → Seen m t → Recovered m s' → Agrees s' (allIdle t)
   whole t v c = rw (← idle-table {g = geometry t} t refl refl) (recovered-view known c v)
 
-  module _ (made : Formats) (steps : Steps) (same : AllAlike) where
+  module _ (steps : Steps) (same : AllAlike) where
     -- ---- an operation done
 
     answered-agrees : {s : State} {t : Table} → Agrees s t → {op : Operation} → Fit (arguments op) → Kind op → perform op s .answer ≡ 0
         → Agrees (done op s) (tableWork op t .after)
     answered-agrees {s} {t} a fit (formats {words} {slots} {nodes}) h =
-        rw (table-format words slots nodes t) (made .formatted words slots nodes s (a .shows .fits) h)
+        rw (table-format words slots nodes t) (format-agrees known words slots nodes s (a .shows .fits) h)
     answered-agrees {s} {t} a fit (recovers {words}) h =
         rw (table-recover words t, ← idle-table {g = geometry t} t refl refl) (recovered-agrees known words s (seen (a .shows)) h)
     answered-agrees a fit (scripted x) h = steps .step a x fit h .final
@@ -197,7 +190,7 @@ module _ (known : Assumed) where
     -- ---- histories
 
     pub agreed : {s : State} {t : Table} → Follows s t → Agrees s t
-    agreed (formatted words slots nodes s fit h) = made .formatted words slots nodes s fit h
+    agreed (formatted words slots nodes s fit h) = format-agrees known words slots nodes s fit h
     agreed (performed f op fit) = done-agrees (agreed f) op fit
     agreed (before f op fit k c r n a) = a
     agreed (after f op fit k c r a) = a

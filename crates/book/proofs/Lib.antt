@@ -6,4 +6,5 @@ pub mod Done
 pub mod Settled
 pub mod Mended
 pub mod Recovery
+pub mod Formatted
 pub mod Assembly

@@ -1,22 +1,19 @@
 -- Images in which some locate words of reached nodes have become their set words: what recovery writes, whole or in part.
-use mathlib.Core.Path.{_≡_, refl, sym, _∙_, ap}
+use mathlib.Core.Path.{_≡_, sym, _∙_, ap}
 use mathlib.Core.Bool.{true}
 use mathlib.Core.Logic.{_⊎_, inl, inr, _≢_, _↔_}
-use mathlib.Core.List.{List, List·Memᴰ}
-use Prim.Native.Nat.{ℕ, _+_, _-_, _*_, _/_, _%_, _^_, _≤_, _<_}
+use mathlib.Core.List.{List}
+use Prim.Native.Nat.{ℕ, _-_, _%_}
 use native.Mathlib.Omega.{arith}
 use lib.ListN.{length}
-use Rattle.tree.specs.Memory.{Memory, reads, byte, Fit}
+use Rattle.tree.specs.Memory.{Memory, reads, byte}
 use Rattle.tree.specs.Layout.{Geometry, editionAt, slotsAt, nodesAt, geometryOf, reelAt, rootAt, nextAt, locateAt, setAt, levelAt, sizeAt, fingerprintsAt, frameAt}
-use Rattle.tree.specs.Node.{wellFormed, held}
-use Rattle.tree.specs.Slots.{Filled}
-use Rattle.tree.specs.Reach.{Reaches}
-use Rattle.tree.specs.Same.{Same, SameFrames}
-use Rattle.tree.specs.Laws.{WellFormed}
+use Rattle.tree.specs.Node.{wellFormed}
+use Rattle.tree.specs.Same.{Same}
 use Rattle.tree.proofs.Laws.{node-laws, same-laws}
 use Rattle.book.specs.Table.{Reel}
 use Rattle.book.specs.Agrees.{Reached}
-use Rattle.book.proofs.View.{Header, View}
+use Rattle.book.proofs.View.{View}
 use Rattle.book.proofs.Assumed.{Assumed}
 
 -- word i, with the value v, is the locate word of a reached node, and v its set word

@@ -1,40 +1,39 @@
 -- Recovery of an image that shows reels: accepted with a map of the right length, and it leaves those reels, whole, with
 -- every head idle; a recovery that is refused or interrupted keeps them.
-use mathlib.Core.Path.{_≡_, refl, sym, _∙_, ap, subst}
-use mathlib.Core.Bool.{Bool, true, false, cond, not}
+use mathlib.Core.Path.{_≡_, refl, sym, _∙_, ap}
+use mathlib.Core.Bool.{false, cond, not}
 use mathlib.Core.Logic.{_⊎_, inl, inr, _≢_, _↔_}
-use mathlib.Core.List.{List, [], _∷_, map, List·Memᴰ, Memᴰ·map, Memᴰ·of-map, Memᴰ·cast}
+use mathlib.Core.List.{List, [], _∷_, map, List·Memᴰ, Memᴰ·map, Memᴰ·of-map}
 use Prim.Native.Nat.{ℕ, _<_}
 use native.Mathlib.Omega.{arith}
 use native.Mathlib.Decide.{ℕ-discrete}
 use lib.ListN.{length}
 use lib.Dec.{eqb}
-use borrow.Author.Tests.{eqb-true, eqb-false, eq-eqb, ne-eqb}
-use Rattle.tree.specs.Memory.{Memory, reads, Store, stores, segmented, apply}
-use Rattle.tree.specs.Test.{Test, ne, is, holds}
-use Rattle.tree.specs.Lists.{keep}
-use Rattle.tree.specs.Layout.{Geometry, inRange, imageWords, mapWords, editionAt, geometryOf, locateAt, setAt}
+use borrow.Author.Tests.{eqb-true, eqb-false, ne-eqb}
+use Rattle.tree.specs.Memory.{Memory, reads, Store, stores, apply}
+use Rattle.tree.specs.Test.{ne, is}
+use Rattle.tree.specs.Layout.{Geometry, inRange, mapWords, editionAt, geometryOf, locateAt, setAt}
 use Rattle.tree.specs.Fingerprint.{ruleOf}
 use Rattle.tree.specs.Slots.{filledSlots}
 use Rattle.tree.specs.Subtree.{Visit, visit, tree, allTrees}
 use Rattle.tree.specs.Check.{isSound}
-use Rattle.tree.specs.Pool.{used, mapOf}
+use Rattle.tree.specs.Pool.{mapOf}
 use Rattle.tree.proofs.Cases.{test}
 use Rattle.tree.proofs.Tests.{said}
 use Rattle.tree.proofs.Lists.{within, together, keeps}
 use Rattle.tree.proofs.Lists as Lists
 use Rattle.tree.proofs.Memory.{apply-laws}
-use Rattle.tree.proofs.StoreLists.{stored, settles, apply-none, crash-none}
-use Rattle.tree.proofs.Laws.{slot-laws, tree-laws, reach-laws, sound-laws, node-laws, same-laws}
+use Rattle.tree.proofs.StoreLists.{stored, settles, crash-none}
+use Rattle.tree.proofs.Laws.{slot-laws, tree-laws, reach-laws, sound-laws, node-laws}
 use Rattle.book.specs.Heads.{idleHeads}
-use Rattle.book.specs.Refusals.{Refusal, _gives_, refusal}
-use Rattle.book.specs.State.{State, Operation, recover, Work, leaving}
+use Rattle.book.specs.Refusals.{_gives_}
+use Rattle.book.specs.State.{State, recover, Work, leaving}
 use Rattle.book.specs.Checks.{badImage, badMap, refusals}
 use Rattle.book.specs.Perform.{recoverStores, nodesOf, granted, leaves, perform}
-use Rattle.book.specs.Table.{Table, Reel, allIdle}
+use Rattle.book.specs.Table.{Reel}
 use Rattle.book.specs.Agrees.{Agrees, Reached}
 use Rattle.book.specs.Histories.{done, Interrupted, Attempts, none-yet, refused, interrupted, Recovered}
-use Rattle.book.proofs.Refusals.{Denies, denied, Passes, passed-all, refused-here, refused-later}
+use Rattle.book.proofs.Refusals.{Denies, denied, passed-all, refused-here, refused-later}
 use Rattle.book.proofs.Performed.{answer-is, work-granted, work-refused}
 use Rattle.book.proofs.Done.{carriedOut, carried-leaving, done-granted, done-refused, leaves-image}
 use Rattle.book.proofs.View.{Header, View}

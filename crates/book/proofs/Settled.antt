@@ -1,21 +1,20 @@
 -- Books with every head idle, the map of the reached nodes, and equal bitmaps: they agree with a table of idle heads.
-use mathlib.Core.Path.{_≡_, refl, sym, _∙_, ap, subst}
+use mathlib.Core.Path.{_≡_, refl, sym, subst}
 use mathlib.Core.Bool.{true}
-use mathlib.Core.Logic.{_⊎_, inl, inr, _↔_}
-use mathlib.Core.List.{List, List·Memᴰ}
-use Prim.Native.Nat.{ℕ, _*_, _<_}
+use mathlib.Core.Logic.{inl, inr, _↔_}
+use mathlib.Core.List.{List}
+use Prim.Native.Nat.{ℕ, _*_}
 use native.Mathlib.Omega.{arith}
 use lib.ListN.{length, replicate, length-replicate, getD-replicate}
-use Rattle.tree.specs.Memory.{reads, isSet}
+use Rattle.tree.specs.Memory.{reads}
 use Rattle.tree.specs.Layout.{Geometry, mapWords, geometryOf, locateAt, setAt}
 use Rattle.tree.specs.Pool.{used}
 use Rattle.book.specs.declared.Target.{Target}
 use Rattle.book.specs.declared.HeadState.{HeadState}
 use Rattle.book.specs.declared.HeadState.the-variants.{Idle}
-use Rattle.book.specs.Heads.{headCount, headAt, idleHeads}
-use Rattle.book.specs.Table.{Table, Reel, idle, tableHead, allIdle}
-use Rattle.book.specs.State.{State}
-use Rattle.book.specs.Agrees.{Agrees, Reached, About, by-claim, by-fill, ClaimsPlace, HeadAgrees, both-idle}
+use Rattle.book.specs.Heads.{headCount, idleHeads}
+use Rattle.book.specs.Table.{Table, Reel, idle, allIdle}
+use Rattle.book.specs.Agrees.{Agrees, Reached, About, by-claim, by-fill, both-idle}
 use Rattle.book.proofs.View.{View}
 use Rattle.book.proofs.Assumed.{Assumed}
 

@@ -1,6 +1,5 @@
 pub mod Cases
 pub mod Tests
-pub mod Assumed
 pub mod Lists
 pub mod Distinct
 pub mod Ways

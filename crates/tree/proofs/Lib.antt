@@ -24,4 +24,5 @@ pub mod Decide
 pub mod Fingerprints
 pub mod Pigeon
 pub mod Level
+pub mod Pool
 pub mod Laws

@@ -11,6 +11,9 @@ use Rattle.tree.proofs.Grows.{opened}
 use Rattle.tree.proofs.Link.{linked}
 use Rattle.tree.proofs.Retire.{retired}
 use Rattle.tree.proofs.SetBit.{committed, removed}
+-- what the layer above needs of the layer below, passed on
+pub use Rattle.memory.proofs.Laws.{first-laws}
+-- this layer's
 pub use Rattle.tree.proofs.Slots.{slot-laws}
 pub use Rattle.tree.proofs.Fingerprints.{fingerprint-laws}
 pub use Rattle.tree.proofs.Paths.{path-laws}

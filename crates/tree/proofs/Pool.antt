@@ -1,6 +1,6 @@
 -- Laws of the pool map: which nodes are used once some are marked or unmarked.
-use mathlib.Core.Path.{_≡_, refl, sym, _∙_, ap}
-use mathlib.Core.Bool.{Bool, true, false}
+use mathlib.Core.Path.{_≡_, refl, sym, _∙_}
+use mathlib.Core.Bool.{true, false}
 use mathlib.Core.Logic.{_⊎_, inl, inr, _↔_, _≢_}
 use mathlib.Core.List.{List, [], _∷_, List·Memᴰ, List·Memᴰ·head, List·Memᴰ·tail, List·Memᴰ·cases-cons, List·Memᴰ·not-nil}
 use Prim.Native.Nat.{ℕ, _+_, _*_, _/_, _%_, _^_, _≤_, _<_}
@@ -8,7 +8,7 @@ use native.Mathlib.Omega.{arith}
 use native.Mathlib.Decide.{decLt, ℕ-discrete}
 use lib.ListN.{length, set, length-set, length-replicate, getD-replicate, List·getD-eq-default}
 use lib.Seq.{getD-set-same, getD-set-other, set-out, ext-getD}
-use Rattle.memory.specs.Words.{reads, isSet, withBit, withoutBit, marked}
+use Rattle.memory.specs.Words.{reads, isSet, marked}
 use Rattle.memory.specs.Laws.{Fit}
 use Rattle.memory.proofs.Laws.{bit-laws}
 use Rattle.tree.specs.Layout.{Geometry, mapWords}

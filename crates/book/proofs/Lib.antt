@@ -3,3 +3,4 @@ pub mod Performed
 pub mod View
 pub mod Step
 pub mod Starred
+pub mod Heads

@@ -23,4 +23,6 @@ pub mod Decide
 pub mod Fingerprints
 pub mod Pigeon
 pub mod Level
+pub mod Pool
+pub mod Memory
 pub mod Laws

@@ -14,7 +14,8 @@ use borrow.Author.Tests.{ltb-true, lt-ltb, eqb-true, eq-eqb, not-true}
 use Rattle.tree.specs.Memory.{reads, first}
 use Rattle.tree.specs.Lists.{every}
 use Rattle.tree.proofs.Cases.{test, true-not-false}
-use Rattle.tree.proofs.Laws.{first-laws, pool-laws}
+use Rattle.tree.proofs.Memory.{first-laws}
+use Rattle.tree.proofs.Laws.{pool-laws}
 use Rattle.book.specs.declared.Target.{Target}
 use Rattle.book.specs.declared.HeadState.{HeadState}
 use Rattle.book.specs.declared.HeadState.the-variants.{Idle, Claimed, Filled}

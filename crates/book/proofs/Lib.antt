@@ -1,4 +1,5 @@
 pub mod Refusals
 pub mod Performed
 pub mod View
+pub mod Rooms
 pub mod Level31

@@ -1,37 +1,30 @@
 -- What a claim's room is, on any memory, by the nodes of the frame's path.
 use mathlib.Core.Path.{_≡_, refl, sym, _∙_, ap}
-use mathlib.Core.Bool.{Bool, true, false, not}
+use mathlib.Core.Bool.{true, false, not}
 use mathlib.Core.Logic.{_⊎_, inl, inr, _↔_}
-use mathlib.Core.Option.{Option, none, some}
+use mathlib.Core.Option.{none, some}
 use mathlib.Core.List.{List, [], _∷_, _++_, List·Memᴰ, List·Memᴰ·head, List·Memᴰ·tail}
-use Prim.Native.Nat.{ℕ, zero, suc, _+_, _-_, _≤_, _<_}
+use Prim.Native.Nat.{ℕ, zero, suc, _-_, _≤_, _<_}
 use native.Mathlib.Omega.{arith}
 use native.Mathlib.Decide.{decLt, ℕ-discrete}
 use lib.ListN.{length, getElem?}
-use lib.Dec.{eqb, ltb}
-use borrow.Author.Tests.{ltb-true, ltb-false, le-ltb, eqb-true, ne-eqb, not-true, not-false}
-use Rattle.tree.specs.Memory.{Memory, reads, isSet}
-use Rattle.tree.specs.Layout.{Geometry, geometryOf, nextAt, locateAt, sizeAt, reelAt}
-use Rattle.tree.specs.Path.{fanout, child, wayOf}
-use Rattle.tree.specs.Node.{childOf, wellFormed}
+use lib.Dec.{ltb}
+use borrow.Author.Tests.{ltb-true, ltb-false, not-true, not-false}
+use Rattle.tree.specs.Memory.{Memory, isSet}
+use Rattle.tree.specs.Layout.{Geometry, nextAt, locateAt, sizeAt}
+use Rattle.tree.specs.Path.{child, wayOf}
+use Rattle.tree.specs.Node.{childOf}
 use Rattle.tree.specs.Slots.{Filled, rootOf}
 use Rattle.tree.specs.Reach.{Reaches, root, down}
-use Rattle.tree.specs.Lookup.{Spot, spot, pathFrom, clearAt, clearSpot, freeRun}
-use Rattle.tree.specs.Laws.{WellFormed, FirstAt, FreeRun}
+use Rattle.tree.specs.Lookup.{Spot, pathFrom, clearAt, clearSpot}
+use Rattle.tree.specs.Laws.{WellFormed, FirstAt}
 use Rattle.tree.proofs.Assumed.{search-laws}
-use Rattle.tree.proofs.Cases.{test, true-not-false, Seen, seen, nothing, just, some-inj, none-some}
-use Rattle.tree.proofs.Laws.{child-laws, reach-laws, node-laws, path-laws, spot-laws, run-laws}
-use Rattle.book.specs.State.{State, openReel, claim}
-use Rattle.book.specs.Room.{Room, clear, scaleUp, branchOut, lastOf, fullRoom, roomOn, needs, atLevel31}
-use Rattle.book.specs.Table.{Table}
-use Rattle.book.specs.Agrees.{Reached, Agrees}
-use Rattle.book.specs.Ways.{UnreachedRun, LowestRun, Full, FullAbove, FullPath, SlotHas, Lacks, no-node, no-run}
+use Rattle.tree.proofs.Cases.{test, true-not-false, seen, nothing, just, some-inj, none-some}
+use Rattle.tree.proofs.Laws.{child-laws, reach-laws, node-laws, path-laws, spot-laws}
+use Rattle.book.specs.Room.{Room, clear, scaleUp, branchOut, lastOf, fullRoom, roomOn}
+use Rattle.book.specs.Ways.{Full, FullAbove, FullPath}
 
 -- ---- elements of a list by their numbers
-
-index-of : {n : ℕ} {ns : List ℕ} → List·Memᴰ n ns → (i : ℕ) × (getElem? ns i ≡ some n)
-index-of (List·Memᴰ·head q) = (0, ap some (sym q))
-index-of (List·Memᴰ·tail z) = let t = index-of z in (suc (t .0), t .1)
 
 of-index : (ns : List ℕ) (i : ℕ) {n : ℕ} → getElem? ns i ≡ some n → List·Memᴰ n ns
 of-index [] i h = none-some h
@@ -195,14 +188,14 @@ module _ {g : Geometry} {m : Memory} {slot : ℕ} (f : ℕ) (ns : List ℕ) (ope
           | inl q ↦ absurd (omega (arith, ltb-true (m (sizeAt g n)) 64 e))
           | inr q ↦ record { there = rw (q .0, root-way f) at (l .there); is = refl; ends = l .ends; small = q .1; full = full d n (l .there) }
         ])
-        | inr e ↦ rw e (record {
+        | inr e ↦ let wide = ltb-false (m (sizeAt g n)) 64 e in rw e (record {
           path = record {
             last = n;
             there = l .there;
             ends = l .ends;
             wide = elim (path-formed d (l .there) .size) [
               | inl q ↦ q
-              | inr q ↦ absurd (elim (q .1) [ inl z ↦ omega (arith, ltb-false (m (sizeAt g n)) 64 e) | inr z ↦ omega (arith, ltb-false (m (sizeAt g n)) 64 e) ])
+              | inr q ↦ absurd (elim (q .1) [ inl z ↦ omega arith | inr z ↦ omega arith ])
             ];
             full = λ j x h r. full j x r;
           };

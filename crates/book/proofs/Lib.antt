@@ -4,3 +4,5 @@ pub mod View
 pub mod Step
 pub mod Starred
 pub mod Heads
+pub mod Rooms
+pub mod Level31

@@ -6,3 +6,7 @@ pub mod Starred
 pub mod Heads
 pub mod Rooms
 pub mod Level31
+pub mod Stored
+pub mod ReelLists
+pub mod Reels
+pub mod Views

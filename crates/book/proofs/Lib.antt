@@ -10,3 +10,4 @@ pub mod Stored
 pub mod ReelLists
 pub mod Reels
 pub mod Views
+pub mod Reading

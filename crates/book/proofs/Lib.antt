@@ -1,3 +1,4 @@
 pub mod Refusals
 pub mod Performed
 pub mod View
+pub mod Demand1

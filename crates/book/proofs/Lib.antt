@@ -2,3 +2,5 @@ pub mod Refusals
 pub mod Performed
 pub mod View
 pub mod Demand1
+pub mod Entries
+pub mod Inside

@@ -8,7 +8,9 @@ use native.Mathlib.Omega.{arith}
 use lib.ListN.{length, length-append, length-map}
 use Rattle.tree.specs.Memory.{reads, withBit, withoutBit, withByte, Entry, store, barrier, encode, Store, stores, segmented, apply, Avoids, Inside}
 use Rattle.tree.specs.Layout.{geometryOf}
-use Rattle.tree.specs.Test.{holds}
+use Rattle.book.specs.Checks.{badImage}
+use Rattle.book.specs.CarryOut.{carry, carried}
+use Rattle.book.proofs.Refusals.{Denies}
 
 -- ---- what is used of the memory layer
 
@@ -22,6 +24,8 @@ pub record MemoryLaws : Type 0 where
   pub length-apply : (m : List ℕ) (es : List Entry) → length (apply m es) ≡ length m
   pub avoided : (m : List ℕ) (es : List Entry) (i : ℕ) → Avoids i es → reads (apply m es) i ≡ reads m i
   pub last-store : (m : List ℕ) (es fs : List Entry) (i v : ℕ) → i < length m → Avoids i fs → reads (apply m (es ++ store i v ∷ fs)) i ≡ v
+  pub carried-out : (m : List ℕ) (es : List Entry) → Denies (badImage (length m) (geometryOf (reads m))) → Inside (length m) es
+      → carry m (encode es) ≡ carried 0 (apply m es)
 
 -- ---- every element of a list
 

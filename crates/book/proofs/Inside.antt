@@ -1,6 +1,6 @@
 -- What the tests of an answered operation give about the indices that it writes to.
 use mathlib.Core.Path.{_≡_, refl, sym, _∙_, ap, subst}
-use mathlib.Core.Bool.{Bool, true, false}
+use mathlib.Core.Bool.{true, false, not}
 use mathlib.Core.Logic.{_⊎_, inl, inr}
 use mathlib.Core.Option.{Option, none, some}
 use mathlib.Core.List.{List, [], _∷_, _++_, Memᴰ·append-right}
@@ -20,6 +20,7 @@ use Rattle.tree.specs.Laws.{WellFormed}
 use Rattle.book.specs.Heads.{stateOf, headAt, targetOf}
 use Rattle.book.specs.Room.{Room, clear, scaleUp, branchOut, lastOf, fullRoom, roomOn, needs}
 use Rattle.book.specs.Checks.{badImage}
+use Rattle.book.specs.Perform.{orNone}
 use Rattle.tree.proofs.Cases.{test, seen, nothing, just, some-inj, none-some, true-not-false}
 use Rattle.tree.proofs.Laws.{node-laws, spot-laws, run-laws, fingerprint-laws}
 use Rattle.book.proofs.Refusals.{Denies}
@@ -78,7 +79,7 @@ module _ (g : Geometry) (m : Memory) where
     ]
   ]
 
-  pub pathFrom-nodes : (s f : ℕ) (ns : List ℕ) → pathFrom g m s f ≡ some ns → PathNodes levels ns
+  pathFrom-nodes : (s f : ℕ) (ns : List ℕ) → pathFrom g m s f ≡ some ns → PathNodes levels ns
   unfolding pathFrom
   pathFrom-nodes s f ns h = path-nodes levels 0 _ f ns h
 
@@ -103,11 +104,17 @@ module _ (g : Geometry) (m : Memory) where
       record { node = c .inside; place = omega (arith, a .within, b (t .node) c) }
 
   -- where the lookup finds a frame
-  pub found-inside : (r : Rule) (s f : ℕ) (t : Spot) → find r g m s f ≡ some t → SpotInside t
+  found-inside : (r : Rule) (s f : ℕ) (t : Spot) → find r g m s f ≡ some t → SpotInside t
   unfolding find lookup
   found-inside r s f t h = elim (seen (pathFrom g m s f)) [
     | nothing q ↦ none-some (rw q at h)
     | just ns q ↦ spot-inside (foundAt r g m f) (λ n. 64) levels ns t (λ n a. omega arith) (pathFrom-nodes s f ns q) (rw q at h)
+  ]
+
+  pub find-inside : (r : Rule) (s f : ℕ) → not (isSome (find r g m s f)) ≡ false → SpotInside (orNone (find r g m s f))
+  find-inside r s f h = elim (seen (find r g m s f)) [
+    | nothing q ↦ absurd (true-not-false refl (rw q at h))
+    | just t q ↦ rw q (found-inside r s f t q)
   ]
 
   -- ---- where a claim takes its place
@@ -117,7 +124,7 @@ module _ (g : Geometry) (m : Memory) where
   RoomInside (scaleUp n size) = (n < g .nodes) × (size < 64)
   RoomInside (branchOut parent d) = (parent < g .nodes) × (d < levels)
 
-  pub room-inside : (ns : List ℕ) → PathNodes levels ns → RoomInside (roomOn g m (some ns))
+  room-inside : (ns : List ℕ) → PathNodes levels ns → RoomInside (roomOn g m (some ns))
   unfolding roomOn fullRoom clearSpot
   room-inside ns p = elim (seen (clearSpot g m ns)) [
     | just t q ↦ rw q (spot-inside (clearAt g m) (λ n. m (sizeAt g n)) levels ns t (λ n a. a .size) p q)
@@ -125,6 +132,12 @@ module _ (g : Geometry) (m : Memory) where
       | inl e ↦ rw (q, e) (l .inside, ltb-true _ _ e)
       | inr e ↦ rw (q, e) (l .inside, omega (arith, p .few))
     ]
+  ]
+
+  pub path-room : (s f : ℕ) → not (isSome (pathFrom g m s f)) ≡ false → RoomInside (roomOn g m (pathFrom g m s f))
+  path-room s f h = elim (seen (pathFrom g m s f)) [
+    | nothing q ↦ absurd (true-not-false refl (rw q at h))
+    | just ns q ↦ rw q (room-inside ns (pathFrom-nodes s f ns q))
   ]
 
 -- the nodes that it takes from the pool

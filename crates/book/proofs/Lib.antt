@@ -4,3 +4,5 @@ pub mod View
 pub mod Demand1
 pub mod Entries
 pub mod Inside
+pub mod Writes
+pub mod Scripts

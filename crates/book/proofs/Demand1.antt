@@ -1,8 +1,8 @@
 -- Demand 1: a refusal has one of the operation's numbers, hands out nothing and leaves everything.
 use mathlib.Core.Path.{_≡_, refl}
-use mathlib.Core.Bool.{true, false}
+use mathlib.Core.Bool.{false}
 use mathlib.Core.Logic.{inl, inr, _≢_}
-use mathlib.Core.List.{List, [], _∷_, map, List·Memᴰ}
+use mathlib.Core.List.{List, _∷_, map, List·Memᴰ}
 use Prim.Native.Nat.{ℕ, zero, suc}
 use lib.Dec.{eqb}
 use lib.ListN.{length-replicate}
@@ -14,7 +14,7 @@ use Rattle.book.specs.Refusals.{Refusal, refusal, _gives_}
 use Rattle.book.specs.State.{State, Operation, format, recover, openReel, claim, fill, commit, abandon, remove, has, list, retire}
 use Rattle.book.specs.Checks.{refusals}
 use Rattle.book.specs.Perform.{leaves, perform}
-use Rattle.book.specs.Demands.{numbers, Leaves, as-before, map-cleared, Refused, Demand1}
+use Rattle.book.specs.Demands.{numbers, Leaves, as-before, map-cleared, Demand1}
 use Rattle.tree.proofs.Cases.{test}
 use Rattle.book.proofs.Refusals.{refusal-listed}
 use Rattle.book.proofs.Performed.{answer-is, work-refused}

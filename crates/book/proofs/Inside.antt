@@ -1,11 +1,11 @@
 -- What the tests of an answered operation give about the indices that it writes to.
-use mathlib.Core.Path.{_≡_, refl, sym, _∙_, ap, subst}
+use mathlib.Core.Path.{_≡_, refl, sym, subst}
 use mathlib.Core.Bool.{true, false, not}
 use mathlib.Core.Logic.{_⊎_, inl, inr}
-use mathlib.Core.Option.{Option, none, some}
-use mathlib.Core.List.{List, [], _∷_, _++_, Memᴰ·append-right}
+use mathlib.Core.Option.{some}
+use mathlib.Core.List.{List, [], _∷_, Memᴰ·append-right}
 use mathlib.Core.List.{List·Memᴰ, List·Memᴰ·head, List·Memᴰ·tail, List·Memᴰ·cases-cons, List·Memᴰ·not-nil}
-use Prim.Native.Nat.{ℕ, zero, suc, _+_, _-_, _*_, _^_, _≤_, _<_}
+use Prim.Native.Nat.{ℕ, zero, suc, _+_, _*_, _^_, _≤_, _<_}
 use native.Mathlib.Omega.{arith}
 use lib.ListN.{length}
 use lib.Dec.{eqb, ltb}
@@ -15,10 +15,9 @@ use Rattle.tree.specs.Layout.{Geometry, imageWords, nextAt, sizeAt}
 use Rattle.tree.specs.Path.{levels, fanout, child}
 use Rattle.tree.specs.Fingerprint.{Rule, fingerprint, ruleOf, editionOne}
 use Rattle.tree.specs.Node.{childOf, wellFormed}
-use Rattle.tree.specs.Lookup.{Spot, spot, firstSpot, path, pathFrom, clearAt, clearSpot, foundAt, lookup, find, freeRun}
-use Rattle.tree.specs.Laws.{WellFormed}
+use Rattle.tree.specs.Lookup.{Spot, firstSpot, path, pathFrom, clearAt, clearSpot, foundAt, lookup, find, freeRun}
 use Rattle.book.specs.Heads.{stateOf, headAt, targetOf}
-use Rattle.book.specs.Room.{Room, clear, scaleUp, branchOut, lastOf, fullRoom, roomOn, needs}
+use Rattle.book.specs.Room.{Room, clear, scaleUp, branchOut, lastOf, fullRoom, roomOn}
 use Rattle.book.specs.Checks.{badImage}
 use Rattle.book.specs.Perform.{orNone}
 use Rattle.tree.proofs.Cases.{test, seen, nothing, just, some-inj, none-some, true-not-false}

@@ -1,36 +1,29 @@
 -- Scripts, over any state: bounded, inside the image, ending in a barrier, and carried out as words.
-use mathlib.Core.Path.{_≡_, refl, sym, _∙_, ap, ap₂, subst}
-use mathlib.Core.Bool.{Bool, true, false, not}
-use mathlib.Core.Logic.{_⊎_, inl, inr, _≢_}
-use mathlib.Core.Option.{Option, none, some}
-use mathlib.Core.List.{List, [], _∷_, _++_, map, map-append, List·Memᴰ, List·Memᴰ·not-nil}
-use Prim.Native.Nat.{ℕ, _+_, _-_, _*_, _^_, _≤_, _<_}
+use mathlib.Core.Path.{_≡_, refl, ap₂}
+use mathlib.Core.Bool.{not}
+use mathlib.Core.Logic.{_≢_}
+use mathlib.Core.List.{List, [], _∷_, _++_, map, map-append, List·Memᴰ·not-nil}
+use Prim.Native.Nat.{ℕ, _-_, _^_, _<_}
 use native.Mathlib.Omega.{arith}
 use native.Mathlib.Decide.{ℕ-discrete}
 use lib.ListN.{length}
 use lib.Dec.{eqb}
-use Rattle.tree.specs.Memory.{Memory, reads, store, Store, stores, segmented, apply, isSome, Avoids, Fit}
-use Rattle.tree.specs.Test.{holds}
+use Rattle.tree.specs.Memory.{Memory, reads, store, Store, stores, segmented, apply, Avoids, Inside, Fit}
 use Rattle.tree.specs.Layout.{Geometry, rootAt, locateAt, setAt, geometryOf}
 use Rattle.tree.specs.Subtree.{allTrees}
 use Rattle.tree.specs.Lists.{range, upTo, keep}
 use Rattle.tree.specs.Fingerprint.{ruleOf}
-use Rattle.tree.specs.Slots.{slotOf, emptySlot}
-use Rattle.tree.specs.Lookup.{Spot, pathFrom, find, freeRun}
-use Rattle.book.specs.Heads.{headAt, targetOf}
 use Rattle.book.specs.Refusals.{refusal}
-use Rattle.book.specs.Room.{roomOn, needs, atLevel31}
 use Rattle.book.specs.State.{State, Operation, format, recover, openReel, claim, fill, commit, abandon, remove, has, list, retire, arguments, Work}
 use Rattle.book.specs.Checks.{badImage, refusals}
-use Rattle.book.specs.Perform.{formatStores, recoverStores, orNone, granted, perform}
+use Rattle.book.specs.Perform.{formatStores, recoverStores, granted, perform}
 use Rattle.book.specs.Demands.{GoodScript, Scripts}
-use Rattle.tree.proofs.Cases.{test, seen, nothing, just, true-not-false}
 use Rattle.tree.proofs.Lists.{in-range}
-use Rattle.book.proofs.Refusals.{Denies, denies, denied, Passes, passes}
+use Rattle.book.proofs.Refusals.{Denies, passes}
 use Rattle.book.proofs.Performed.{answer-is, work-granted, work-refused}
 use Rattle.book.proofs.Entries.{MemoryLaws, Each, each-at, each-append, each-map, stored, each-entry, ends-in-barrier, length-segmented}
-use Rattle.book.proofs.Inside.{Sized, sized, find-inside, path-room, run-inside, target-fits}
-use Rattle.book.proofs.Writes.{Writes, Good, good-open, good-retire, good-claim, good-fill, good-commit, good-abandon, good-remove}
+use Rattle.book.proofs.Inside.{sized, find-inside, path-room, run-inside, target-fits}
+use Rattle.book.proofs.Writes.{Writes, Good, no-stores, good-open, good-retire, good-claim, good-fill, good-commit, good-abandon, good-remove}
 
 -- what an answered operation leaves to be carried out: a good script, and an image of the same length with its header in range
 record Answered (s : State) (w : Work) : Type 0 where
@@ -43,6 +36,7 @@ unfolding geometryOf
 geometry-is m g p q = ap₂ (λ a b. record { slots = a; nodes = b }) p q
 
 module _ (laws : MemoryLaws) where
+  -- what a list of stores leaves at an index: nothing new, or its last store there
   avoids : (i : ℕ) (seg : List Store) → Each (λ p. p .0 ≢ i) seg → Avoids i (stores seg)
   avoids i seg e v x = each-at (λ p. p .0 ≢ i) seg e (stored laws seg x) refl
 
@@ -50,8 +44,8 @@ module _ (laws : MemoryLaws) where
       → reads (apply m (stores (before ++ (i, v) ∷ after))) i ≡ v
   last-in m before after i v h e =
       let q : stores (before ++ (i, v) ∷ after) ≡ stores before ++ store i v ∷ stores after =
-          rw (laws .each-store (before ++ (i, v) ∷ after), laws .each-store before, laws .each-store after)
-          (map-append (λ p. store (p .0) (p .1)) before ((i, v) ∷ after)) in
+      rw (laws .each-store (before ++ (i, v) ∷ after), laws .each-store before, laws .each-store after)
+      (map-append (λ p. store (p .0) (p .1)) before ((i, v) ∷ after)) in
       rw q (laws .last-store m (stores before) (stores after) i v h (avoids i after e))
 
   -- Format: words 1 and 2 are R and N
@@ -95,7 +89,7 @@ module _ (laws : MemoryLaws) where
       let g' : Geometry = record { slots = slots; nodes = nodes } in
       let n = laws .length-apply (s .image) (stores (formatStores g')) in
       record {
-        script = record { each = tt; few = omega arith };
+        script = no-stores _;
         words = n;
         header = rw (n, formatted (s .image) g' (omega (arith, sized _ _ (p .0) .length))) (p .0);
       }
@@ -103,11 +97,7 @@ module _ (laws : MemoryLaws) where
       let p = passes _ (omega arith) h in
       let g = geometryOf (reads (s .image)) in
       let n = laws .length-apply (s .image) (stores (recoverStores g (reads (s .image)))) in
-      record {
-        script = record { each = tt; few = omega arith };
-        words = n;
-        header = rw (n, recovered (s .image) g) (p .0);
-      }
+      record { script = no-stores _; words = n; header = rw (n, recovered (s .image) g) (p .0) }
   answered (openReel words script reel) s a b c h =
       let p = passes _ (omega arith) h in
       record { script = good-open (sized _ _ (p .0)) _ _ reel (p .1 .1 .1 .1 .0) (p .1 .1 .1 .1 .1 .0) (c 0); words = refl; header = p .0 }
@@ -123,7 +113,7 @@ module _ (laws : MemoryLaws) where
   answered (fill script h) s a b c e =
       let p = passes _ (omega arith) e in
       let in-pool = p .1 .1 .1 .1 .1 .0 in
-      let good = good-fill (sized _ _ (p .0)) laws (reads (s .image)) a (targetOf (headAt (s .heads) h)) (in-pool .0) (in-pool .1) (target-fits (s .heads) h b) in
+      let good = good-fill (sized _ _ (p .0)) laws (reads (s .image)) a _ (in-pool .0) (in-pool .1) (target-fits (s .heads) h b) in
       record { script = good; words = refl; header = p .0 }
   answered (commit script h) s a b c e =
       let p = passes _ (omega arith) e in
@@ -138,8 +128,8 @@ module _ (laws : MemoryLaws) where
       let m = reads (s .image) in
       let good = good-remove (sized _ _ (p .0)) laws m a _ (find-inside _ m (ruleOf m) _ f (p .1 .1 .1 .1 .1 .1 .0)) in
       record { script = good; words = refl; header = p .0 }
-  answered (has reel f) s a b c h = let p = passes _ (omega arith) h in record { script = record { each = tt; few = omega arith }; words = refl; header = p .0 }
-  answered (list scratch room reel) s a b c h = let p = passes _ (omega arith) h in record { script = record { each = tt; few = omega arith }; words = refl; header = p .0 }
+  answered (has reel f) s a b c h = let p = passes _ (omega arith) h in record { script = no-stores _; words = refl; header = p .0 }
+  answered (list scratch room reel) s a b c h = let p = passes _ (omega arith) h in record { script = no-stores _; words = refl; header = p .0 }
   answered (retire words scratch script reel) s a b c h =
       let p = passes _ (omega arith) h in
       record { script = good-retire (sized _ _ (p .0)) _ (p .1 .1 .1 .0); words = refl; header = p .0 }
@@ -163,15 +153,16 @@ module _ (laws : MemoryLaws) where
       let n = a .words in
       let each = each-entry laws P (w .script) (a .script .each) in
       let short : length (s .image) < 2 ^ 64 - 1 = omega arith in
+      let inside : Inside (length (s .image)) (segmented (w .script)) = λ i v x. let t = each i v x in (t .0, λ q. omega arith) in
       record {
         short = omega (arith, length-segmented laws (w .script), a .script .few);
         fenced = ends-in-barrier laws (w .script);
-        inside = λ i v x. let t = each i v x in (t .0, λ q. omega arith);
+        inside = inside;
         fits = λ i v x. each i v x .1;
-        carried-out = λ e.
-            laws .carried-out (w .after .image) (segmented (w .script)) (a .header) (rw n (λ i v x. let t = each i v x in (t .0, λ q. omega arith)));
+        carried-out = λ e. laws .carried-out (w .after .image) (segmented (w .script)) (a .header) (rw n inside);
       }
 
+  -- every script is good
   pub scripts-by : Scripts
   scripts-by op s a b c = elim (ℕ-discrete (perform op s .answer) 0) [
     | yes h ↦ good-answered op s (rw (work-granted op s h) (answered op s a b c (rw (answer-is op s) at h)))

@@ -1,16 +1,15 @@
 -- The script of each operation: at most 25 entries, each a store inside the image of a value below 2^64.
-use mathlib.Core.Path.{_≡_, refl, sym, _∙_, ap}
-use mathlib.Core.Bool.{Bool, true, false}
-use mathlib.Core.Logic.{_⊎_, inl, inr, _≢_}
-use mathlib.Core.List.{List, [], _∷_, _++_, flatMap}
-use Prim.Native.Nat.{ℕ, zero, suc, _+_, _-_, _*_, _/_, _%_, _^_, _≤_, _<_}
+use mathlib.Core.Path.{_≡_, refl}
+use mathlib.Core.Bool.{false}
+use mathlib.Core.List.{List, [], _∷_, flatMap}
+use Prim.Native.Nat.{ℕ, zero, suc, _+_, _*_, _%_, _^_, _≤_, _<_}
 use native.Mathlib.Omega.{arith}
-use lib.ListN.{length, length-append}
+use lib.ListN.{length}
 use borrow.Author.Tests.{eqb-false}
-use Rattle.tree.specs.Memory.{Memory, Store, withBit, withoutBit, withByte}
+use Rattle.tree.specs.Memory.{Memory, Store}
 use Rattle.tree.specs.Layout.{Geometry, rootAt, locateAt, setAt, fingerprintsAt}
 use Rattle.tree.specs.Lists.{range}
-use Rattle.tree.specs.Path.{fanout, child}
+use Rattle.tree.specs.Path.{fanout}
 use Rattle.tree.specs.Fingerprint.{fingerprint, ruleOf}
 use Rattle.tree.specs.Lookup.{Spot}
 use Rattle.book.specs.declared.Target.{Target}
@@ -18,7 +17,7 @@ use Rattle.book.specs.Room.{Room, clear, scaleUp, branchOut, needs, atLe
 use Rattle.book.specs.Perform.{newNode, openScript, roomScript, claimScript, fillScript, bitOn, bitOff, removeScript}
 use Rattle.tree.proofs.Lists.{in-range}
 use Rattle.tree.proofs.Laws.{child-laws}
-use Rattle.book.proofs.Entries.{MemoryLaws, Each, each-append, each-flatMap, entries}
+use Rattle.book.proofs.Entries.{MemoryLaws, Each, each-flatMap, entries}
 use Rattle.book.proofs.Inside.{Sized, SpotInside, RoomInside, fanout-few, fingerprint-lt}
 
 -- a store to one of some words, of a value below 2^64
@@ -28,6 +27,9 @@ Writes words p = (p .0 < words) × (p .1 < 2 ^ 64)
 pub record Good (words : ℕ) (script : List (List Store)) : Type 0 where
   pub each : Each (Each (Writes words)) script
   pub few : entries script ≤ 25
+
+pub no-stores : (words : ℕ) → Good words []
+no-stores words = record { each = tt; few = omega arith }
 
 module _ {words : ℕ} {g : Geometry} (z : Sized words g) where
   -- a node's five words, and those of a group of nodes
@@ -63,14 +65,14 @@ module _ {words : ℕ} {g : Geometry} (z : Sized words g) where
         let c = child-laws .below d f low in
         let v = laws .bit-on 0 0 (omega arith) (omega arith) in
         let group : Each (Writes words) (flatMap (λ n. newNode g n (suc d) 64) (range start (fanout d))) =
-            each-flatMap (Writes words) _ _ (λ n y. new-node n (suc d) 64 (omega (arith, in-range start (fanout d) y)) (omega arith) (omega arith)) in
+        each-flatMap (Writes words) _ _ (λ n y. new-node n (suc d) 64 (omega (arith, in-range start (fanout d) y)) (omega arith) (omega arith)) in
         record { each = (group, omega arith); few = omega (arith, group-length start (fanout d) (suc d)) }
 
     pub good-fill : (t : Target) → t .node < g .nodes → t .place < 64 → t .frame < 2 ^ 64 → Good words (fillScript (ruleOf m) g m t)
     unfolding fillScript
     good-fill t a b c =
         let v = laws .byte-put (m (fingerprintsAt g (t .node) (t .place))) (t .place % 8) (fingerprint (ruleOf m) (t .frame))
-            (omega arith) (fingerprint-lt m (t .frame)) (fits _) in
+        (omega arith) (fingerprint-lt m (t .frame)) (fits _) in
         record { each = omega arith; few = omega arith }
 
     pub good-commit : (n p : ℕ) → n < g .nodes → p < 64 → Good words (bitOn m (setAt g n) p ∷ [])

@@ -11,3 +11,9 @@ pub mod ReelLists
 pub mod Reels
 pub mod Views
 pub mod Reading
+pub mod Demand1
+pub mod Entries
+pub mod Inside
+pub mod Writes
+pub mod Scripts
+pub mod MemoryLaws

@@ -142,13 +142,14 @@ full-slots g m = (all, none-empty)
           ];
         })) in
         omega (arith, length-upTo (g .slots))
+
     none-empty : g .slots ≤ length (filledSlots g m) → g .slots ≤ emptySlot g m
     none-empty h = elim (decLt (emptySlot g m) (g .slots)) [
       | yes l ↦
           let z = slot-laws g m .empty l in
           let few = pigeon (λ s. s) (g .slots) (emptySlot g m ∷ filledSlots g m)
-              (onto (λ y x q. let b = slot-laws g m .listed .0 x in omega (arith, b .linked, ap (λ s. m (rootAt s)) q)) (slot-laws g m .listed-once))
-              (λ y x. elim (List·Memᴰ·cases-cons x) [ inl q ↦ omega arith | inr x' ↦ slot-laws g m .listed .0 x' .inside ]) in
+          (onto (λ y x q. let b = slot-laws g m .listed .0 x in omega (arith, b .linked, ap (λ s. m (rootAt s)) q)) (slot-laws g m .listed-once))
+          (λ y x. elim (List·Memᴰ·cases-cons x) [ inl q ↦ omega arith | inr x' ↦ slot-laws g m .listed .0 x' .inside ]) in
           absurd (omega arith)
       | no l ↦ omega arith
     ]
@@ -227,7 +228,7 @@ module _ {image : List ℕ} {t : Table} (v : Shows image t) where
   all-filled =
       let full = full-slots (sizesOf image) (reads image) in
       let count : length (filledSlots (sizesOf image) (reads image)) ≡ length (t .reels) =
-          sym (present-length (sizesOf image) (reads image)) ∙ same-length (v .reels) ∙ length-map (t .reels) (λ r. r .number) in
+      sym (present-length (sizesOf image) (reads image)) ∙ same-length (v .reels) ∙ length-map (t .reels) (λ r. r .number) in
       (λ h. omega (arith, full .0 h, v .slots), λ h. full .1 (omega (arith, v .slots)))
 
 -- ---- the heads
@@ -260,7 +261,7 @@ module _ {image : List ℕ} {t : Table} (v : Shows image t) {x : Target} {r f : 
   claim-inside =
       let w = node-laws (sizesOf image) (reads image) .facts (length (wayOf (c .depth) f)) (x .node) .0 (v .sound .well-formed (c .on-path)) in
       let size : reads image (sizeAt (sizesOf image) (x .node)) ≤ 64 =
-          elim (w .size) [ inl q ↦ omega arith | inr q ↦ elim (q .1) [ inl e ↦ omega arith | inr e ↦ omega arith ] ] in
+      elim (w .size) [ inl q ↦ omega arith | inr q ↦ elim (q .1) [ inl e ↦ omega arith | inr e ↦ omega arith ] ] in
       (w .inside, omega (arith, c .place))
 
   pub claim-slot : SlotHas (sizesOf image) (reads image) r (x .slot)

@@ -1,0 +1,53 @@
+-- Images after a store: what is read of them, and their headers.
+use mathlib.Core.Path.{_≡_, refl, sym, _∙_, ap₂}
+use mathlib.Core.List.{List}
+use Prim.Native.Nat.{ℕ, _+_, _^_, _≤_, _<_}
+use native.Mathlib.Omega.{arith}
+use native.Mathlib.Decide.{ℕ-discrete}
+use lib.ListN.{length, set, length-set}
+use lib.Seq.{getD-set-same, getD-set-other}
+use Rattle.tree.specs.Memory.{Memory, reads, Fit}
+use Rattle.tree.specs.Layout.{Geometry, editionAt, slotsAt, nodesAt, geometryOf, nodeAt}
+use Rattle.tree.specs.Fingerprint.{ruleOf}
+use Rattle.tree.specs.Same.{Stores}
+use Rattle.book.proofs.View.{Header}
+
+-- one rule reads all images
+pub same-rule : (m m' : Memory) → ruleOf m ≡ ruleOf m'
+unfolding ruleOf
+same-rule m m' = refl
+
+pub same-geometry : (m m' : Memory) → m slotsAt ≡ m' slotsAt → m nodesAt ≡ m' nodesAt → geometryOf m ≡ geometryOf m'
+unfolding geometryOf
+same-geometry m m' p q = rw (p, q)
+
+-- ---- one store
+
+pub stores-set : (im : List ℕ) (i v : ℕ) → i < length im → Stores (reads im) i v (reads (set im i v))
+stores-set im i v h = record { new = getD-set-same im i v 0 h; old = λ j n. sym (getD-set-other im i j v 0 n) }
+
+pub fits-set : (im : List ℕ) (i v : ℕ) → Fit im → i < length im → v < 2 ^ 64 → Fit (set im i v)
+fits-set im i v f h l j = elim (ℕ-discrete j i) [ yes q ↦ rw (q, getD-set-same im i v 0 h) l | no n ↦ rw (getD-set-other im i j v 0 n) (f j) ]
+
+-- ---- headers
+
+-- an image of the same length that fits and has the same words 0 to 2
+pub header-same : {g : Geometry} {im im' : List ℕ} → Header g im → length im' ≡ length im → Fit im' → reads im editionAt ≡ reads im' editionAt
+    → reads im slotsAt ≡ reads im' slotsAt → reads im nodesAt ≡ reads im' nodesAt → Header g im'
+header-same {im = im} {im' = im'} h l f e s n = record {
+  fits = f;
+  edition = sym e ∙ h .edition;
+  geometry = sym (same-geometry (reads im) (reads im') s n) ∙ h .geometry;
+  in-range = h .in-range;
+  words = l ∙ h .words;
+}
+
+pub header-set : {g : Geometry} {im : List ℕ} (i v : ℕ) → Header g im → 64 ≤ i → i < length im → v < 2 ^ 64 → Header g (set im i v)
+header-set {im = im} i v h l k f =
+    let t = stores-set im i v k in
+    header-same h (length-set im i v) (fits-set im i v (h .fits) k f) (t .old editionAt (λ q. omega arith)) (t .old slotsAt (λ q. omega arith))
+    (t .old nodesAt (λ q. omega arith))
+
+-- the words of the slots and of the pool's nodes are inside the image
+pub node-inside : {g : Geometry} {im : List ℕ} (n k : ℕ) → Header g im → n < g .nodes → k < 80 → nodeAt g n + k < length im
+node-inside n k h l t = omega (arith, h .words)

@@ -33,66 +33,12 @@ use Rattle.book.specs.Histories.{replied}
 use Rattle.book.specs.Demands.{IsFormat, is-format, Alike}
 use Rattle.book.proofs.Refusals.{Denies, denies, denied, passes, refused-here, refused-later}
 use Rattle.book.proofs.Performed.{answer-is, work-granted, work-refused, reply-is, reply-granted, reply-refused}
+use Rattle.book.proofs.Level31.{never-level31, lacks-open, lacks-claim}
+use Rattle.book.proofs.Paired.{Paired, end, same, skip, run, paired-answer, paired-run}
 use Rattle.book.proofs.Reading.{sizesOf, same-test, image-right, edition-right, same-geometry, is-sound, slot-has, slot-below, path-there, tree-right}
 use Rattle.book.proofs.Reading.{same-frames, same-length, same-held, all-filled, same-idle, same-claimed, same-filled, claim-of, claim-inside, same-busy}
 
--- ---- two lists of refusals compared
-
--- test by test: equal tests with one number pair up, a book's test that never holds is passed over, and at 8 the table takes the
--- book's answer, which P decides
-pub data Paired (x : Fed) (P : Type 0) : List Refusal → List Refusal → Type 0 where
-  end : Paired x P [] []
-  same : {t u : Test} {rs qs : List Refusal} (n : ℕ) → eqb n 8 ≡ false → holds t ≡ holds u → (holds u ≡ false → Paired x P rs qs)
-      → Paired x P ((t gives n) ∷ rs) ((u gives n) ∷ qs)
-  skip : {t : Test} {n : ℕ} {rs qs : List Refusal} → holds t ≡ false → Paired x P rs qs → Paired x P ((t gives n) ∷ rs) qs
-  run : {t : Test} → (holds t ≡ true) ↔ P → Paired x P ((t gives 8) ∷ []) ((is (isNoRun x) gives 8) ∷ [])
-
--- then the answers are the same, where the table is fed the book's
-paired-answer : {x : Fed} {P : Type 0} {rs qs : List Refusal} {a : ℕ} → Paired x P rs qs → refusal rs ≡ a → x ≡ fed a → refusal qs ≡ a
-unfolding refusal
-paired-answer end h q = h
-paired-answer (same {t} {u} {rs} {qs} n d k p) h q = elim (test (holds u)) [
-  | inl e ↦ refused-here (u gives n) qs e ∙ sym (refused-here (t gives n) rs (k ∙ e)) ∙ h
-  | inr e ↦ refused-later (u gives n) qs e ∙ paired-answer (p e) (sym (refused-later (t gives n) rs (k ∙ e)) ∙ h) q
-]
-paired-answer (skip {t} {n} {rs} e p) h q = paired-answer p (sym (refused-later (t gives n) rs e) ∙ h) q
-paired-answer {x} {a = a} (run {t} i) h q = elim (test (holds t)) [
-  | inl e ↦
-      let w : 8 ≡ a = sym (refused-here (t gives 8) [] e) ∙ h in
-      refused-here (is (isNoRun x) gives 8) [] (ap isNoRun q ∙ ap (λ n. isNoRun (fed n)) (sym w)) ∙ w
-  | inr e ↦
-      let w : 0 ≡ a = sym (refused-later (t gives 8) [] e) ∙ h in
-      refused-later (is (isNoRun x) gives 8) [] (ap isNoRun q ∙ ap (λ n. isNoRun (fed n)) (sym w)) ∙ w
-]
-
--- and where the table comes to 8, the book's is 8 exactly if P
-paired-run : {P : Type 0} {rs qs : List Refusal} → Paired noRun P rs qs → refusal qs ≡ 8 → (refusal rs ≡ 8) ↔ P
-unfolding refusal
-paired-run end h = absurd (omega arith)
-paired-run (same {t} {u} {rs} {qs} n d k p) h = elim (test (holds u)) [
-  | inl e ↦ absurd (eqb-false n 8 d (sym (refused-here (u gives n) qs e) ∙ h))
-  | inr e ↦ rw (k ∙ e) (paired-run (p e) (sym (refused-later (u gives n) qs e) ∙ h))
-]
-paired-run (skip {t} {n} {rs} e p) h = rw e (paired-run p h)
-paired-run (run {t} i) h = elim (test (holds t)) [
-  | inl e ↦ rw e (λ q. i .0 e, λ q. refl)
-  | inr e ↦ rw e (λ q. absurd (omega arith), λ q. absurd (true-not-false (i .1 q) e))
-]
-
 -- ---- the operations' lists
-
--- what is proved elsewhere of a claim's room and of busy heads
-pub record RoomFacts (s : State) (t : Table) : Type 0 where
-  pub not-31 : {slot : ℕ} (f : ℕ) (ns : List ℕ) → Filled (sizesOf (s .image)) (reads (s .image)) slot
-      → pathFrom (sizesOf (s .image)) (reads (s .image)) slot f ≡ some ns → atLevel31 (roomOn (sizesOf (s .image)) (reads (s .image)) (some ns)) ≡ false
-  pub lacks-claim : {reel slot : ℕ} (words script h f : ℕ) (ns : List ℕ) → SlotHas (sizesOf (s .image)) (reads (s .image)) reel slot
-      → pathFrom (sizesOf (s .image)) (reads (s .image)) slot f ≡ some ns
-      → ((0 < needs (roomOn (sizesOf (s .image)) (reads (s .image)) (some ns)))
-      × (sizesOf (s .image) .nodes ≤ freeRun (sizesOf (s .image)) (reads (s .pool)) (needs (roomOn (sizesOf (s .image)) (reads (s .image)) (some ns)))))
-      ↔ Lacks s (claim words script h reel f)
-  pub lacks-open : (words script reel : ℕ) → (sizesOf (s .image) .nodes ≤ freeRun (sizesOf (s .image)) (reads (s .pool)) 1) ↔ Lacks s (openReel words script reel)
-  pub busy-names : (slot : ℕ) → (busy (s .heads) slot ≡ true) ↔ ((h : ℕ) × (h < headCount) × (names slot (headAt (s .heads) h) ≡ true))
-  pub is-busy : (reel : ℕ) → (isBusy t reel ≡ true) ↔ ((h : ℕ) × (h < length (t .heads)) × (isAbout reel (tableHead t h) ≡ true))
 
 claimed-not-idle : (y : TableHead) → table.isClaimed y ≡ true → table.isIdle y ≡ false
 claimed-not-idle table.idle h = absurd (true-not-false h refl)
@@ -108,7 +54,7 @@ filled-not-idle (table.filled r f) h = refl
 decided : (t : Test) {P : Type 0} → Says t ↔ P → (holds t ≡ true) ↔ P
 decided t h = (λ e. h .0 (says t e), λ p. said t (h .1 p))
 
-module _ {s : State} {t : Table} (a : Agrees s t) (k : RoomFacts s t) where
+module _ {s : State} {t : Table} (a : Agrees s t) where
   present-test : (reel : ℕ) → ltb (slotOf (sizesOf (s .image)) (reads (s .image)) reel) (sizesOf (s .image) .slots) ≡ isPresent t reel
   present-test reel =
       let d = slot-below (a .shows) reel in
@@ -155,7 +101,7 @@ module _ {s : State} {t : Table} (a : Agrees s t) (k : RoomFacts s t) where
   room-test : {reel slot : ℕ} (f : ℕ) → SlotHas (sizesOf (s .image)) (reads (s .image)) reel slot
       → let ns = pathFrom (sizesOf (s .image)) (reads (s .image)) slot f in
       holds (noPath ns or is (atLevel31 (roomOn (sizesOf (s .image)) (reads (s .image)) ns))) ≡ false
-  room-test f r = let ns = path-there (a .shows) (r .open-slot) f in rw (ns .1) (k .not-31 f (ns .0) (r .open-slot) (ns .1))
+  room-test f r = let ns = path-there (a .shows) (r .open-slot) f in rw (ns .1) (never-level31 a f (ns .0) (r .open-slot) (ns .1))
 
   run-test : {reel slot : ℕ} (words script h f : ℕ) → SlotHas (sizesOf (s .image)) (reads (s .image)) reel slot
       → let n = needs (roomOn (sizesOf (s .image)) (reads (s .image)) (pathFrom (sizesOf (s .image)) (reads (s .image)) slot f)) in
@@ -164,7 +110,7 @@ module _ {s : State} {t : Table} (a : Agrees s t) (k : RoomFacts s t) where
       let ns = path-there (a .shows) (r .open-slot) f in
       let n = needs (roomOn (sizesOf (s .image)) (reads (s .image)) (some (ns .0))) in
       rw (ns .1) (decided (lt 0 n and le (sizesOf (s .image) .nodes) (freeRun (sizesOf (s .image)) (reads (s .pool)) n))
-      (k .lacks-claim words script h f (ns .0) r (ns .1)))
+      (lacks-claim a words script h f (ns .0) r (ns .1)))
 
   paired : (op : Operation) (x : Fed) → Paired x (Lacks s op) (refusals op s) (tableRefusals op x t)
   unfolding refusals tableRefusals
@@ -178,13 +124,13 @@ module _ {s : State} {t : Table} (a : Agrees s t) (k : RoomFacts s t) where
       checks (same 3 refl (ap (λ g. holds (badMap g words or badScript script)) (same-geometry (a .shows))) (λ e.
       same 6 refl (present-test reel) (λ e.
       same 7 refl full-test (λ e.
-      run (decided (le (sizesOf (s .image) .nodes) (freeRun (sizesOf (s .image)) (reads (s .pool)) 1)) (k .lacks-open words script reel))))))
+      run (decided (le (sizesOf (s .image) .nodes) (freeRun (sizesOf (s .image)) (reads (s .pool)) 1)) (lacks-open a words script reel))))))
   paired (claim words script h reel f) x =
       checks (same 3 refl (ap (λ g. holds (badMap g words or badScript script)) (same-geometry (a .shows))) (λ e.
       head-there h (λ l.
       same 12 refl (ap not (same-idle (a .heads h l))) (λ e.
       reel-there reel (λ r.
-      same 13 refl (same-busy a r (k .busy-names _) (k .is-busy reel)) (λ e.
+      same 13 refl (same-busy a r) (λ e.
       skip (room-test f r) (same 9 refl (same-held (a .shows) r f) (λ e. run (run-test words script h f r)))))))))
   paired (fill script h) x =
       checks (same 3 refl refl (λ e.
@@ -203,7 +149,7 @@ module _ {s : State} {t : Table} (a : Agrees s t) (k : RoomFacts s t) where
   paired (remove script reel f) x =
       checks (same 3 refl refl (λ e.
       reel-there reel (λ r.
-      same 13 refl (same-busy a r (k .busy-names _) (k .is-busy reel)) (λ e.
+      same 13 refl (same-busy a r) (λ e.
       skip (path-test f r) (same 10 refl (ap not (same-held (a .shows) r f)) (λ e. end))))))
   paired (has reel f) x = checks (skip refl (reel-there reel (λ r. skip (path-test f r) end)))
   paired (list scratch room reel) x =
@@ -214,7 +160,7 @@ module _ {s : State} {t : Table} (a : Agrees s t) (k : RoomFacts s t) where
   paired (retire words scratch script reel) x =
       checks (same 3 refl (ap (λ g. holds (badMap g words or badMap g scratch or badScript script)) (same-geometry (a .shows))) (λ e.
       reel-there reel (λ r.
-      same 13 refl (same-busy a r (k .busy-names _) (k .is-busy reel)) (λ e. skip (ap not (tree-right (a .shows) (r .open-slot))) end))))
+      same 13 refl (same-busy a r) (λ e. skip (ap not (tree-right (a .shows) (r .open-slot))) end))))
 
 -- ---- what is handed back
 
@@ -305,10 +251,10 @@ table-answers (retire words scratch script reel) x t = never-these (tableRefusal
 
 -- ---- demand 2 of one state
 
-pub alike : {s : State} {t : Table} → Agrees s t → RoomFacts s t → (op : Operation) → Fit (arguments op) → Alike op s t
-alike {s} {t} a k op fit =
+pub alike : {s : State} {t : Table} → Agrees s t → (op : Operation) → Fit (arguments op) → Alike op s t
+alike {s} {t} a op fit =
     let x = fed (perform op s .answer) in
-    let e : perform op s .answer ≡ refusal (tableRefusals op x t) = sym (paired-answer (paired a k op x) (sym (answer-is op s)) refl) in
+    let e : perform op s .answer ≡ refusal (tableRefusals op x t) = sym (paired-answer (paired a op x) (sym (answer-is op s)) refl) in
     let q : perform op s .answer ≡ replied op s t .answer = e ∙ sym (reply-is op x t) in
     let n = table-answers op x t in
     let w = work-alike a op q in
@@ -319,5 +265,5 @@ alike {s} {t} a k op fit =
       not-edition = λ z. n .not-edition (sym e ∙ z);
       not-malformed = λ z. n .not-malformed (sym e ∙ z);
       format-alone = λ z. n .format-alone (sym e ∙ z);
-      no-run = λ z. rw answer-is (paired-run (paired a k op noRun) (sym (reply-is op noRun t) ∙ z));
+      no-run = λ z. rw answer-is (paired-run (paired a op noRun) (sym (reply-is op noRun t) ∙ z));
     }

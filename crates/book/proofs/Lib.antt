@@ -11,4 +11,5 @@ pub mod ReelLists
 pub mod Reels
 pub mod Views
 pub mod Reading
+pub mod Paired
 pub mod Alike

@@ -36,23 +36,14 @@ use Rattle.book.specs.Table as table
 use Rattle.book.specs.Table.{Table, TableHead, Reel, geometry, framesIn, orEmpty, isPresent, framesOf, isHeld, tableHead, isAbout, isBusy}
 use Rattle.book.specs.Agrees.{EachOnce, Shows, Claims, HeadAgrees, both-idle, both-claimed, both-filled, Agrees}
 use Rattle.book.specs.Ways.{SlotHas}
-use Rattle.book.proofs.Refusals.{Denies, denied}
+use Rattle.book.proofs.Refusals.{denied}
+use Rattle.book.proofs.Heads.{busy-names, is-busy}
+use Rattle.book.proofs.ReelLists.{has-member}
 
 -- ---- tests, and lists in which each number occurs once
 
 pub same-test : {b c : Bool} → (b ≡ true) ↔ (c ≡ true) → b ≡ c
 same-test {b} {c} h = elim (test b) [ inl e ↦ e ∙ sym (h .0 e) | inr e ↦ e ∙ sym (not-false (λ q. true-not-false (h .1 q) e)) ]
-
-has-member : (f : ℕ) (fs : List ℕ) → (hasKey (λ x. x) f fs ≡ true) ↔ List·Memᴰ f fs
-unfolding hasKey
-has-member f [] = (λ h. absurd (true-not-false h refl), λ x. absurd (List·Memᴰ·not-nil x))
-has-member f (x ∷ fs) = (
-  λ h. elim (or-true (eqb x f) (hasKey (λ x. x) f fs) h) [ inl e ↦ List·Memᴰ·head (sym (eqb-true x f e)) | inr e ↦ List·Memᴰ·tail (has-member f fs .0 e) ],
-  λ y. elim (List·Memᴰ·cases-cons y) [
-    | inl q ↦ or-left (hasKey (λ x. x) f fs) (eq-eqb x f (sym q))
-    | inr z ↦ or-right (eqb x f) (has-member f fs .1 z)
-  ],
-)
 
 -- where a number is in a list
 position : ℕ → List ℕ → ℕ
@@ -281,10 +272,11 @@ same-names v h (both-claimed c) = claim-names v c h
 same-names v h (both-filled c w) = claim-names v c h
 
 pub same-busy : {s : State} {t : Table} {reel slot : ℕ} → Agrees s t → SlotHas (sizesOf (s .image)) (reads (s .image)) reel slot
-    → (busy (s .heads) slot ≡ true) ↔ ((h : ℕ) × (h < headCount) × (names slot (headAt (s .heads) h) ≡ true))
-    → (isBusy t reel ≡ true) ↔ ((h : ℕ) × (h < length (t .heads)) × (isAbout reel (tableHead t h) ≡ true))
     → busy (s .heads) slot ≡ isBusy t reel
-same-busy a x b c = same-test (
-  λ h. let k = b .0 h in c .1 (k .0, rw (a .table-heads) (k .1), sym (same-names (a .shows) x (a .heads (k .0) (k .1))) ∙ k .2),
-  λ h. let k = c .0 h in let l = rw (a .table-heads) at (k .1) in b .1 (k .0, l, same-names (a .shows) x (a .heads (k .0) l) ∙ k .2),
-)
+same-busy {s} {t} {reel} {slot} a x =
+    let b = busy-names (s .heads) slot in
+    let c = is-busy t reel in
+    same-test (
+      λ h. let k = b .0 h in c .1 (k .0, rw (a .table-heads) (k .1), sym (same-names (a .shows) x (a .heads (k .0) (k .1))) ∙ k .2),
+      λ h. let k = c .0 h in let l = rw (a .table-heads) at (k .1) in b .1 (k .0, l, same-names (a .shows) x (a .heads (k .0) l) ∙ k .2),
+    )

@@ -17,3 +17,5 @@ pub mod Inside
 pub mod Writes
 pub mod Scripts
 pub mod MemoryLaws
+pub mod Paired
+pub mod Alike

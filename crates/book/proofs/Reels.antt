@@ -148,10 +148,13 @@ module _ {r : Rule} {g : Geometry} {m m' : Memory} {rs : List Reel} (d : Sound r
     where
       c : Grown r g m m' (NewRoot s n)
       c = change-laws m' d .opened a t
+
       back : (s' f : ℕ) → FrameOf g m' s' f → FrameOf g m s' f
       back s' f = frames-to (λ w n p h. c .holds .0 h)
+
       filled-now : Filled g m' s
       filled-now = record { inside = a .inside; linked = omega (arith, t .new) }
+
       this-slot : (s' : ℕ) → Filled g m' s' → m (reelAt s') ≡ m (reelAt s) → s' ≡ s
       this-slot s' b q = elim (ℕ-discrete s' s) [ yes e ↦ e | no e ↦ absurd (a .new-reel (other-back s t e b) q) ]
 
@@ -176,5 +179,6 @@ module _ {r : Rule} {g : Geometry} {m m' : Memory} {rs : List Reel} (d : Sound r
     where
       c : Retired r g m m' s
       c = change-laws m' d .retired a t
+
       other : (s' : ℕ) → Filled g m' s' → s' ≢ s
       other s' b e = omega (arith, b .linked, t .new, ap (λ x. m' (rootAt x)) e)

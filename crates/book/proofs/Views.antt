@@ -83,9 +83,12 @@ module _ {g : Geometry} {im im' : List ℕ} {rs : List Reel} (v : View g im rs) 
       (λ fs f' u. (
         λ x.
             let y = c .holds .0 (x .holds) in
-            without-members f fs .1 (u .0 (record { way = x .way; node = x .node; place = x .place; holds = y .0 }), λ q.
-            let o = v .sound .frame-once (rw q at (y .0)) b in
-            y .1 (one-node (rw (o .0) at (y .0 .there)) (b .there), o .1)),
+            without-members f fs .1 (
+              u .0 (record { way = x .way; node = x .node; place = x .place; holds = y .0 }),
+              λ q.
+                  let o = v .sound .frame-once (rw q at (y .0)) b in
+                  y .1 (one-node (rw (o .0) at (y .0 .there)) (b .there), o .1),
+            ),
         λ x.
             let z = without-members f fs .0 x in
             frames-to (λ w' n' p' y. c .holds .1 (y, λ e. z .1 (sym (y .is) ∙ ap₂ (λ n p. frame g (reads im) n p) (e .0) (e .1) ∙ b .is))) (u .1 (z .0)),

@@ -5,3 +5,5 @@ pub mod Stored
 pub mod ReelLists
 pub mod Reels
 pub mod Views
+pub mod Sames
+pub mod Showing

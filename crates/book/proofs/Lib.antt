@@ -1,9 +1,16 @@
 pub mod Refusals
 pub mod Performed
 pub mod View
+pub mod Step
+pub mod Starred
+pub mod Heads
+pub mod Rooms
+pub mod Level31
 pub mod Stored
 pub mod ReelLists
 pub mod Reels
 pub mod Views
 pub mod Sames
 pub mod Showing
+pub mod Reading
+pub mod Crashed

@@ -5,16 +5,18 @@ use mathlib.Core.List.{List}
 use Prim.Native.Nat.{ℕ, _<_}
 use lib.ListN.{length}
 use Rattle.tree.specs.Memory.{reads, segmented, apply, CrashImage, passed, Fit}
-use Rattle.book.specs.State.{State, Operation, format, recover, arguments}
+use Rattle.book.specs.State.{State, Operation, format, recover, arguments, Work}
 use Rattle.book.specs.Perform.{perform}
 use Rattle.book.specs.Table.{Table, Reply, fed, reply, emptyTable, allIdle}
 use Rattle.book.specs.Agrees.{Agrees}
 
+-- the state that work leaves once its script is carried out
+abbrev pub carriedOut : Work → State
+carriedOut w = record { image = apply (w .after .image) (segmented (w .script)); pool = w .after .pool; heads = w .after .heads }
+
 -- an operation done, and its script carried out
 abbrev pub done : Operation → State → State
-done op s =
-    let w = perform op s .work in
-    record { image = apply (w .after .image) (segmented (w .script)); pool = w .after .pool; heads = w .after .heads }
+done op s = carriedOut (perform op s .work)
 
 -- the table's reply, fed whether the book's answer is 8
 abbrev pub replied : Operation → State → Table → Reply

@@ -10,3 +10,4 @@ pub mod CarryOut
 pub mod Histories
 pub mod Ways
 pub mod Demands
+pub mod Starred

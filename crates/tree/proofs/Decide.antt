@@ -3,16 +3,17 @@ use mathlib.Core.Path.{_≡_, refl, sym, _∙_, ap, ap₂}
 use mathlib.Core.Bool.{true, _&&_}
 use mathlib.Core.Option.{Option, none, some}
 use mathlib.Core.List.{List}
-use Prim.Native.Nat.{ℕ}
+use Prim.Native.Nat.{ℕ, _<_}
+use native.Mathlib.Omega.{arith}
 use lib.ListN.{length}
 use Rattle.memory.specs.Words.{Memory}
 use Rattle.tree.specs.Test.{eq, _and_}
 use Rattle.tree.specs.Lists.{every, distinct, Distinct}
-use Rattle.tree.specs.Layout.{Geometry, reelAt}
+use Rattle.tree.specs.Layout.{Geometry, reelAt, rootAt}
 use Rattle.tree.specs.Path.{wayOf}
 use Rattle.tree.specs.Fingerprint.{Rule}
 use Rattle.tree.specs.Node.{frame}
-use Rattle.tree.specs.Slots.{filledSlots}
+use Rattle.tree.specs.Slots.{Filled, filledSlots}
 use Rattle.tree.specs.Reach.{Holds}
 use Rattle.tree.specs.Sound.{Sound}
 use Rattle.tree.specs.Lookup.{Spot, spot, find}
@@ -27,7 +28,8 @@ use Rattle.tree.proofs.Ways.{length-way}
 use Rattle.tree.proofs.Slots.{filled-slots, distinct-slots, own-slot}
 use Rattle.tree.proofs.Reach.{slot-filled}
 use Rattle.tree.proofs.Subtree.{visited, held-places}
-use Rattle.tree.proofs.Lookup.{find-holds, lookup-rule}
+use Rattle.tree.proofs.Paths.{sound-path}
+use Rattle.tree.proofs.Lookup.{find-holds, sound-tree, lookup-rule}
 use Rattle.tree.proofs.Trees.{SoundTrees, decides-tree, decides-trees}
 
 is-at : (n p : ℕ) (o : Option Spot) → isAt n p o ≡ true → o ≡ some (spot n p)
@@ -89,5 +91,25 @@ module _ (r : Rule) (g : Geometry) (m : Memory) where
       d .reels (filled-slots g m .0 x) (filled-slots g m .0 y) q))))
       (was-placed (record { at = λ {s} {w} {n} {p} {f} x. lookup-rule r g m d (slot-filled (x .there)) .at f n p .1 (w, x) }))
 
+  formatted : ((s : ℕ) → s < g .slots → m (rootAt s) ≡ 0) → Sound r g m
+  formatted h = record {
+    well-formed = λ x. absurd (unfilled (slot-filled x));
+    once = λ x y. absurd (unfilled (slot-filled x));
+    reels = λ b b' q. absurd (unfilled b);
+    on-path = λ x. absurd (unfilled (slot-filled (x .there)));
+    frame-once = λ x y. absurd (unfilled (slot-filled (x .there)));
+    fingerprints = λ x. absurd (unfilled (slot-filled (x .there)));
+  }
+    where
+      unfilled : {s : ℕ} → Filled g m s → ⊥
+      unfilled {s} b = omega (arith, b .linked, h s (b .inside))
+
   pub sound-laws : SoundLaws r g m
-  sound-laws = record { tree = λ b. decides-tree g m b; image = (sound, was-sound); own-slot = λ d b. own-slot d b }
+  sound-laws = record {
+    tree = λ b. decides-tree g m b;
+    image = (sound, was-sound);
+    formatted = formatted;
+    path = λ d b f. sound-path (sound-tree r g m d) b f;
+    trees = λ d. sound-tree r g m d;
+    own-slot = λ d b. own-slot d b;
+  }

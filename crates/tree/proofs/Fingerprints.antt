@@ -3,6 +3,8 @@ use mathlib.Core.Path.{_≡_, refl, sym, _∙_, ap}
 use mathlib.Core.Bool.{true}
 use Prim.Native.Nat.{ℕ, zero, suc, _+_, _*_, _%_, _^_, _<_}
 use native.Mathlib.Omega.{arith}
+use mathlib.Core.List.{map}
+use lib.ListN.{getD}
 use lib.Bits.{bitXor, xor-lt}
 use Rattle.memory.specs.Words.{byte, field}
 use Rattle.tree.specs.Fingerprint.{folded, tableEntry, OnceEach}
@@ -44,6 +46,17 @@ table-once = record {
   where
     both : (i : ℕ) → i < 256 → (placeOf (tableEntry i) ≡ i) × (tableEntry (placeOf i) ≡ i)
     both i h = says (eq (placeOf (tableEntry i)) i and eq (tableEntry (placeOf i)) i) (every-at _ inverses (upTo-members 256 .1 h))
+
+-- the rule as a list of 256 entries, which the code's table is
+range-at : (from n i : ℕ) → i < n → getD (map tableEntry (range from n)) i 0 ≡ tableEntry (from + i)
+unfolding range
+range-at from zero i h = absurd (omega arith)
+range-at from (suc n) zero h = let q : from ≡ from + 0 = omega arith in ap tableEntry q
+range-at from (suc n) (suc i) h = let q : suc from + i ≡ from + suc i = omega arith in range-at (suc from) n i (omega arith) ∙ ap tableEntry q
+
+pub table-at : (i : ℕ) → i < 256 → getD (map tableEntry (upTo 256)) i 0 ≡ tableEntry i
+unfolding upTo
+table-at i h = let q : 0 + i ≡ i = omega arith in range-at 0 256 i h ∙ ap tableEntry q
 
 pub fingerprint-laws : FingerprintLaws
 fingerprint-laws = record { table-once = table-once; fits = λ t k f. folded-lt t k f }

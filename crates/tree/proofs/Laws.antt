@@ -20,6 +20,7 @@ pub use Rattle.tree.proofs.Listing.{tree-laws}
 pub use Rattle.tree.proofs.Decide.{sound-laws}
 pub use Rattle.tree.proofs.Runs.{run-laws}
 pub use Rattle.tree.proofs.Pigeon.{room}
+pub use Rattle.tree.proofs.Pool.{pool-laws}
 pub use Rattle.tree.proofs.Level.{level-laws}
 pub use Rattle.tree.proofs.Same.{same-laws}
 

@@ -32,7 +32,7 @@ module _ {r : Rule} {g : Geometry} {m : Memory} (d : Sound r g m) where
       let k : frame g m n q ≡ frame g m n p = sym (split (frame g m n q) 59) ∙ rw (← e, ← agree l x y) (split (frame g m n p) 59) in
       d .frame-once x (record { there = t; place = b .0; set = b .1; is = k }) .1
 
-  pub level-laws : LevelLaws g m
+  pub level-laws : LevelLaws r g m d
   unfolding framesIn heldPlaces
   level-laws = record {
     agree = λ l x x'. agree l x x';

@@ -1,6 +1,5 @@
 pub mod Cases
 pub mod Tests
-pub mod Assumed
 pub mod Lists
 pub mod Distinct
 pub mod Ways
@@ -24,4 +23,6 @@ pub mod Decide
 pub mod Fingerprints
 pub mod Pigeon
 pub mod Level
+pub mod Pool
+pub mod Memory
 pub mod Laws

@@ -43,7 +43,7 @@ module _ {g : Geometry} {m : Memory} {s : ℕ} (b : Filled g m s) where
           → frame g m (v .node) p ≡ frame g m (v' .node) q → (v .way ≡ v' .way) × (p ≡ q)
       once v v' p q x x' y z e = d .frame-once (at-place v x p y) (subst (λ f. Holds g m s (v' .way) (v' .node) q f) (sym e) (at-place v' x' q z))
 
-  pub tree-laws : TreeLaws g m s
+  pub tree-laws : TreeLaws g m s b
   tree-laws = record {
     visited = visited g m b;
     listed = listed g m b;

@@ -18,13 +18,12 @@ use Rattle.tree.specs.Slots.{Filled}
 use Rattle.tree.specs.Reach.{Reaches, Holds}
 use Rattle.tree.specs.Sound.{Sound, SoundTree}
 use Rattle.tree.specs.Lookup.{Spot, spot, pathFrom, matches, foundAt, lookup, lookupOn, find}
-use Rattle.tree.specs.Laws.{PathLaws, Match, LookupSays, LookupRule}
+use Rattle.tree.specs.Laws.{Match, LookupSays, LookupRule}
 use Rattle.tree.proofs.Cases.{true-not-false, seen, nothing, just, some-inj, none-some}
 use Rattle.tree.proofs.Tests.{says, said}
-use Rattle.tree.proofs.Assumed.{search-laws}
-use Rattle.tree.proofs.Ways.{length-way}
+use Rattle.memory.proofs.Laws.{first-laws}
 use Rattle.tree.proofs.Reach.{one-node, slot-filled}
-use Rattle.tree.proofs.Paths.{path-laws}
+use Rattle.tree.proofs.Paths.{path-laws, sound-path}
 use Rattle.tree.proofs.Spots.{spot-laws}
 
 -- an element's number in its list
@@ -53,14 +52,14 @@ module _ (r : Rule) (g : Geometry) (m : Memory) where
       let t = spot-laws (foundAt r g m f) (λ n. 64) ns .found n p .0 h in (
         rw (t .split) (Memᴰ·append-right (t .above) (List·Memᴰ·head refl)),
         t .within,
-        rw (t .is) at (search-laws (matches r g m f n) 64 .holds (rw (t .is) (t .within))),
+        rw (t .is) at (first-laws (matches r g m f n) 64 .holds (rw (t .is) (t .within))),
       )
 
   match-lookup : (f : ℕ) (ns : List ℕ) → Match r g m f ns → lookup r g m f ns ≡ none → ⊥
   unfolding lookup foundAt
   match-lookup f ns t h =
       let a = spot-laws (foundAt r g m f) (λ n. 64) ns .nowhere .0 h (t .node) (t .member) in
-      let b = search-laws (matches r g m f (t .node)) 64 .least (t .place) (t .low) (t .is) in
+      let b = first-laws (matches r g m f (t .node)) 64 .least (t .place) (t .low) (t .is) in
       omega (arith, t .low)
 
   pub lookup-says : LookupSays r g m
@@ -87,29 +86,23 @@ module _ (r : Rule) (g : Geometry) (m : Memory) where
   ]
 
   -- where no node is malformed, a frame held on its path with its fingerprint is found, if not there then elsewhere
-  pub holds-found : {s : ℕ} → SoundTree g m s → (d : ℕ) {n p f : ℕ} → Holds g m s (wayOf d f) n p f
+  holds-found : {s : ℕ} → SoundTree g m s → (d : ℕ) {n p f : ℕ} → Holds g m s (wayOf d f) n p f
       → storedFingerprint g m n p ≡ fingerprint r f → (t : Spot) × (find r g m s f ≡ some t)
   unfolding find
-  holds-found {s} a d {n} {p} {f} x e = elim (seen (pathFrom g m s f)) [
-    | nothing q ↦
-        let t = laws .malformed .0 q in
-        absurd (true-not-false (rw (length-way (t .level) f) at (a .well-formed (t .there))) (t .is))
-    | just ns q ↦
-        let on = of-index ns d (laws .nodes ns q d n .1 (x .there)) in
-        let k : Match r g m f ns = record { node = n; place = p; member = on; low = x .place; is = match-facts f n p .1 (x .set, (x .is, e)) } in
-        elim (seen (lookup r g m f ns)) [
-          | nothing z ↦ absurd (match-lookup f ns k z)
-          | just t z ↦ (t, ap (lookupOn r g m f) q ∙ z)
-        ]
-  ]
-    where
-      laws : PathLaws g m s f
-      laws = path-laws f (slot-filled (x .there))
+  holds-found {s} a d {n} {p} {f} x e =
+      let b = slot-filled (x .there) in
+      let h = sound-path a b f in
+      let on = of-index (h .0) d (path-laws f b .nodes (h .0) (h .1) d n .1 (x .there)) in
+      let k : Match r g m f (h .0) = record { node = n; place = p; member = on; low = x .place; is = match-facts f n p .1 (x .set, (x .is, e)) } in
+      elim (seen (lookup r g m f (h .0))) [
+        | nothing z ↦ absurd (match-lookup f (h .0) k z)
+        | just t z ↦ (t, ap (lookupOn r g m f) (h .1) ∙ z)
+      ]
 
   pub sound-tree : {s : ℕ} → Sound r g m → SoundTree g m s
   sound-tree d = record { well-formed = λ x. d .well-formed x; once = λ x y. d .once x y .1 }
 
-  pub lookup-rule : {s : ℕ} → Sound r g m → Filled g m s → LookupRule r g m s
+  pub lookup-rule : {s : ℕ} (d : Sound r g m) (b : Filled g m s) → LookupRule r g m s d b
   lookup-rule {s} d b = record {
     at = λ f n p. (λ h. let t = find-holds b f n p h in (wayOf (t .0) f, t .1), λ t. held-at f n p (t .0) (t .1));
     yes = λ f. (

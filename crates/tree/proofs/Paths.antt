@@ -16,6 +16,7 @@ use Rattle.tree.specs.Path.{levels, child, wayOf}
 use Rattle.tree.specs.Node.{childOf, wellFormed}
 use Rattle.tree.specs.Slots.{Filled, rootOf}
 use Rattle.tree.specs.Reach.{Reaches, root, down}
+use Rattle.tree.specs.Sound.{SoundTree}
 use Rattle.tree.specs.Lookup.{path, pathFrom}
 use Rattle.tree.specs.Laws.{Malformed, PathLaws}
 use Rattle.tree.proofs.Cases.{test, true-not-false, Seen, seen, nothing, just, some-inj, none-some, nonzero}
@@ -108,7 +109,7 @@ module _ (g : Geometry) (m : Memory) (s f : ℕ) where
       go (stops w) ih = record { level = d; node = n; there = r; is = w }
       go (breaks w l q) ih = ih (way-down d r (linked-depth g m d n w l) l) q
 
-pub path-laws : {g : Geometry} {m : Memory} {s : ℕ} (f : ℕ) → Filled g m s → PathLaws g m s f
+pub path-laws : {g : Geometry} {m : Memory} {s : ℕ} (f : ℕ) (b : Filled g m s) → PathLaws g m s f b
 unfolding pathFrom wayOf
 path-laws {g} {m} {s} f b = record {
   nodes = λ ns h d n. let a = along ns h in (λ q. along-at g m s f a d d (omega arith) q .0, λ r. along-has g m s f a d d (omega arith) r);
@@ -130,3 +131,12 @@ path-laws {g} {m} {s} f b = record {
 
     along : (ns : List ℕ) → pathFrom g m s f ≡ some ns → Along g m s f 0 ns
     along ns h = path-along g m s f levels 0 ns start h
+
+-- where no node is malformed, every frame has its path
+pub sound-path : {g : Geometry} {m : Memory} {s : ℕ} → SoundTree g m s → Filled g m s → (f : ℕ) → (ns : List ℕ) × (pathFrom g m s f ≡ some ns)
+sound-path {g} {m} {s} a b f = elim (seen (pathFrom g m s f)) [
+  | nothing q ↦
+      let t = path-laws f b .malformed .0 q in
+      absurd (true-not-false (rw (length-way (t .level) f) at (a .well-formed (t .there))) (t .is))
+  | just ns q ↦ (ns, q)
+]

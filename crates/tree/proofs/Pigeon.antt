@@ -15,7 +15,7 @@ use Rattle.tree.specs.Laws.{RoomLaw}
 use Rattle.tree.proofs.Cases.{test}
 use Rattle.tree.proofs.Lists.{upTo-members, kept}
 use Rattle.tree.proofs.Distinct.{distinct-keep, distinct-by, distinct-upTo}
-use Rattle.tree.proofs.Assumed.{search-laws}
+use Rattle.memory.proofs.Laws.{first-laws}
 
 module _ {A : Type 0} where
   keep-all : (p : A → Bool) (xs : List A) → ((x : A) → List·Memᴰ x xs → p x ≡ true) → keep p xs ≡ xs
@@ -60,7 +60,7 @@ room = record {
   clear = λ set n b key few low one. elim (decLt (first (λ p. not (set p)) n) n) [
     | yes l ↦ l
     | no l ↦
-        let all : (p : ℕ) → p < n → set p ≡ true = λ p h. not-false (set p) (search-laws (λ p. not (set p)) n .none-before p (omega arith)) in
+        let all : (p : ℕ) → p < n → set p ≡ true = λ p h. not-false (set p) (first-laws (λ p. not (set p)) n .none-before p (omega arith)) in
         let below : (p : ℕ) → List·Memᴰ p (upTo n) → p < n = λ p z. upTo-members n .0 z in
         let d = distinct-by key (distinct-upTo n) (λ p q x y e. one p q (below p x) (below q y) (all p (below p x)) (all q (below q y)) e) in
         absurd (omega (arith, length-upTo n, pigeon key b (upTo n) d (λ p z. low p (below p z) (all p (below p z)))))

@@ -13,13 +13,13 @@ use Rattle.tree.specs.Lookup.{isFreeRun, freeRun}
 use Rattle.tree.specs.Laws.{FreeRun, RunLaws}
 use Rattle.tree.proofs.Cases.{true-not-false}
 use Rattle.tree.proofs.Tests.{says, said}
-use Rattle.tree.proofs.Assumed.{search-laws}
+use Rattle.memory.proofs.Laws.{first-laws}
 
 module _ (g : Geometry) (map : Memory) (k : ℕ) where
   free-run : (n : ℕ) → (isFreeRun g map k n ≡ true) ↔ FreeRun g map k n
   unfolding isFreeRun
   free-run n =
-      let l = search-laws (λ i. marked map (n + i)) k in
+      let l = first-laws (λ i. marked map (n + i)) k in
       let t : Test = le (n + k) (g .nodes) and eq (first (λ i. marked map (n + i)) k) k in (
         λ h. let a = says t h in record { inside = a .0; free = λ i b. l .none-before i (omega (arith, a .1)) },
         λ a. said t (
@@ -34,7 +34,7 @@ module _ (g : Geometry) (map : Memory) (k : ℕ) where
   pub run-laws : RunLaws g map k
   unfolding freeRun
   run-laws =
-      let l = search-laws (isFreeRun g map k) (g .nodes) in
+      let l = first-laws (isFreeRun g map k) (g .nodes) in
       record {
         free = free-run;
         found = λ h. free-run (freeRun g map k) .0 (l .holds h);

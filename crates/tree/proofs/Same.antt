@@ -121,8 +121,23 @@ module _ {g : Geometry} {m m' : Memory} (a : Same g m m') where
     fingerprints = λ {s} {w} {n} {p} x. let y = holds-back x in a .holds (y .there) .fingerprints p (y .place) (y .set);
   })
 
-  pub same-laws : SameLaws g m m'
+  reversed : Same g m' m
+  reversed = record {
+    links = record { roots = λ s h. sym (a .links .roots s h); next = λ x. sym (a .links .next (reaches-back (a .links) x)) };
+    reels = λ b. sym (a .reels (filled-back (a .links) b));
+    holds = λ x. back (a .holds (reaches-back (a .links) x));
+  }
+    where
+      back : {n : ℕ} → SameFrames g m m' n → SameFrames g m' m n
+      back q = record {
+        set = sym (q .set);
+        frames = λ p h t. sym (q .frames p h (rw (q .set) t));
+        fingerprints = λ p h t. sym (q .fingerprints p h (rw (q .set) t));
+      }
+
+  pub same-laws : SameLaws g m m' a
   same-laws = record {
+    reversed = reversed;
     reaches = (reaches-on (a .links), reaches-back (a .links));
     holds = (holds-on, holds-back);
     trees = tree-same;

@@ -20,7 +20,7 @@ use Rattle.tree.proofs.Cases.{nonzero, nonzero-test}
 use Rattle.tree.proofs.Tests.{says, said}
 use Rattle.tree.proofs.Lists.{upTo-members, kept, keeps}
 use Rattle.tree.proofs.Distinct.{distinct-keep, distinct-upTo}
-use Rattle.tree.proofs.Assumed.{search-laws}
+use Rattle.memory.proofs.Laws.{first-laws}
 
 -- the test of a slot's root word
 pub filled-test : (m : Memory) (s : ℕ) → (filled m s ≡ true) ↔ (0 < m (rootAt s))
@@ -44,7 +44,7 @@ module _ (g : Geometry) (m : Memory) where
   isReel reel s = is (filled m s) and eq (m (reelAt s)) reel
 
   reel-search : (reel : ℕ) → SearchLaws (λ s. holds (isReel reel s)) (g .slots)
-  reel-search reel = search-laws (λ s. holds (isReel reel s)) (g .slots)
+  reel-search reel = first-laws (λ s. holds (isReel reel s)) (g .slots)
 
   pub slot-laws : SlotLaws g m
   unfolding slotOf emptySlot isReel filled
@@ -55,8 +55,8 @@ module _ (g : Geometry) (m : Memory) where
         let t = says (isReel reel (slotOf g m reel)) (reel-search reel .holds h) in
         (record { inside = h; linked = filled-test m (slotOf g m reel) .0 (t .0) }, t .1);
     lowest = λ {s} b. reel-search (m (reelAt s)) .least s (b .inside) (said (isReel (m (reelAt s)) s) (filled-test m s .1 (b .linked), refl));
-    empty = λ h. eqb-true (m (rootAt (emptySlot g m))) 0 (not-false _ (not-true _ (search-laws (λ s. not (filled m s)) (g .slots) .holds h)));
-    lowest-empty = λ s h e. search-laws (λ s. not (filled m s)) (g .slots) .least s h (rw (eq-eqb (m (rootAt s)) 0 e));
+    empty = λ h. eqb-true (m (rootAt (emptySlot g m))) 0 (not-false _ (not-true _ (first-laws (λ s. not (filled m s)) (g .slots) .holds h)));
+    lowest-empty = λ s h e. first-laws (λ s. not (filled m s)) (g .slots) .least s h (rw (eq-eqb (m (rootAt s)) 0 e));
   }
 
 -- on a sound image a filled slot is its reel's

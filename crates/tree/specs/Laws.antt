@@ -1,4 +1,5 @@
--- What is proved of this layer's definitions: statements alone, each with its proof in proofs/.
+-- What is proved of this layer's definitions: statements alone, each with its proof in proofs/. A law that holds only under
+-- conditions has them among the parameters of its record.
 use mathlib.Core.Path.{_≡_}
 use mathlib.Core.Bool.{Bool, true, false, not}
 use mathlib.Core.Logic.{_⊎_, _↔_}
@@ -20,7 +21,7 @@ use Rattle.tree.specs.Sound.{Sound, SoundTree}
 use Rattle.tree.specs.Lookup.{spot, firstSpot, pathFrom, matches, lookup, find, isFreeRun, freeRun}
 use Rattle.tree.specs.Subtree.{visit, tree, framesIn, listing}
 use Rattle.tree.specs.Check.{isSoundTree, isSound}
-use Rattle.tree.specs.Same.{Stores}
+use Rattle.tree.specs.Same.{Same, Stores}
 use Rattle.tree.specs.Changes.{Opens, NewRoot, Links, NewChild, Grown, Retired, Commits, Committed, Removes, Removed}
 
 -- ---- children and ways
@@ -80,7 +81,7 @@ pub record Malformed (g : Geometry) (m : Memory) (s f : ℕ) : Type 0 where
   pub there : Reaches g m s (wayOf level f) node
   pub is : wellFormed g m level node ≡ false
 
-pub record PathLaws (g : Geometry) (m : Memory) (s f : ℕ) : Type 0 where
+pub record PathLaws (g : Geometry) (m : Memory) (s f : ℕ) (filled : Filled g m s) : Type 0 where
   -- the nodes of the path are those that the frame's ways reach, level by level, and they are well formed
   pub nodes : (ns : List ℕ) → pathFrom g m s f ≡ some ns → (d n : ℕ) → (getElem? ns d ≡ some n) ↔ Reaches g m s (wayOf d f) n
   pub formed : (ns : List ℕ) → pathFrom g m s f ≡ some ns → (d n : ℕ) → getElem? ns d ≡ some n → wellFormed g m d n ≡ true
@@ -116,13 +117,13 @@ pub record LookupSays (r : Rule) (g : Geometry) (m : Memory) : Type 0 where
 
 -- the lookup's rule, for any table and any number of bytes: on a sound image it finds a frame exactly where it is held,
 -- so that its answer is that of comparing all
-pub record LookupRule (r : Rule) (g : Geometry) (m : Memory) (s : ℕ) : Type 0 where
+pub record LookupRule (r : Rule) (g : Geometry) (m : Memory) (s : ℕ) (sound : Sound r g m) (filled : Filled g m s) : Type 0 where
   pub at : (f n p : ℕ) → (find r g m s f ≡ some (spot n p)) ↔ ((w : List ℕ) × Holds g m s w n p f)
   pub yes : (f : ℕ) → (isSome (find r g m s f) ≡ true) ↔ FrameOf g m s f
 
 -- ---- trees and listings
 
-pub record TreeLaws (g : Geometry) (m : Memory) (s : ℕ) : Type 0 where
+pub record TreeLaws (g : Geometry) (m : Memory) (s : ℕ) (filled : Filled g m s) : Type 0 where
   -- the nodes of a filled slot's tree are those that it reaches, and what it lists are its frames
   pub visited : (w : List ℕ) (n : ℕ) → List·Memᴰ (visit w n) (tree g m s) ↔ Reaches g m s w n
   pub listed : (f : ℕ) → List·Memᴰ f (listing g m s) ↔ FrameOf g m s f
@@ -135,7 +136,11 @@ pub record SoundLaws (r : Rule) (g : Geometry) (m : Memory) : Type 0 where
   -- the tests decide
   pub tree : {s : ℕ} → Filled g m s → (isSoundTree g m s ≡ true) ↔ SoundTree g m s
   pub image : (isSound r g m ≡ true) ↔ Sound r g m
-  -- on a sound image a filled slot is its reel's
+  -- with no slot filled, as after a Format, an image is sound
+  pub formatted : ((s : ℕ) → s < g .slots → m (rootAt s) ≡ 0) → Sound r g m
+  -- on a sound image every frame has its path, every tree is sound, and a filled slot is its reel's
+  pub path : {s : ℕ} → Sound r g m → Filled g m s → (f : ℕ) → (ns : List ℕ) × (pathFrom g m s f ≡ some ns)
+  pub trees : {s : ℕ} → Sound r g m → SoundTree g m s
   pub own-slot : {s : ℕ} → Sound r g m → Filled g m s → slotOf g m (m (reelAt s)) ≡ s
 
 -- ---- the pool map
@@ -158,8 +163,8 @@ pub record RoomLaw : Type 0 where
   pub clear : (set : ℕ → Bool) (n b : ℕ) (key : ℕ → ℕ) → b < n → ((p : ℕ) → p < n → set p ≡ true → key p < b)
       → ((p q : ℕ) → p < n → q < n → set p ≡ true → set q ≡ true → key p ≡ key q → p ≡ q) → first (λ p. not (set p)) n < n
 
--- of a sound image: the frames of a node of level 31 agree in bits 0 to 58 and are told by the others, so that at most 32 exist
-pub record LevelLaws (g : Geometry) (m : Memory) : Type 0 where
+-- the frames of a node of level 31 agree in bits 0 to 58 and are told apart by the others, so that at most 32 exist
+pub record LevelLaws (r : Rule) (g : Geometry) (m : Memory) (sound : Sound r g m) : Type 0 where
   pub agree : {s : ℕ} {w : List ℕ} {n p p' f f' : ℕ} → length w ≡ 31 → Holds g m s w n p f → Holds g m s w n p' f' → f % 2 ^ 59 ≡ f' % 2 ^ 59
   pub told : {s : ℕ} {w : List ℕ} {n : ℕ} → Reaches g m s w n → length w ≡ 31 → (p q : ℕ) → (p < 64) × (held g m n p ≡ true) → (q < 64) × (held g m n q ≡ true)
       → frame g m n p / 2 ^ 59 ≡ frame g m n q / 2 ^ 59 → p ≡ q
@@ -167,12 +172,13 @@ pub record LevelLaws (g : Geometry) (m : Memory) : Type 0 where
 
 -- ---- congruence
 
-pub record SameLaws (g : Geometry) (m m' : Memory) : Type 0 where
+pub record SameLaws (g : Geometry) (m m' : Memory) (same : Same g m m') : Type 0 where
+  pub reversed : Same g m' m
   pub reaches : {s : ℕ} {w : List ℕ} {n : ℕ} → Reaches g m s w n ↔ Reaches g m' s w n
   pub holds : {s : ℕ} {w : List ℕ} {n p f : ℕ} → Holds g m s w n p f ↔ Holds g m' s w n p f
   pub trees : {s : ℕ} → Filled g m s → tree g m s ≡ tree g m' s
   pub listings : {s : ℕ} → Filled g m s → listing g m s ≡ listing g m' s
-  -- a sound memory and one with the same in which every node reached is well formed are sound together
+  -- of a sound memory the other is sound too, if every node reached is well formed there
   pub sound : {r : Rule} → Sound r g m → ((s : ℕ) (w : List ℕ) (n : ℕ) → Reaches g m s w n → wellFormed g m' (length w) n ≡ true) → Sound r g m'
 
 -- ---- the changes of one word

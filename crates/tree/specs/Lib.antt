@@ -15,3 +15,4 @@ pub mod Changes
 pub mod Laws
 pub mod Memory
 pub mod Pool
+pub mod PoolLaws

@@ -16,7 +16,7 @@ module _ (g : Geometry) (m : Memory) where
   childOf n c = m (nextAt g n) - 1 + c
 
   -- what a node at depth d is unless it is malformed: inside the pool; its level is its depth; its size allowed; no bit at or
-  -- above its size in either bitmap; no children, or size 64 above level 31 and all children inside the pool
+  -- above its size in either bitmap; no children, or size 64, level below 31 and all children inside the pool
   unfoldable pub formed : ℕ → ℕ → Test
   formed d n =
       lt n (g .nodes)

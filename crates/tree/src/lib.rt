@@ -1,1 +1,2 @@
-// The suffix bit tree
+// The suffix bit tree.
+pub mod fingerprint;

@@ -1,0 +1,81 @@
+-- The starred cases of the paper, in one table: what is computed beside what it should be.
+use mathlib.Core.Path.{_≡_}
+use mathlib.Core.Bool.{true}
+use mathlib.Core.List.{List, [], _∷_, _++_, flatMap}
+use Prim.Native.Nat.{ℕ, _+_, _-_, _*_, _^_}
+use lib.ListN.{replicate}
+use lib.Dec.{eqb}
+use Rattle.tree.specs.Memory.{reads}
+use Rattle.tree.specs.Layout.{nextAt, sizeAt, geometryOf}
+use Rattle.tree.specs.Lists.{upTo, every}
+use Rattle.tree.specs.Path.{child}
+use Rattle.tree.specs.Fingerprint.{fingerprint, editionOne}
+use Rattle.book.specs.declared.Target.{Target}
+use Rattle.book.specs.Heads.{headAt, targetOf}
+use Rattle.book.specs.State.{State, Operation, format, openReel, claim, fill, commit, retire}
+use Rattle.book.specs.Perform.{perform}
+use Rattle.book.specs.Histories.{done}
+
+-- operations done one after the other
+unfoldable pub run : List Operation → State → State
+run [] s = s
+run (op ∷ ops) s = run ops (done op s)
+
+-- a book just formatted over zeros
+unfoldable pub formatted : (slots nodes : ℕ) → State
+formatted slots nodes =
+    done (format 1 slots nodes) (record { image = replicate (64 + 2 * slots + 80 * nodes) 0; pool = []; heads = replicate 10 0 })
+
+-- a frame of a reel claimed by head 0, and then filled and committed
+abbrev pub claims : (reel f : ℕ) → Operation
+claims reel f = claim 1 50 0 reel f
+
+unfoldable pub keeps : ℕ → ℕ → List Operation
+keeps reel f = claims reel f ∷ fill 50 0 ∷ commit 50 0 ∷ []
+
+abbrev pub opens : ℕ → Operation
+opens reel = openReel 1 50 reel
+
+-- reel 7 alone with frames 0 to k − 1, in a pool of n nodes
+unfoldable pub withFrames : (n k : ℕ) → State
+withFrames n k = run (opens 7 ∷ flatMap (keeps 7) (upTo k)) (formatted 1 n)
+
+-- reels 7 to 10 in a pool of four nodes, reel 8 with frames 0 to 63, reels 7 and 9 retired: nodes 0 and 2 are free
+unfoldable pub withGaps : State
+withGaps =
+    run ((opens 7 ∷ opens 8 ∷ opens 9 ∷ opens 10 ∷ flatMap (keeps 8) (upTo 64)) ++ (retire 1 1 50 7 ∷ retire 1 1 50 9 ∷ [])) (formatted 4 4)
+
+-- what head 0 is about, and the size of node 0 and the first child that its next word names
+abbrev pub target : State → Target
+target s = targetOf (headAt (s .heads) 0)
+
+abbrev pub rootSize : State → ℕ
+rootSize s = reads (s .image) (sizeAt (geometryOf (reads (s .image))) 0)
+
+abbrev pub firstChild : State → ℕ
+firstChild s = reads (s .image) (nextAt (geometryOf (reads (s .image))) 0) - 1
+
+-- the book once frame k, the next one, is claimed
+abbrev pub next : (n k : ℕ) → State
+next n k = done (claims 7 k) (withFrames n k)
+
+unfoldable pub starred : List (ℕ × ℕ)
+starred =
+    -- level 3: frames 8, 16, 24 go to children 1, 2, 3; level 30: 2^57 to 1, 2^58 to 2
+    (child 3 8, 1) ∷ (child 3 16, 2) ∷ (child 3 24, 3) ∷ (child 30 (2 ^ 57), 1) ∷ (child 30 (2 ^ 58), 2)
+    -- fingerprint of 0 is 144, of 1 is 113, of 2^32 is 144
+    ∷ (fingerprint editionOne 0, 144) ∷ (fingerprint editionOne 1, 113) ∷ (fingerprint editionOne (2 ^ 32), 144)
+    -- 16th frame: place 15, size 16; 17th: size 32, place 16; 33rd: size 64, place 32
+    ∷ (target (next 1 15) .place, 15) ∷ (rootSize (next 1 15), 16)
+    ∷ (target (next 1 16) .place, 16) ∷ (rootSize (next 1 16), 32)
+    ∷ (target (next 1 32) .place, 32) ∷ (rootSize (next 1 32), 64)
+    -- frames 0 to 63, then 64: place 0 of child 0; with N = 1 the last gets 8
+    ∷ (target (next 3 64) .node, firstChild (next 3 64)) ∷ (firstChild (next 3 64), 1) ∷ (target (next 3 64) .place, 0)
+    ∷ (perform (claims 7 64) (withFrames 1 64) .answer, 8)
+    -- N = 4, reels 7, 8, 9, 10 opened, 7 and 9 retired: a branch-out of reel 8 gets refusal 8, with two nodes free
+    ∷ (perform (claims 8 64) withGaps .answer, 8) ∷ (reads (withGaps .pool) 0, 2 ^ 1 + 2 ^ 3)
+    ∷ []
+
+-- every row is as it should be
+abbrev pub Starred : Type 0
+Starred = every (λ (row : ℕ × ℕ). eqb (row .0) (row .1)) starred ≡ true

@@ -10,6 +10,8 @@ pub mod Stored
 pub mod ReelLists
 pub mod Reels
 pub mod Views
+pub mod Sames
+pub mod Showing
 pub mod Reading
 pub mod Demand1
 pub mod Entries
@@ -19,3 +21,4 @@ pub mod Scripts
 pub mod MemoryLaws
 pub mod Paired
 pub mod Alike
+pub mod Crashed

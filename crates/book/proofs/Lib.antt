@@ -12,3 +12,4 @@ pub mod Reels
 pub mod Views
 pub mod Reading
 pub mod Keeps
+pub mod Claims

@@ -3,15 +3,16 @@ use mathlib.Core.Path.{_≡_, refl, sym, _∙_, ap, ap₂, subst}
 use mathlib.Core.Bool.{Bool, true, false}
 use mathlib.Core.Logic.{_⊎_, inl, inr, _↔_}
 use mathlib.Core.List.{List}
-use Prim.Native.Nat.{ℕ, _+_, _*_, _≤_, _<_}
+use Prim.Native.Nat.{ℕ, _+_, _*_, _/_, _%_, _≤_, _<_}
 use native.Mathlib.Omega.{arith}
 use lib.ListN.{length}
-use Rattle.tree.specs.Memory.{Memory, reads, isSet}
-use Rattle.tree.specs.Layout.{Geometry, mapWords, geometryOf, reelAt, locateAt, setAt, sizeAt}
+use Rattle.tree.specs.Memory.{Memory, reads, isSet, byte}
+use Rattle.tree.specs.Layout.{Geometry, mapWords, geometryOf, reelAt, locateAt, setAt, sizeAt, fingerprintsAt, frameAt}
 use Rattle.tree.specs.Fingerprint.{fingerprint, ruleOf}
 use Rattle.tree.specs.Node.{held, frame, storedFingerprint}
 use Rattle.tree.specs.Reach.{Reaches, FrameOf}
 use Rattle.tree.specs.Pool.{used}
+use Rattle.tree.specs.Same.{SameWords}
 use Rattle.tree.proofs.Reach.{slot-filled}
 use Rattle.book.specs.declared.Target.{Target}
 use Rattle.book.specs.declared.HeadState.{HeadState}
@@ -59,6 +60,26 @@ module _ {g : Geometry} {m m' : Memory} where
   head-on h both-idle = both-idle
   head-on h (both-claimed c) = both-claimed (claims-on (h _ _ _ by-claim c) c)
   head-on h (both-filled c w) = let a = h _ _ _ by-fill c in both-filled (claims-on a c) (written-on a w)
+
+  -- a claim whose node's words all stay
+  pub untouched : (t : Target) → SameWords g m m' (t .node) → t .place < 64 → m (reelAt (t .slot)) ≡ m' (reelAt (t .slot))
+      → ((w : List ℕ) → Reaches g m (t .slot) w (t .node) → Reaches g m' (t .slot) w (t .node))
+      → (FrameOf g m' (t .slot) (t .frame) → FrameOf g m (t .slot) (t .frame)) → SameClaim g m m' t
+  untouched t a l q r h = record {
+    reel = q;
+    ways = λ {w} x. r w x;
+    size = omega (arith, a .words (sizeAt g (t .node)) (omega arith) (omega arith));
+    locate = ap (λ x. isSet x (t .place)) (a .words (locateAt g (t .node)) (omega arith) (omega arith));
+    set = ap (λ x. isSet x (t .place)) (a .words (setAt g (t .node)) (omega arith) (omega arith));
+    frame = a .words (frameAt g (t .node) (t .place)) (omega arith) (omega arith);
+    fingerprint = ap (λ x. byte x (t .place % 8)) (a .words (fingerprintsAt g (t .node) (t .place)) (omega arith) (omega arith));
+    frames = h;
+  }
+
+  -- what locate has of such a node stays
+  pub locates-on : {n : ℕ} {X : Type 0} (p : ℕ) → SameWords g m m' n → (isSet (m (locateAt g n)) p ≡ true) ↔ ((held g m n p ≡ true) ⊎ X)
+      → (isSet (m' (locateAt g n)) p ≡ true) ↔ ((held g m' n p ≡ true) ⊎ X)
+  locates-on {n} p a h = rw (a .words (locateAt g n) (omega arith) (omega arith), a .words (setAt g n) (omega arith) (omega arith)) at h
 
 -- a head that is about a target has a claim to it
 pub about-claim : {g : Geometry} {m : Memory} {x : HeadState} {y : TableHead} {t : Target} → HeadAgrees g m x y → About t x

@@ -16,3 +16,4 @@ pub mod Reading
 pub mod Keeps
 pub mod Claims
 pub mod Crashed
+pub mod StepRetire

@@ -131,3 +131,80 @@ open-table : (t : Table) (words script reel : ℕ)
     → tableWork (openReel words script reel) t .after ≡ withReels t (record { number = reel; frames = [] } ∷ t .reels)
 unfolding tableWork
 open-table t words script reel = refl
+
+-- ---- the first segment
+
+abbrev opened : Geometry → (slot n reel : ℕ) → List Store
+opened g slot n reel = newNode g n 0 16 ++ ((reelAt slot, reel) ∷ [])
+
+module _ {s : State} {t : Table} {slot n reel : ℕ} (a : Agrees s t) (o : Opening s slot n reel) where
+  v : View (sizesOf (s .image)) (s .image) (t .reels)
+  v = shows-view (a .shows)
+
+  unread : (i x : ℕ) → List·Memᴰ {A = Store} (i, x) (opened (sizesOf (s .image)) slot n reel)
+      → Unread (sizesOf (s .image)) (reads (s .image)) i × (x < 2 ^ 64)
+  unread i x y =
+      let free : (j : ℕ) → nodeAt (sizesOf (s .image)) n ≤ j → j < nodeAt (sizesOf (s .image)) n + 80 → Unread (sizesOf (s .image)) (reads (s .image)) j =
+          λ j l h. of-node n l h (o .free) in
+      each-of (λ z. Unread (sizesOf (s .image)) (reads (s .image)) (z .0) × (z .1 < 2 ^ 64)) (opened (sizesOf (s .image)) slot n reel)
+      ((free _ (omega arith) (omega arith), omega arith),
+      ((free _ (omega arith) (omega arith), omega arith),
+      ((free _ (omega arith) (omega arith), omega arith),
+      ((free _ (omega arith) (omega arith), omega arith),
+      ((free _ (omega arith) (omega arith), omega arith),
+      ((of-slot slot (o .inside) (o .empty) refl, o .fits), tt)))))) (i, x) y
+
+  -- torn or whole, it changes nothing that is read
+  module _ {im : List ℕ} (y : Torn (s .image) (opened (sizesOf (s .image)) slot n reel) im) where
+    torn-view : View (sizesOf (s .image)) im (t .reels)
+    torn-view = view-torn v y unread
+
+    differ : (i : ℕ) → (reads (s .image) i ≡ reads im i) ⊎ Unread (sizesOf (s .image)) (reads (s .image)) i
+    differ i = elim (y .each i) [ inl q ↦ inl (sym q) | inr z ↦ inr (unread i _ z .0) ]
+
+    torn-same : SameLaws (sizesOf (s .image)) (reads (s .image)) (reads im) (unread-same differ)
+    torn-same = same-laws (unread-same differ)
+
+    torn-shows : Shows im t
+    torn-shows = view-shows torn-view (a .shows .slots) (a .shows .nodes)
+
+    torn-keeps : Keeps (s .image) im
+    torn-keeps = keeps-of v (torn-view .header) (record { reels = λ b c. unread-reel differ b; held = λ x. inl (torn-same .holds .1 x) })
+
+  -- ---- the image once it is carried out
+
+  abbrev written : List ℕ
+  written = apply (s .image) (stores (opened (sizesOf (s .image)) slot n reel))
+
+  whole : Torn (s .image) (opened (sizesOf (s .image)) slot n reel) written
+  whole = torn-whole (s .image) (opened (sizesOf (s .image)) slot n reel)
+
+  values : Each (λ y. reads written (y .0) ≡ y .1) (opened (sizesOf (s .image)) slot n reel)
+  values =
+      let w = v .header .words in
+      stored-each (opened (sizesOf (s .image)) slot n reel) (s .image) (length (s .image)) refl (omega arith) (omega arith)
+
+  fresh : Fresh (sizesOf (s .image)) (reads written) 0 n
+  fresh = record {
+    unreached = λ {s = s'} {w = w} x. o .free (record { slot = s'; way = w; there = torn-same whole .reaches .1 x });
+    formed = node-laws (sizesOf (s .image)) (reads written) .facts 0 n .1 (record {
+      inside = o .low;
+      level = values .1 .1 .1 .0;
+      size = inr (refl, inl (values .1 .1 .1 .1 .0));
+      locate = rw (values .1 .0, values .1 .1 .1 .1 .0) (omega arith);
+      set = rw (values .1 .1 .0, values .1 .1 .1 .1 .0) (omega arith);
+      next = inl (values .0);
+    });
+    childless = values .0;
+    bare = values .1 .1 .0;
+  }
+
+  opens : Opens (sizesOf (s .image)) (reads written) slot n
+  opens = record {
+    inside = o .inside;
+    empty = sym (unread-same (differ whole) .links .roots slot (o .inside)) ∙ o .empty;
+    new-reel = λ {s' = s'} b q.
+        let b' = filled-back (unread-same (differ whole) .links) b in
+        o .new-reel s' b' (unread-reel (differ whole) b' ∙ q ∙ values .1 .1 .1 .1 .1 .0);
+    fresh = fresh;
+  }

@@ -29,3 +29,7 @@ pub mod Mended
 pub mod Recovery
 pub mod Formatted
 pub mod Assembly
+pub mod Keeps
+pub mod Claims
+pub mod StepRetire
+pub mod StepOpen

@@ -33,3 +33,4 @@ pub mod Keeps
 pub mod Claims
 pub mod StepRetire
 pub mod StepOpen
+pub mod StepRead

@@ -1,0 +1,29 @@
+-- The steps of Has and List: nothing is written.
+use mathlib.Core.Path.{_≡_, refl}
+use mathlib.Core.Logic.{inl}
+use mathlib.Core.List.{List, []}
+use Prim.Native.Nat.{ℕ}
+use Rattle.book.specs.State.{State, Operation, has, list}
+use Rattle.book.specs.Perform.{granted}
+use Rattle.book.specs.Table.{Table, tableWork}
+use Rattle.book.specs.Agrees.{Shows, Agrees}
+use Rattle.book.proofs.Showing.{shows-view}
+use Rattle.book.proofs.StoreLists.{apply-none, crash-none}
+use Rattle.book.proofs.Keeps.{keeps-itself}
+use Rattle.book.proofs.Step.{Keeps, Step}
+
+-- an operation without a script that leaves the state and the table
+step-idle : {op : Operation} {s : State} {t : Table} → granted op s .script ≡ [] → granted op s .after ≡ s → tableWork op t .after ≡ t → Agrees s t → Step op s t
+step-idle {op} {s} {t} p q r a = record {
+  final = rw (p, q, r, apply-none (s .image)) a;
+  crash = rw p (λ k im c. rw (crash-none (s .image) k im c) (inl (a .shows)));
+  keeps = rw p (λ k im c. rw (crash-none (s .image) k im c) (keeps-itself (shows-view (a .shows))));
+}
+
+pub step-has : {s : State} {t : Table} → Agrees s t → (reel f : ℕ) → Step (has reel f) s t
+unfolding granted tableWork
+step-has a reel f = step-idle refl refl refl a
+
+pub step-list : {s : State} {t : Table} → Agrees s t → (scratch room reel : ℕ) → Step (list scratch room reel) s t
+unfolding granted tableWork
+step-list a scratch room reel = step-idle refl refl refl a

@@ -11,6 +11,7 @@ use Rattle.tree.specs.Memory.{Memory, reads, isSet, Fit, Store, stores, segment
 use Rattle.tree.specs.Test.{Says}
 use Rattle.tree.specs.Layout.{Geometry, inRange, geometryOf, reelAt, rootAt, nodeAt, nextAt, locateAt, setAt, levelAt, sizeAt}
 use Rattle.tree.specs.Fingerprint.{ruleOf}
+use Rattle.tree.specs.Node.{held}
 use Rattle.tree.specs.Slots.{Filled, slotOf, emptySlot}
 use Rattle.tree.specs.Lookup.{freeRun}
 use Rattle.tree.specs.Reach.{Reaches, FrameOf}
@@ -29,7 +30,8 @@ use Rattle.book.specs.State.{State, openReel, arguments}
 use Rattle.book.specs.Checks.{refusals}
 use Rattle.book.specs.Perform.{perform, granted, writing, newNode, openScript}
 use Rattle.book.specs.Table.{Table, withReels, tableWork}
-use Rattle.book.specs.Agrees.{Reached, Shows, Claims, About, ClaimsPlace, Agrees}
+use Rattle.book.specs.Agrees.{Reached, Shows, Claims, ClaimsPlace, Agrees}
+use Rattle.book.specs.Histories.{carriedOut}
 use Rattle.book.proofs.Refusals.{passes}
 use Rattle.book.proofs.Performed.{answer-is}
 use Rattle.book.proofs.View.{Header, View}
@@ -38,7 +40,7 @@ use Rattle.book.proofs.Reels.{frames-to}
 use Rattle.book.proofs.Views.{view-opened}
 use Rattle.book.proofs.Sames.{Unread, of-node, of-slot}
 use Rattle.book.proofs.Showing.{shows-view, view-shows}
-use Rattle.book.proofs.Crashed.{torn-one, apply-one, torn-whole, view-torn}
+use Rattle.book.proofs.Crashed.{Through, torn-one, apply-one, torn-whole, view-torn}
 use Rattle.book.proofs.Level31.{lowest-run}
 use Rattle.book.proofs.Reading.{sizesOf, claim-inside}
 use Rattle.book.proofs.Keeps.{keeps-of, step-of}
@@ -208,3 +210,126 @@ module _ {s : State} {t : Table} {slot n reel : ℕ} (a : Agrees s t) (o : Openi
         o .new-reel s' b' (unread-reel (differ whole) b' ∙ q ∙ values .1 .1 .1 .1 .1 .0);
     fresh = fresh;
   }
+
+  -- ---- the root
+
+  abbrev rooted : List ℕ
+  rooted = set written (rootAt slot) (n + 1)
+
+  root-inside : rootAt slot < length written
+  root-inside = let w = torn-view whole .header .words in omega arith
+
+  stored : Stores (reads written) (rootAt slot) (suc n) (reads rooted)
+  stored =
+      let z : n + 1 ≡ suc n = omega arith in
+      let y = stores-set written (rootAt slot) (n + 1) root-inside in
+      record { new = y .new ∙ z; old = y .old }
+
+  header : Header (sizesOf (s .image)) rooted
+  header =
+      let l = few-nodes (sizesOf (s .image)) (v .header .in-range) in
+      header-set (rootAt slot) (n + 1) (torn-view whole .header) (omega arith) root-inside (omega arith)
+
+  change : Grown (ruleOf (reads written)) (sizesOf (s .image)) (reads written) (reads rooted) (NewRoot slot n)
+  change = change-laws (reads rooted) (torn-view whole .sound) .opened opens stored
+
+  shows-rooted : Shows rooted (withReels t (record { number = reel; frames = [] } ∷ t .reels))
+  shows-rooted = view-shows (rw (values .1 .1 .1 .1 .1 .0) at (view-opened (torn-view whole) header opens stored)) (a .shows .slots) (a .shows .nodes)
+
+  reel-kept : {s' : ℕ} → Filled (sizesOf (s .image)) (reads (s .image)) s' → reads (s .image) (reelAt s') ≡ reads rooted (reelAt s')
+  reel-kept {s'} b = unread-reel (differ whole) b ∙ stored .old (reelAt s') (λ q. omega arith)
+
+  keeps-rooted : Keeps (s .image) rooted
+  keeps-rooted = keeps-of v header (record { reels = λ b c. reel-kept b; held = λ x. inl (torn-same whole .holds .1 (change .holds .0 x)) })
+
+  -- what is reached: what was, and the new node
+  reached-on : {s' k : ℕ} {w : List ℕ} → Reaches (sizesOf (s .image)) (reads (s .image)) s' w k → Reaches (sizesOf (s .image)) (reads rooted) s' w k
+  reached-on x = change .reaches .1 (inl (torn-same whole .reaches .0 x))
+
+  reached-back : {k : ℕ} → Reached (sizesOf (s .image)) (reads rooted) k → (k ≡ n) ⊎ Reached (sizesOf (s .image)) (reads (s .image)) k
+  reached-back r = elim (change .reaches .0 (r .there)) [
+    | inl x ↦ inr (record { slot = r .slot; way = r .way; there = torn-same whole .reaches .1 x })
+    | inr x ↦ inl (x .is)
+  ]
+
+  reached-new : Reached (sizesOf (s .image)) (reads rooted) n
+  reached-new = record { slot = slot; way = []; there = change .reaches .1 (inr (record { slot = refl; way = refl; is = refl })) }
+
+  words : {s' k : ℕ} {w : List ℕ} → Reaches (sizesOf (s .image)) (reads (s .image)) s' w k → SameWords (sizesOf (s .image)) (reads (s .image)) (reads rooted) k
+  words {k = k} x = record { words = λ i l h. unread-words (differ whole) x .words i l h ∙ beside-nodes (sizesOf (s .image)) stored slot k (o .inside) refl .words i l h }
+
+  same-claim : (x : Target) (r f : ℕ) → Claims (sizesOf (s .image)) (reads (s .image)) x r f
+      → SameClaim (sizesOf (s .image)) (reads (s .image)) (reads rooted) x
+  same-claim x r f c =
+      untouched x (words (c .on-path)) (claim-inside (a .shows) c .1) (reel-kept (c .open-slot)) (λ w. reached-on)
+      (frames-to (λ w k p y. torn-same whole .holds .1 (change .holds .0 y)))
+
+  marks : (k : ℕ) → (used (mark (s .pool) n) k ≡ true) ↔ Reached (sizesOf (s .image)) (reads rooted) k
+  marks k =
+      let u = pool-laws .marks (s .pool) n k (omega (arith, pool-laws .inside (sizesOf (s .image)) n (o .low), a .map-words)) in (
+        λ e. elim (u .0 e) [
+          | inl q ↦ rw q reached-new
+          | inr y ↦ let r = a .marks k .0 y in record { slot = r .slot; way = r .way; there = reached-on (r .there) }
+        ],
+        λ r. u .1 (elim (reached-back r) [ inl q ↦ inl q | inr y ↦ inr (a .marks k .1 y) ]),
+      )
+
+  -- the new node has no place located, held or claimed
+  no-claim : (h p : ℕ) → ClaimsPlace (s .heads) h n p → ⊥
+  no-claim h p x =
+      let c = about-claim (a .heads h (x .low)) (x .about) in
+      o .free (subst (Reached (sizesOf (s .image)) (reads (s .image))) (x .node) (record { slot = x .target .slot; way = _; there = c .2 .on-path }))
+
+  none-set : (p : ℕ) → isSet 0 p ≡ true → ⊥
+  none-set p e = true-not-false e (bit-laws .none-above 0 0 p (omega arith) (omega arith))
+
+  locates : (k p : ℕ) → Reached (sizesOf (s .image)) (reads rooted) k → p < 64
+      → (isSet (reads rooted (locateAt (sizesOf (s .image)) k)) p ≡ true)
+      ↔ ((held (sizesOf (s .image)) (reads rooted) k p ≡ true) ⊎ ((h : ℕ) × ClaimsPlace (s .heads) h k p))
+  locates k p r l = elim (reached-back r) [
+    | inl q ↦
+        let y = beside-nodes (sizesOf (s .image)) stored slot n (o .inside) refl in
+        rw (q, ← y .words (locateAt (sizesOf (s .image)) n) (omega arith) (omega arith), ← y .words (setAt (sizesOf (s .image)) n) (omega arith) (omega arith),
+        values .1 .0, values .1 .1 .0) (
+          λ e. absurd (none-set p e),
+          λ e. elim e [ inl z ↦ absurd (none-set p z) | inr z ↦ absurd (no-claim (z .0) p (z .1)) ],
+        )
+    | inr y ↦ locates-on p (words (y .there)) (a .locates k p y l)
+  ]
+
+  agrees-rooted : Agrees (record { image = rooted; pool = mark (s .pool) n; heads = s .heads }) (withReels t (record { number = reel; frames = [] } ∷ t .reels))
+  agrees-rooted = agrees-of (header .geometry) shows-rooted (record {
+    map-words = pool-laws .length-mark (s .pool) n ∙ a .map-words;
+    marks = marks;
+    head-words = a .head-words;
+    table-heads = a .table-heads;
+    heads = λ h l. head-on (λ x r f i c. same-claim x r f c) (a .heads h l);
+    apart = a .apart;
+    locates = locates;
+  })
+
+  -- every image that a crash leaves
+  through : Through (λ im. (Shows im t ⊎ Shows im (withReels t (record { number = reel; frames = [] } ∷ t .reels))) × Keeps (s .image) im) (s .image)
+      (openScript (sizesOf (s .image)) slot n reel)
+  unfolding openScript
+  through = (
+    λ im y. (inl (torn-shows y), torn-keeps y),
+    (
+      λ im y. elim (torn-one y) [
+        | inl q ↦ rw q (inl (torn-shows whole), torn-keeps whole)
+        | inr q ↦ rw q (inr shows-rooted, keeps-rooted)
+      ],
+      rw (apply-one written (rootAt slot) (n + 1)) (inr shows-rooted, keeps-rooted),
+    ),
+  )
+
+  final : Agrees (carriedOut (writing (openScript (sizesOf (s .image)) slot n reel) (record { image = s .image; pool = mark (s .pool) n; heads = s .heads })))
+      (withReels t (record { number = reel; frames = [] } ∷ t .reels))
+  unfolding openScript
+  final = rw (two-segments (s .image) (opened (sizesOf (s .image)) slot n reel) (rootAt slot) (n + 1)) agrees-rooted
+
+pub step-open : {s : State} {t : Table} → Agrees s t → (words script reel : ℕ) → Fit (arguments (openReel words script reel))
+    → perform (openReel words script reel) s .answer ≡ 0 → Step (openReel words script reel) s t
+step-open {s} {t} a words script reel fits h =
+    let o = opening a words script reel (fits 0) h in
+    step-of (open-granted s words script reel) (open-table t words script reel) (final a o) (through a o)

@@ -17,4 +17,5 @@ pub mod Keeps
 pub mod Claims
 pub mod Crashed
 pub mod StepRetire
+pub mod Opening
 pub mod StepOpen

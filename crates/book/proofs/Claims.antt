@@ -1,14 +1,14 @@
 -- A book's agreement with its table, in a given geometry: claims carried from one memory to another.
-use mathlib.Core.Path.{_≡_, refl, sym, _∙_, ap, ap₂, subst}
-use mathlib.Core.Bool.{Bool, true, false}
+use mathlib.Core.Path.{_≡_, sym, _∙_, ap, subst}
+use mathlib.Core.Bool.{true}
 use mathlib.Core.Logic.{_⊎_, inl, inr, _↔_}
 use mathlib.Core.List.{List}
-use Prim.Native.Nat.{ℕ, _+_, _*_, _/_, _%_, _≤_, _<_}
+use Prim.Native.Nat.{ℕ, _*_, _%_, _≤_, _<_}
 use native.Mathlib.Omega.{arith}
 use lib.ListN.{length}
 use Rattle.tree.specs.Memory.{Memory, reads, isSet, byte}
 use Rattle.tree.specs.Layout.{Geometry, mapWords, geometryOf, reelAt, rootAt, locateAt, setAt, sizeAt, fingerprintsAt, frameAt}
-use Rattle.tree.specs.Fingerprint.{fingerprint, ruleOf}
+use Rattle.tree.specs.Fingerprint.{fingerprint}
 use Rattle.tree.specs.Node.{held, frame, storedFingerprint}
 use Rattle.tree.specs.Slots.{Filled}
 use Rattle.tree.specs.Reach.{Reaches, FrameOf}
@@ -21,7 +21,8 @@ use Rattle.book.specs.declared.HeadState.{HeadState}
 use Rattle.book.specs.Heads.{headCount, headAt}
 use Rattle.book.specs.State.{State}
 use Rattle.book.specs.Table.{Table, TableHead, tableHead}
-use Rattle.book.specs.Agrees.{Reached, Shows, Claims, Written, HeadAgrees, both-idle, both-claimed, both-filled, About, by-claim, by-fill, ClaimsPlace, Agrees}
+use Rattle.book.specs.Agrees.{Reached, Shows, Claims, Written, HeadAgrees, both-idle, both-claimed, both-filled}
+use Rattle.book.specs.Agrees.{About, by-claim, by-fill, ClaimsPlace, Agrees}
 use Rattle.book.proofs.Stored.{same-rule}
 use Rattle.book.proofs.Sames.{Unread, of-node, of-slot}
 

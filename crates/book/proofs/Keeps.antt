@@ -1,10 +1,10 @@
 -- Frames keep their places: from what an image holds, place by place.
-use mathlib.Core.Path.{_≡_, refl, sym, _∙_, ap}
+use mathlib.Core.Path.{_≡_, refl, sym, _∙_}
 use mathlib.Core.Logic.{_⊎_, inl, inr}
 use mathlib.Core.List.{List}
-use Prim.Native.Nat.{ℕ, _+_, _*_}
+use Prim.Native.Nat.{ℕ}
 use Rattle.tree.specs.Memory.{Memory, reads, Store, segmented, CrashImage}
-use Rattle.tree.specs.Layout.{Geometry, reelAt, geometryOf}
+use Rattle.tree.specs.Layout.{Geometry, reelAt}
 use Rattle.tree.specs.Fingerprint.{Rule}
 use Rattle.tree.specs.Slots.{Filled}
 use Rattle.tree.specs.Reach.{Holds, FrameOf}

@@ -32,5 +32,6 @@ pub mod Assembly
 pub mod Keeps
 pub mod Claims
 pub mod StepRetire
+pub mod Opening
 pub mod StepOpen
 pub mod StepRead

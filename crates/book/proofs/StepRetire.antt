@@ -1,19 +1,19 @@
 -- The step of Retire: one store, the root of the reel's slot to 0.
-use mathlib.Core.Path.{_≡_, refl, sym, _∙_, ap, subst}
-use mathlib.Core.Bool.{Bool, true, false, not}
-use mathlib.Core.Logic.{_⊎_, inl, inr, _↔_, _≢_}
-use mathlib.Core.List.{List, [], _∷_, map, List·Memᴰ, Memᴰ·map, Memᴰ·of-map, Memᴰ·cast}
-use Prim.Native.Nat.{ℕ, _+_, _*_, _<_}
+use mathlib.Core.Path.{_≡_, refl, sym, _∙_, subst}
+use mathlib.Core.Bool.{true, false, not}
+use mathlib.Core.Logic.{inl, inr, _↔_, _≢_}
+use mathlib.Core.List.{List, [], _∷_, List·Memᴰ, Memᴰ·map, Memᴰ·of-map}
+use Prim.Native.Nat.{ℕ, _<_}
 use native.Mathlib.Omega.{arith}
 use lib.ListN.{length, set}
 use lib.Dec.{eqb}
-use Rattle.tree.specs.Memory.{Memory, reads, Fit, Store, stores, segmented, apply}
+use Rattle.tree.specs.Memory.{Memory, reads, Fit, stores, segmented, apply}
 use Rattle.tree.specs.Lists.{keep}
-use Rattle.tree.specs.Layout.{Geometry, geometryOf, reelAt, rootAt}
+use Rattle.tree.specs.Layout.{Geometry, reelAt, rootAt}
 use Rattle.tree.specs.Fingerprint.{ruleOf}
 use Rattle.tree.specs.Slots.{Filled, slotOf}
-use Rattle.tree.specs.Reach.{Reaches, FrameOf}
-use Rattle.tree.specs.Subtree.{visit, tree}
+use Rattle.tree.specs.Reach.{Reaches}
+use Rattle.tree.specs.Subtree.{tree}
 use Rattle.tree.specs.Same.{SameWords, Stores}
 use Rattle.tree.specs.Changes.{Retired}
 use Rattle.tree.specs.Pool.{used, unmarkAll}
@@ -38,7 +38,7 @@ use Rattle.book.proofs.Crashed.{through-each}
 use Rattle.book.proofs.Heads.{names-about, busy-names}
 use Rattle.book.proofs.Reading.{sizesOf, claim-inside}
 use Rattle.book.proofs.Keeps.{keeps-of, keeps-itself, step-of}
-use Rattle.book.proofs.Claims.{SameClaim, untouched, head-on, locates-on, AgreesBy, agrees-of}
+use Rattle.book.proofs.Claims.{SameClaim, untouched, head-on, locates-on, agrees-of}
 use Rattle.book.proofs.Step.{Keeps, Step}
 
 -- ---- what a retirement does
@@ -82,31 +82,37 @@ tree-nodes {g} {m} {s} b n = (
 
 module _ {s : State} {t : Table} (a : Agrees s t) (slot : ℕ) (b : Filled (sizesOf (s .image)) (reads (s .image)) slot)
     (idle : busy (s .heads) slot ≡ false) where
+  abbrev g : Geometry
+  g = sizesOf (s .image)
+
+  abbrev m : Memory
+  m = reads (s .image)
+
   abbrev cleared : List ℕ
   cleared = set (s .image) (rootAt slot) 0
 
-  v : View (sizesOf (s .image)) (s .image) (t .reels)
+  v : View g (s .image) (t .reels)
   v = shows-view (a .shows)
 
   inside : rootAt slot < length (s .image)
   inside = omega (arith, v .header .words, b .inside)
 
-  stored : Stores (reads (s .image)) (rootAt slot) 0 (reads cleared)
+  stored : Stores m (rootAt slot) 0 (reads cleared)
   stored = stores-set (s .image) (rootAt slot) 0 inside
 
-  header : Header (sizesOf (s .image)) cleared
+  header : Header g cleared
   header = header-set (rootAt slot) 0 (v .header) (omega arith) inside (omega arith)
 
-  change : Retired (ruleOf (reads (s .image))) (sizesOf (s .image)) (reads (s .image)) (reads cleared) slot
+  change : Retired (ruleOf m) g m (reads cleared) slot
   change = change-laws (reads cleared) (v .sound) .retired b stored
 
-  words : (n : ℕ) → SameWords (sizesOf (s .image)) (reads (s .image)) (reads cleared) n
-  words n = beside-nodes (sizesOf (s .image)) stored slot n (b .inside) refl
+  words : (n : ℕ) → SameWords g m (reads cleared) n
+  words n = beside-nodes g stored slot n (b .inside) refl
 
-  reel-kept : (s' : ℕ) → reads (s .image) (reelAt s') ≡ reads cleared (reelAt s')
+  reel-kept : (s' : ℕ) → m (reelAt s') ≡ reads cleared (reelAt s')
   reel-kept s' = stored .old (reelAt s') (λ q. omega arith)
 
-  shows-cleared : (reel : ℕ) → reads (s .image) (reelAt slot) ≡ reel → Shows cleared (withReels t (keep (λ r. not (eqb (r .number) reel)) (t .reels)))
+  shows-cleared : (reel : ℕ) → m (reelAt slot) ≡ reel → Shows cleared (withReels t (keep (λ r. not (eqb (r .number) reel)) (t .reels)))
   shows-cleared reel q = view-shows (rw q at (view-retired v header b stored)) (a .shows .slots) (a .shows .nodes)
 
   keeps-cleared : Keeps (s .image) cleared
@@ -116,17 +122,17 @@ module _ {s : State} {t : Table} (a : Agrees s t) (slot : ℕ) (b : Filled (size
   other-slot {x} h l o q = true-not-false (busy-names (s .heads) slot .1 (h, l, names-about slot _ .1 (x, o, q))) idle
 
   same-claim : (h : ℕ) → h < headCount → (x : Target) (reel f : ℕ) → About x (headAt (s .heads) h)
-      → Claims (sizesOf (s .image)) (reads (s .image)) x reel f → SameClaim (sizesOf (s .image)) (reads (s .image)) (reads cleared) x
+      → Claims g m x reel f → SameClaim g m (reads cleared) x
   same-claim h l x reel f o c =
       untouched x (words (x .node)) (claim-inside (a .shows) c .1) (reel-kept (x .slot)) (λ w r. change .reaches .1 (r, other-slot h l o))
       (frames-to (λ w n p y. change .holds .0 y .0))
 
   abbrev pool : List ℕ
-  pool = unmarkAll (s .pool) (nodesOf (tree (sizesOf (s .image)) (reads (s .image)) slot))
+  pool = unmarkAll (s .pool) (nodesOf (tree g m slot))
 
-  marks : (n : ℕ) → (used pool n ≡ true) ↔ Reached (sizesOf (s .image)) (reads cleared) n
+  marks : (n : ℕ) → (used pool n ≡ true) ↔ Reached g (reads cleared) n
   marks n =
-      let u = pool-laws .unmarks-all (s .pool) (nodesOf (tree (sizesOf (s .image)) (reads (s .image)) slot)) n in
+      let u = pool-laws .unmarks-all (s .pool) (nodesOf (tree g m slot)) n in
       let k = tree-nodes b n in (
         λ e.
             let y = u .0 e in let r = a .marks n .0 (y .0) in
@@ -136,7 +142,7 @@ module _ {s : State} {t : Table} (a : Agrees s t) (slot : ℕ) (b : Filled (size
             u .1 (a .marks n .1 (record { slot = r .slot; way = r .way; there = y .0 }), λ z. y .1 (v .sound .once (y .0) (k .0 z .1) .0)),
       )
 
-  agrees-cleared : (reel : ℕ) → reads (s .image) (reelAt slot) ≡ reel
+  agrees-cleared : (reel : ℕ) → m (reelAt slot) ≡ reel
       → Agrees (record { image = cleared; pool = pool; heads = s .heads }) (withReels t (keep (λ r. not (eqb (r .number) reel)) (t .reels)))
   agrees-cleared reel q = agrees-of (header .geometry) (shows-cleared reel q) (record {
     map-words = pool-laws .length-unmark-all (s .pool) _ ∙ a .map-words;

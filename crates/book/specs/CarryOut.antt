@@ -3,7 +3,7 @@ use mathlib.Core.Bool.{cond}
 use mathlib.Core.List.{List}
 use Prim.Native.Nat.{ℕ}
 use lib.ListN.{length}
-use Rattle.tree.specs.Memory.{reads, carryOut, numberOf}
+use Rattle.tree.specs.Memory.{reads, carryOut}
 use Rattle.tree.specs.Test.{holds}
 use Rattle.tree.specs.Layout.{geometryOf}
 use Rattle.book.specs.Checks.{badImage}
@@ -19,4 +19,4 @@ carried n m = record { answer = n; image = m }
 unfoldable pub carry : List ℕ → List ℕ → Carried
 carry image script =
     let o = carryOut image script in
-    cond (holds (badImage (length image) (geometryOf (reads image)))) (carried 1 image) (carried (numberOf (o .answer)) (o .image))
+    cond (holds (badImage (length image) (geometryOf (reads image)))) (carried 1 image) (carried (o .answer) (o .image))

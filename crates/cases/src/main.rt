@@ -1,5 +1,5 @@
 // Executes vectors of the layers and prints what came out, one line each. The file stdout beside
-// src/ has what the paper says they should be.
+// src/ has what they should be.
 mod memory_cases;
 mod print;
 

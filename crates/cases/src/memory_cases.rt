@@ -30,14 +30,14 @@ pub fn bytes() {
     print::number(b"byte 0 of 0x0807060504030201:", words::byte_of(BYTES, 0));
     print::number(b"byte 7 of 0x0807060504030201:", words::byte_of(BYTES, 7));
     print::number(
-        b"0x0807060504030201 with byte 0 255:",
+        b"0x0807060504030201 with 255 for byte 0:",
         words::with_byte(BYTES, 0, 255),
     );
     print::number(
-        b"0x0807060504030201 with byte 7 255:",
+        b"0x0807060504030201 with 255 for byte 7:",
         words::with_byte(BYTES, 7, 255),
     );
-    print::number(b"2^64-1 with byte 3 0:", words::with_byte(FULL, 3, 0));
+    print::number(b"2^64-1 with 0 for byte 3:", words::with_byte(FULL, 3, 0));
 }
 
 pub fn searches() {
@@ -45,50 +45,62 @@ pub fn searches() {
         b"lowest clear bit of 0 below 64:",
         search::lowest_clear(0, 64) as u64,
     );
-    print::number(b"of 7 below 16:", search::lowest_clear(7, 16) as u64);
-    print::number(b"of 7 below 3:", search::lowest_clear(7, 3) as u64);
     print::number(
-        b"of 2^63-1 below 64:",
+        b"lowest clear bit of 7 below 16:",
+        search::lowest_clear(7, 16) as u64,
+    );
+    print::number(
+        b"lowest clear bit of 7 below 3, none:",
+        search::lowest_clear(7, 3) as u64,
+    );
+    print::number(
+        b"lowest clear bit of 2^63-1 below 64:",
         search::lowest_clear(0x7fff_ffff_ffff_ffff, 64) as u64,
     );
     print::number(
-        b"of 2^64-1 below 64:",
+        b"lowest clear bit of 2^64-1 below 64, none:",
         search::lowest_clear(FULL, 64) as u64,
     );
     print::number(
-        b"of 2^64-1 below 16:",
+        b"lowest clear bit of 2^64-1 below 16, none:",
         search::lowest_clear(FULL, 16) as u64,
     );
     let bitmap = [FULL, 5];
     print::number(
-        b"lowest unmarked of a full word and 5 below 128:",
+        b"lowest clear bit of the bitmap 2^64-1, 5 below 128:",
         search::lowest_unmarked(&bitmap, 128) as u64,
     );
-    print::number(b"below 65:", search::lowest_unmarked(&bitmap, 65) as u64);
-    print::number(b"below 0:", search::lowest_unmarked(&bitmap, 0) as u64);
+    print::number(
+        b"lowest clear bit of the bitmap 2^64-1, 5 below 65, none:",
+        search::lowest_unmarked(&bitmap, 65) as u64,
+    );
+    print::number(
+        b"lowest clear bit of the bitmap 2^64-1, 5 below 0, none:",
+        search::lowest_unmarked(&bitmap, 0) as u64,
+    );
     let full = [FULL, FULL];
     print::number(
-        b"of two full words below 100:",
+        b"lowest clear bit of the bitmap 2^64-1, 2^64-1 below 100, none:",
         search::lowest_unmarked(&full, 100) as u64,
     );
 }
 
 pub fn writers() {
-    let mut buffer = [7u64; 9];
-    script::put_fenced_pair(&mut buffer, 100, 1, 200, 2);
+    let mut pair = [7u64; 9];
+    script::put_fenced_pair(&mut pair, 100, 1, 200, 2);
     print::words(
-        b"two stores with their barriers, then an old word:",
-        &buffer,
+        b"nine words 7 with two stores written, each with its barrier:",
+        &pair,
     );
     let mut store = [7u64; 4];
     script::put_store(&mut store, 0, FULL);
-    print::words(b"a store, then old words:", &store);
+    print::words(b"four words 7 with a store written:", &store);
     let mut barrier = [7u64; 3];
     script::put_barrier(&mut barrier);
-    print::words(b"a barrier, then an old word:", &barrier);
+    print::words(b"three words 7 with a barrier written:", &barrier);
 }
 
-// The answer's number, and the image as it is left.
+// Carries a script out on an image of three words: the answer's number, and the image as it is left.
 fn carry_out(label: &[u8], script: &[u64]) {
     let mut image = [10u64, 20, 30];
     let answer = apply::apply(&mut image, script);
@@ -96,24 +108,41 @@ fn carry_out(label: &[u8], script: &[u64]) {
         Applied::Done => 0,
         Applied::Refused => 3,
     };
-    print::number(label, number);
-    print::words(b"  image:", &image);
+    print::outcome(label, number, &image);
 }
 
 pub fn carried_out() {
-    carry_out(b"no entry:", &[0u64; 0]);
-    carry_out(b"a store:", &[0, 11]);
-    carry_out(b"a barrier:", &[FULL, 0]);
+    carry_out(b"carry out on 10 20 30, no entry:", &[0u64; 0]);
     carry_out(
-        b"two stores to a word, a barrier between:",
+        b"carry out on 10 20 30, a store to the first word:",
+        &[0, 11],
+    );
+    carry_out(b"carry out on 10 20 30, a barrier:", &[FULL, 0]);
+    carry_out(
+        b"carry out on 10 20 30, two stores to a word, a barrier between:",
         &[1, 21, FULL, 0, 1, 22],
     );
-    carry_out(b"the last word:", &[2, FULL]);
+    carry_out(
+        b"carry out on 10 20 30, a store to the last word:",
+        &[2, FULL],
+    );
 }
 
 pub fn refusals() {
-    carry_out(b"an odd word:", &[0, 11, 1]);
-    carry_out(b"an index equal to the length:", &[0, 11, 3, 12]);
-    carry_out(b"an index of 2^64-2:", &[0, 11, FULL - 1, 0]);
-    carry_out(b"a barrier with another word:", &[0, 11, FULL, 1]);
+    carry_out(
+        b"carry out on 10 20 30, a store and half an entry:",
+        &[0, 11, 1],
+    );
+    carry_out(
+        b"carry out on 10 20 30, a store and one at index 3:",
+        &[0, 11, 3, 12],
+    );
+    carry_out(
+        b"carry out on 10 20 30, a store and one at index 2^64-2:",
+        &[0, 11, FULL - 1, 0],
+    );
+    carry_out(
+        b"carry out on 10 20 30, a store and a barrier with second word 1:",
+        &[0, 11, FULL, 1],
+    );
 }

@@ -20,3 +20,11 @@ pub fn words(label: &[u8], ws: &[u64]) {
     }
     io::write_all(STDOUT_FILENO, b"\n");
 }
+
+// A label, the number of an answer and the words of an image, all on one line.
+pub fn outcome(label: &[u8], answer: u64, image: &[u64]) {
+    io::write_all(STDOUT_FILENO, label);
+    io::write_all(STDOUT_FILENO, b" answer ");
+    io::print_decimal(STDOUT_FILENO, answer);
+    words(b", image", image);
+}

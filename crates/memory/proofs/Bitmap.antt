@@ -1,7 +1,7 @@
 -- A bitmap searched a word at a time.
-use mathlib.Core.Path.{_≡_, refl, ap, sym, _∙_}
-use mathlib.Core.Bool.{Bool, true, false, not}
-use Prim.Native.Nat.{ℕ, _+_, _-_, _*_, _/_, _%_, _^_, _<_, _≤_}
+use mathlib.Core.Path.{_≡_, refl, ap, _∙_}
+use mathlib.Core.Bool.{Bool, true, not}
+use Prim.Native.Nat.{ℕ, _+_, _-_, _/_, _%_, _^_, _<_, _≤_}
 use native.Mathlib.Omega.{arith}
 use native.Mathlib.Decide.{decLt}
 use Rattle.memory.specs.Words.{Memory, field, bit, isSet, marked}
@@ -38,7 +38,8 @@ pub record Passed (m : Memory) (start r : ℕ) : Type 0 where
   pub none-before : NoneBelow (unmarked m) (start + r)
   pub hit : r < 64 → unmarked m (start + r) ≡ true
 
-pub pass-word : (m : Memory) (start r : ℕ) → start % 64 ≡ 0 → r ≡ first (clearIn (m (start / 64))) 64 → NoneBelow (unmarked m) start → Passed m start r
+pub pass-word : (m : Memory) (start r : ℕ) → start % 64 ≡ 0 → r ≡ first (clearIn (m (start / 64))) 64 → NoneBelow (unmarked m) start
+    → Passed m start r
 pass-word m start r z e below =
     let s = first-laws (clearIn (m (start / 64))) 64 in
     record {

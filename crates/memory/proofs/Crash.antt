@@ -13,14 +13,10 @@ use Rattle.memory.specs.Crash.{apply, hasBarrier, fenced, unfenced, Cras
 use Rattle.memory.specs.Laws.{Fit, FitStores}
 use Rattle.memory.proofs.Cases.{test}
 use Rattle.memory.proofs.Lists.{mem-take}
-use Rattle.memory.proofs.Stores.{OldOrStored, length-apply, apply-append, unstored, word-fits, stored-more, stored-parts, content, apply-laws}
+use Rattle.memory.proofs.Stores.{Possible, length-apply, apply-append, unstored, word-fits, stored-more, stored-parts, content, apply-laws}
 use Rattle.memory.proofs.Fences.{Fenced, rejoined, barrier-later, none-later}
 
 -- ---- what a crash after the last of some entries can leave in a word
-
--- word i may hold v where power is lost after all of es
-abbrev pub Possible : List ℕ → List Entry → ℕ → ℕ → Type 0
-Possible m es i v = OldOrStored (reads (apply m (fenced es)) i) (unfenced es) i v
 
 -- what is carried out is possible
 pub carried-out : (m : List ℕ) (es : List Entry) (i : ℕ) → Possible m es i (reads (apply m es) i)

@@ -1,11 +1,17 @@
 -- The entries up to the last barrier and those since: how the two parts of a script share them out.
 use mathlib.Core.Path.{_≡_, refl, _∙_, ap}
 use mathlib.Core.Bool.{true, false, _||_, or-true, or-false}
-use mathlib.Core.Logic.{inl, inr}
-use mathlib.Core.List.{List, [], _∷_, _++_, List·Memᴰ, List·Memᴰ·head, List·Memᴰ·tail}
+use mathlib.Core.Logic.{inl, inr, _↔_, _≢_}
+use mathlib.Core.Option.{some}
+use mathlib.Core.List.{List, [], _∷_, _++_, List·Memᴰ, List·Memᴰ·head, List·Memᴰ·tail, List·Memᴰ·cases-cons, List·Memᴰ·not-nil}
+use Prim.Native.Nat.{ℕ, _≤_}
+use native.Mathlib.Nat.{le-refl}
+use native.Mathlib.Omega.{arith}
+use lib.ListN.{length, drop, getElem?, drop-of-length-le}
 use Rattle.memory.specs.Script.{Entry, store, barrier}
-use Rattle.memory.specs.Crash.{hasBarrier, fenced, unfenced}
-use Rattle.memory.proofs.Cases.{test}
+use Rattle.memory.specs.Crash.{hasBarrier, fenced, unfenced, passed}
+use Rattle.memory.proofs.Cases.{test, clash}
+use Rattle.memory.proofs.Lists.{number-from, element-from}
 
 -- ---- whether there is a barrier
 
@@ -15,18 +21,31 @@ barrier-append [] fs = refl
 barrier-append (store i v ∷ es) fs = barrier-append es fs
 barrier-append (barrier ∷ es) fs = refl
 
+pub a-barrier : (es : List Entry) → List·Memᴰ barrier es → hasBarrier es ≡ true
+unfolding hasBarrier
+a-barrier [] x = absurd (List·Memᴰ·not-nil x)
+a-barrier (store i v ∷ es) x = elim (List·Memᴰ·cases-cons x) [
+  | inl q ↦ let never : _≡_ {A = ℕ} 0 1 = cc in absurd (omega arith)
+  | inr y ↦ a-barrier es y
+]
+a-barrier (barrier ∷ es) x = refl
+
 pub no-barrier : (es : List Entry) → (List·Memᴰ barrier es → ⊥) → hasBarrier es ≡ false
 unfolding hasBarrier
 no-barrier [] h = refl
 no-barrier (store i v ∷ es) h = no-barrier es (λ x. h (List·Memᴰ·tail x))
 no-barrier (barrier ∷ es) h = absurd (h (List·Memᴰ·head refl))
 
--- ---- what is up to the last barrier, then what is since, is all
+-- none after k entries, by their numbers
+pub passed-means : (es : List Entry) (k : ℕ) → passed es k ↔ ((j : ℕ) → k ≤ j → getElem? es j ≢ some barrier)
+passed-means es k = (
+  λ h j l q. clash (hasBarrier (drop k es)) (a-barrier (drop k es) (element-from es k j l q)) h,
+  λ h. no-barrier (drop k es) (λ x. let r = number-from es k x in h (r .0) (r .1) (r .2)),
+)
 
-pub rejoined : (es : List Entry) → fenced es ++ unfenced es ≡ es
-unfolding fenced unfenced
-rejoined [] = refl
-rejoined (e ∷ es) = elim (test (hasBarrier (e ∷ es))) [ inl q ↦ rw q (ap (λ t. e ∷ t) (rejoined es)) | inr q ↦ rw q ]
+pub passed-at-end : (es : List Entry) → passed es (length es)
+unfolding hasBarrier
+passed-at-end es = rw (drop-of-length-le es (le-refl (length es))) refl
 
 -- ---- two parts
 
@@ -56,3 +75,10 @@ none-later (e ∷ es) fs h =
       | inl t ↦ record { up-to = rw (q, t, r .up-to); after = rw (q, t, r .after) }
       | inr t ↦ record { up-to = rw (q, t); after = rw (q, t) }
     ]
+
+-- ---- what is up to the last barrier, then what is since, is all
+
+pub rejoined : (es : List Entry) → fenced es ++ unfenced es ≡ es
+unfolding fenced unfenced
+rejoined [] = refl
+rejoined (e ∷ es) = elim (test (hasBarrier (e ∷ es))) [ inl q ↦ rw q (ap (λ t. e ∷ t) (rejoined es)) | inr q ↦ rw q ]

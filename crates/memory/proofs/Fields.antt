@@ -1,11 +1,11 @@
 -- Laws of a word's fields, and of bits and bytes, which are fields of 1 and of 8.
-use mathlib.Core.Path.{_≡_, refl, sym, _∙_, ap, subst}
+use mathlib.Core.Path.{_≡_, sym, _∙_, ap, subst}
 use mathlib.Core.Bool.{true, false}
 use mathlib.Core.Logic.{_⊎_, inl, inr, _≢_}
 use Prim.Native.Nat.{ℕ, zero, suc, _+_, _-_, _*_, _/_, _%_, _^_, _≤_, _<_}
 use native.Mathlib.Omega.{arith}
 use native.Mathlib.Decide.{decLt}
-use native.Mathlib.Nat.{mod-lt, add-mul, div-one, pow-suc, div-eq-of-lt, lt-of-lt-of-le}
+use native.Mathlib.Nat.{mod-lt, zero-mul, add-mul, div-one, pow-suc, div-eq-of-lt, lt-of-lt-of-le}
 use native.Mathlib.Numerals.{one-add}
 use lib.Dec.{eqb}
 use lib.Pow as Pow
@@ -76,6 +76,11 @@ with-lt w at u b n h l k =
     let e : 2 ^ n ≡ 2 ^ (n - (at + u)) * 2 ^ u * 2 ^ at = ap (λ (x : ℕ). 2 ^ x) q ∙ simp pow-add in
     rw (with-digits w at u b, e) (digits-lt (digits-lt c h) (rest-lt w at))
 
+-- nor is a word with a field cleared, wherever the field is
+without-lt : (w at u n : ℕ) → w < 2 ^ n → withField w at u 0 < 2 ^ n
+unfolding withField
+without-lt w at u n k = omega (arith, zero-mul (2 ^ at))
+
 -- two numbers that differ
 beside : (j k : ℕ) → j ≢ k → (j < k) ⊎ (k < j)
 beside j k h = elim (decLt j k) [ yes l ↦ inl l | no l ↦ inr (omega arith) ]
@@ -142,7 +147,7 @@ bit-laws = record {
   with-keeps = λ w k j n. changed-bit w k 1 j (omega arith) n;
   without-keeps = λ w k j n. changed-bit w k 0 j (omega arith) n;
   with-fits = λ w k n l h. with-lt w k 1 1 n (omega arith) (omega arith) h;
-  without-fits = λ w k n l h. with-lt w k 1 0 n (omega arith) (omega arith) h;
+  without-fits = λ w k n h. without-lt w k 1 n h;
   none-above = λ w n k h l. zero-clear w k (above-zero w n k h l);
   same-word = same-word;
 }

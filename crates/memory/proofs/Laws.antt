@@ -1,25 +1,30 @@
--- The laws of this layer, assembled: a proof for each record of specs/Laws.antt.
+-- What crates above cite: a proof for each record of specs/Laws.antt, and the lemmas that proofs of code ask for.
 pub use Rattle.memory.proofs.Fields.{bit-laws, byte-laws}
 pub use Rattle.memory.proofs.First.{first-laws}
-pub use Rattle.memory.proofs.Written.{script-laws}
-pub use Rattle.memory.proofs.Stores.{apply-laws}
-use Rattle.memory.specs.Words.{reads}
+pub use Rattle.memory.proofs.Written.{script-laws, written-rest}
+pub use Rattle.memory.proofs.Stores.{apply-laws, OldOrStored, content, unstored}
+pub use Rattle.memory.proofs.Bitmap.{clearIn, unmarked, full-word, Passed, pass-word}
+pub use Rattle.memory.proofs.Cases.{test, clash}
 use Rattle.memory.specs.Laws.{CrashLaws}
-use Rattle.memory.proofs.Stores.{unstored}
+use Rattle.memory.proofs.Fences.{passed-means, passed-at-end}
+use Rattle.memory.proofs.Possible.{last-barrier, only-chosen, possible, outside}
 use Rattle.memory.proofs.Crash.{as-carried-out, none-yet, all-done, fits, unreached, same-value}
-use Rattle.memory.proofs.Possible.{last-barrier, chosen, possible}
 use Rattle.memory.proofs.Segments.{falls-in, all-passed}
 
 pub crash-laws : CrashLaws
 crash-laws = record {
+  within = λ m es k m' c. c .within;
+  same-length = λ m es k m' c. c .same-length;
   last-barrier = last-barrier;
   possible = possible;
-  only-chosen = λ m es k b m' l c i. chosen m es k b i (reads m' i) l .1 (c .each i);
+  only-chosen = only-chosen;
   as-carried-out = as-carried-out;
   none-yet = none-yet;
   all-done = all-done;
   all-passed = all-passed;
-  outside = λ m es k m' i c h. unstored h (c .each i);
+  passed-means = passed-means;
+  passed-at-end = passed-at-end;
+  outside = outside;
   falls-in = falls-in;
   fits = fits;
   unreached = unreached;

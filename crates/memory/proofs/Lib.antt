@@ -1,14 +1,14 @@
-pub mod Cases
-pub mod Lists
-pub mod Fields
-pub mod Masks
-pub mod First
-pub mod Bitmap
-pub mod Written
-pub mod Passes
-pub mod Stores
-pub mod Fences
-pub mod Crash
-pub mod Possible
-pub mod Segments
+mod Cases
+mod Lists
+mod Fields
+mod Masks
+mod First
+mod Bitmap
+mod Written
+mod Passes
+mod Stores
+mod Fences
+mod Possible
+mod Crash
+mod Segments
 pub mod Laws

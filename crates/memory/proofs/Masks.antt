@@ -1,10 +1,10 @@
 -- Masks and shifts as arithmetic: how the code takes, puts and clears a field.
-use mathlib.Core.Path.{_≡_, refl, ap, sym, _∙_}
+use mathlib.Core.Path.{_≡_, refl, _∙_}
 use Prim.Native.Nat.{ℕ, zero, suc, _+_, _-_, _*_, _/_, _%_, _^_, _<_, _≤_, min}
-use native.Mathlib.Nat.{pow-suc, one-mul, zero-mul, mod-lt, add-mul, add-zero, lt-of-lt-of-le}
+use native.Mathlib.Nat.{pow-suc, one-mul, zero-mul, mod-lt, add-zero, lt-of-lt-of-le}
 use native.Mathlib.Omega.{arith}
 use lib.Bits.{bitAnd, bitOr, and-step, and-high, and-mask, or-add-and, and-zero-r, and-shifted, and-block, and-le-l, or-disjoint}
-use lib.Pow.{pow-pos, pow-mono, ones-lt, pow-lt, high-ones, shl-exact, shl-lt}
+use lib.Pow.{pow-pos, pow-mono, ones-lt, high-ones, shl-exact, shl-lt}
 use Rattle.memory.specs.Words.{field, withField, bit, withBit, withoutBit, byte, withByte}
 use Rattle.memory.proofs.Fields.{with-digits}
 

@@ -4,7 +4,7 @@ use mathlib.Core.Bool.{Bool, true, false, cond, _&&_}
 use mathlib.Core.Logic.{_≢_}
 use mathlib.Core.Option.{Option, none, some}
 use mathlib.Core.List.{List, [], _∷_}
-use Prim.Native.Nat.{ℕ, zero, suc, _+_, _≤_, _<_}
+use Prim.Native.Nat.{ℕ, suc, _+_, _≤_, _<_}
 use native.Mathlib.Omega.{arith}
 use native.Mathlib.Numerals.{add-one}
 use native.Mathlib.Decide.{decLt, ℕ-discrete}
@@ -14,7 +14,6 @@ use lib.Dec.{eqb, ltb}
 use borrow.Author.Tests.{eq-eqb, ne-eqb}
 use Rattle.memory.specs.Script.{Entry, store, barrier, barrierWord, entryOf, onto, decode}
 use Rattle.memory.specs.Crash.{apply}
-use Rattle.memory.specs.declared.apply.Applied.the-variants.{Done, Refused}
 use Rattle.memory.specs.Apply.{isSome, outcome, applied, carryOut, isEntry, isScript, madeStores}
 use Rattle.memory.proofs.Cases.{clash}
 use Rattle.memory.proofs.Written.{Reads, as-barrier, as-store, entry-reads}
@@ -67,7 +66,8 @@ script-last n at ws l h = elim (ℕ-discrete at (length ws)) [
   | no q ↦ rw (ne-eqb at (length ws) q, decode-odd n at ws (omega arith)) refl
 ]
 
-pub script-stops : (n at : ℕ) (ws : List ℕ) → at + 1 < length ws → isEntry n (getD ws at 0) (getD ws (at + 1) 0) ≡ false → isScript n (drop at ws) ≡ false
+pub script-stops : (n at : ℕ) (ws : List ℕ) → at + 1 < length ws → isEntry n (getD ws at 0) (getD ws (at + 1) 0) ≡ false
+    → isScript n (drop at ws) ≡ false
 script-stops n at ws h e = script-step n at ws h ∙ rw e refl
 
 pub script-more : (n at : ℕ) (ws : List ℕ) → at + 1 < length ws → isEntry n (getD ws at 0) (getD ws (at + 1) 0) ≡ true
@@ -131,7 +131,8 @@ made-store m ws at h c b = let s = made-step m ws at h c in go (s .0) (s .1) (s 
     go barrier (as-barrier q z) d = absurd (b q)
     go (store i v) (as-store l q) d = (l, d)
 
-pub made-barrier : (m ws : List ℕ) (at : ℕ) → at + 1 < length ws → isScript (length m) (drop at ws) ≡ true → getD ws at 0 ≡ barrierWord → Made m m ws at
+pub made-barrier : (m ws : List ℕ) (at : ℕ) → at + 1 < length ws → isScript (length m) (drop at ws) ≡ true → getD ws at 0 ≡ barrierWord
+    → Made m m ws at
 made-barrier m ws at h c b = let s = made-step m ws at h c in go (s .0) (s .1) (s .2)
   where
     go : (e : Entry) → Reads (length m) (getD ws at 0) (getD ws (at + 1) 0) e → Made m (stepped m e) ws at → Made m m ws at
@@ -149,18 +150,18 @@ made-last m ws at h = elim (decLt at (length ws)) [
 -- ---- both
 
 -- a script that is none is refused, and one that was checked is done once its stores are made
-pub refused : (m ws : List ℕ) → isScript (length m) ws ≡ false → outcome Refused m ≡ carryOut m ws
+pub refused : (m ws : List ℕ) → isScript (length m) ws ≡ false → outcome 3 m ≡ carryOut m ws
 unfolding isScript carryOut
 refused m ws h = go (decode (length m) ws) h
   where
-    go : (o : Option (List Entry)) → isSome o ≡ false → outcome Refused m ≡ applied m o
+    go : (o : Option (List Entry)) → isSome o ≡ false → outcome 3 m ≡ applied m o
     go none h = refl
     go (some es) h = clash true refl h
 
-pub done : (m m' ws : List ℕ) → isScript (length m) ws ≡ true → m' ≡ madeStores m ws → outcome Done m' ≡ carryOut m ws
+pub done : (m m' ws : List ℕ) → isScript (length m) ws ≡ true → m' ≡ madeStores m ws → outcome 0 m' ≡ carryOut m ws
 unfolding isScript madeStores carryOut
 done m m' ws h e = rw e (go (decode (length m) ws) h)
   where
-    go : (o : Option (List Entry)) → isSome o ≡ true → outcome Done (applied m o .image) ≡ applied m o
+    go : (o : Option (List Entry)) → isSome o ≡ true → outcome 0 (applied m o .image) ≡ applied m o
     go none h = clash false h refl
     go (some es) h = refl

@@ -11,11 +11,10 @@ use lib.Seq.{take-take}
 use Rattle.memory.specs.Words.{reads}
 use Rattle.memory.specs.Script.{Entry, store, barrier}
 use Rattle.memory.specs.Crash.{apply, hasBarrier, fenced, unfenced, CrashImage}
-use Rattle.memory.specs.Laws.{LastBarrier, Choice, old, new, image}
+use Rattle.memory.specs.Laws.{Avoids, LastBarrier, Choice, old, new, image}
 use Rattle.memory.proofs.Lists.{number-of, element-at, take-through}
-use Rattle.memory.proofs.Stores.{length-apply}
+use Rattle.memory.proofs.Stores.{Possible, length-apply, unstored}
 use Rattle.memory.proofs.Fences.{Fenced, no-barrier, barrier-later, none-later}
-use Rattle.memory.proofs.Crash.{Possible}
 
 -- ---- the last barrier
 
@@ -55,12 +54,22 @@ fenced-at es k b l =
 -- a choice is what is possible
 pub chosen : (m : List ℕ) (es : List Entry) (k b i v : ℕ) → LastBarrier es k b → Choice m es b k i v ↔ Possible m (take k es) i v
 chosen m es k b i v l = let f = fenced-at es k b l in (
-  λ c. rw (f .up-to, f .after) (elim c [ old ↦ inl refl | new j s ↦ inr (element-at es b k j (s .since) (s .before) (s .is)) ]),
+  λ c. rw (f .up-to, f .after) (elim c [ old ↦ inl refl | new j s ↦ inr (element-at es b k j (s .since) (s .before) (s .entry)) ]),
   λ p. elim (rw (f .up-to, f .after) at p) [
     | inl q ↦ rw q old
-    | inr x ↦ let r = number-of es b k x in new (r .0) (record { since = r .1; before = r .2; is = r .3 })
+    | inr x ↦ let r = number-of es b k x in new (r .0) (record { since = r .1; before = r .2; entry = r .3 })
   ],
 )
+
+-- a crash leaves no word that is not a choice
+pub only-chosen : (m : List ℕ) (es : List Entry) (k b : ℕ) (m' : List ℕ) → LastBarrier es k b → CrashImage m es k m'
+    → (i : ℕ) → Choice m es b k i (reads m' i)
+only-chosen m es k b m' l c i = chosen m es k b i (reads m' i) l .1 (c .each i)
+
+-- nor a word changed that is not stored to since
+pub outside : (m : List ℕ) (es : List Entry) (k b : ℕ) (m' : List ℕ) (i : ℕ) → LastBarrier es k b → CrashImage m es k m'
+    → Avoids i (drop b (take k es)) → reads m' i ≡ reads (apply m (take b es)) i
+outside m es k b m' i l c h = let f = fenced-at es k b l in unstored h (rw (f .up-to, f .after) at (c .each i))
 
 -- an image has its length and its words
 pub length-image : (n : ℕ) (f : ℕ → ℕ) → length (image n f) ≡ n

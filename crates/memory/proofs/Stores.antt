@@ -9,7 +9,7 @@ use lib.ListN.{length, set, length-set}
 use lib.Seq.{getD-set-same, getD-set-other, set-out}
 use Rattle.memory.specs.Words.{reads}
 use Rattle.memory.specs.Script.{Entry, store, barrier}
-use Rattle.memory.specs.Crash.{apply}
+use Rattle.memory.specs.Crash.{apply, fenced, unfenced}
 use Rattle.memory.specs.Laws.{Avoids, FitStores, ApplyLaws}
 
 -- ---- the length, and entries in two parts
@@ -66,6 +66,10 @@ unfolding apply
 content m [] i = inl refl
 content m (store j w ∷ es) i = elim (content (set m j w) es i) [ inl q ↦ rw q (set-content m j w i) | inr x ↦ inr (List·Memᴰ·tail x) ]
 content m (barrier ∷ es) i = elim (content m es i) [ inl q ↦ inl q | inr x ↦ inr (List·Memᴰ·tail x) ]
+
+-- word i may hold v where power is lost after all of es
+abbrev pub Possible : List ℕ → List Entry → ℕ → ℕ → Type 0
+Possible m es i v = OldOrStored (reads (apply m (fenced es)) i) (unfenced es) i v
 
 pub apply-laws : ApplyLaws
 unfolding apply

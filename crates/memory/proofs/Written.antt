@@ -1,20 +1,17 @@
 -- Laws of a script's words: written, read back, lent on.
-use mathlib.Core.Path.{_≡_, refl, ap, sym, _∙_}
-use mathlib.Core.Bool.{Bool, true, false, cond}
-use mathlib.Core.Logic.{_⊎_, inl, inr, _≢_}
+use mathlib.Core.Path.{_≡_, refl, ap}
+use mathlib.Core.Logic.{inl, inr, _≢_}
 use mathlib.Core.Option.{Option, none, some}
-use mathlib.Core.List.{List, [], _∷_, _++_, append-assoc, append-nil, List·Memᴰ, List·Memᴰ·head, List·Memᴰ·tail, List·Memᴰ·not-nil, List·Memᴰ·cases-cons}
-use Prim.Native.Nat.{ℕ, zero, suc, _+_, _-_, _*_, _≤_, _<_}
+use mathlib.Core.List.{List, [], _∷_, _++_, append-assoc, append-nil, List·Memᴰ·head, List·Memᴰ·tail, List·Memᴰ·not-nil, List·Memᴰ·cases-cons}
+use Prim.Native.Nat.{ℕ, _+_, _-_, _*_, _≤_, _<_}
 use native.Mathlib.Omega.{arith}
 use native.Mathlib.Nat.{le-of-eq}
 use native.Mathlib.Decide.{decLt, ℕ-discrete}
 use lib.ListN.{length, take, drop, set, length-append, length-drop, drop-of-length-le}
 use lib.Seq.{take-all, take-at, drop-at, drop-drop}
-use lib.Dec.{eqb, ltb}
 use borrow.Author.Tests.{eq-eqb, ne-eqb, lt-ltb, le-ltb}
 use borrow.Rule.Slice.PartMut.{midOf, postOf, putMid}
 use Rattle.memory.specs.Script.{Entry, store, barrier, barrierWord, encode, written, entryOf, onto, decode}
-use Rattle.memory.specs.Crash.{apply}
 use Rattle.memory.specs.Apply.{outcome, applied, carryOut}
 use Rattle.memory.specs.Laws.{Inside, ScriptLaws}
 
@@ -53,9 +50,9 @@ written-append es fs buffer =
     rw (take-written es buffer, drop-written es buffer, two, encode-append es fs, ← drop-drop (2 * length fs) (2 * length es) buffer, append-assoc) refl
 
 -- the rest of the buffer is lent on, as `&mut script[n..]`, and more is written there
-pub lent-written : (es fs : List Entry) (n : ℕ) (buffer xs ys : List ℕ) → 2 * length es ≡ n → xs ≡ written es buffer
+pub written-rest : (es fs : List Entry) (n : ℕ) (buffer xs ys : List ℕ) → 2 * length es ≡ n → xs ≡ written es buffer
     → ys ≡ written fs (midOf n (length xs - n) xs) → putMid n (length xs - n) xs ys ≡ written (es ++ fs) buffer
-lent-written es fs n buffer xs ys l ex ey =
+written-rest es fs n buffer xs ys l ex ey =
     let rest : midOf n (length xs - n) xs ≡ drop n xs = take-all (length xs - n) (drop n xs) (le-of-eq (length-drop n xs)) in
     let none : postOf n (length xs - n) xs ≡ [] = drop-of-length-le (drop n xs) (le-of-eq (length-drop n xs)) in
     rw (none, append-nil, ey, rest, ex, ← l) (written-append es fs buffer)
@@ -114,6 +111,16 @@ onto-both none os es q = none-some q
 onto-both (some e) none es q = none-some q
 onto-both (some e) (some rest) es q = (e, rest, refl, refl, cc)
 
+-- one more entry inside the image
+inside-barrier : (n : ℕ) (es : List Entry) → Inside n es → Inside n (barrier ∷ es)
+inside-barrier n es h i v x = elim (List·Memᴰ·cases-cons x) [
+  | inl p ↦ let never : _≡_ {A = ℕ} 0 1 = cc in absurd (omega arith)
+  | inr y ↦ h i v y
+]
+
+inside-store : (n i v : ℕ) (es : List Entry) → i < n → i ≢ barrierWord → Inside n es → Inside n (store i v ∷ es)
+inside-store n i v es l b h j u x = elim (List·Memᴰ·cases-cons x) [ inl p ↦ let same : j ≡ i = cc in rw same (l, b) | inr y ↦ h j u y ]
+
 was-encoded : (n : ℕ) (ws : List ℕ) (es : List Entry) → decode n ws ≡ some es → (encode es ≡ ws) × Inside n es
 unfolding encode decode
 was-encoded n [] es q =
@@ -125,9 +132,18 @@ was-encoded n (i ∷ v ∷ ws) es q =
     let ih = was-encoded n ws (b .1) (b .3) in
     rw (b .4) (go (b .0) (b .1) (entry-reads n i v (b .0) (b .2)) (ih .0) (ih .1))
   where
-    go : (e : Entry) (rest : List Entry) → Reads n i v e → encode rest ≡ ws → Inside n rest → (encode (e ∷ rest) ≡ i ∷ v ∷ ws) × Inside n (e ∷ rest)
-    go barrier rest (as-barrier b z) h k = (rw (h, b, z) refl, λ j u x. elim (List·Memᴰ·cases-cons x) [ inl p ↦ let never : _≡_ {A = ℕ} 0 1 = cc in absurd (omega arith) | inr y ↦ k j u y ])
-    go (store i v) rest (as-store l b) h k = (rw h refl, λ j u x. elim (List·Memᴰ·cases-cons x) [ inl p ↦ let same : j ≡ i = cc in rw same (l, b) | inr y ↦ k j u y ])
+    go : (e : Entry) (rest : List Entry) → Reads n i v e → encode rest ≡ ws → Inside n rest
+        → (encode (e ∷ rest) ≡ i ∷ v ∷ ws) × Inside n (e ∷ rest)
+    go barrier rest (as-barrier b z) h k = (rw (h, b, z) refl, inside-barrier n rest k)
+    go (store i v) rest (as-store l b) h k = (rw h refl, inside-store n i v rest l b k)
+
+refused : (m ws : List ℕ) → ((es : List Entry) → Inside (length m) es → encode es ≡ ws → ⊥) → carryOut m ws ≡ outcome 3 m
+unfolding carryOut
+refused m ws h = go (decode (length m) ws) refl
+  where
+    go : (o : Option (List Entry)) → decode (length m) ws ≡ o → applied m o ≡ outcome 3 m
+    go none q = refl
+    go (some es) q = let e = was-encoded (length m) ws es q in absurd (h es (e .1) (e .0))
 
 pub script-laws : ScriptLaws
 unfolding carryOut
@@ -136,6 +152,7 @@ script-laws = record {
   read-back = read-back;
   was-encoded = was-encoded;
   carried-out = λ m es h. ap (applied m) (read-back (length m) es h);
-  lent-on = written-append;
+  refused = refused;
+  written-append = written-append;
   length-written = length-written;
 }

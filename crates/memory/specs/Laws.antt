@@ -2,16 +2,15 @@
 use mathlib.Core.Path.{_≡_}
 use mathlib.Core.Bool.{Bool, true, false}
 use mathlib.Core.Logic.{_⊎_, _↔_, _≢_}
-use mathlib.Core.Option.{Option, none, some}
+use mathlib.Core.Option.{some}
 use mathlib.Core.List.{List, [], _∷_, _++_, List·Memᴰ}
-use Prim.Native.Nat.{ℕ, zero, suc, _+_, _-_, _*_, _^_, _≤_, _<_}
+use Prim.Native.Nat.{ℕ, zero, suc, _+_, _*_, _^_, _≤_, _<_}
 use lib.ListN.{length, take, drop, getElem?}
 use Rattle.memory.specs.Words.{reads, isSet, withBit, withoutBit, byte, withByte}
 use Rattle.memory.specs.Search.{first}
 use Rattle.memory.specs.Script.{Entry, store, barrier, barrierWord, encode, written, decode, Store, stores, segmented}
-use Rattle.memory.specs.Crash.{apply, unfenced, fenced, CrashImage, passed}
+use Rattle.memory.specs.Crash.{apply, CrashImage, passed}
 use Rattle.memory.specs.Apply.{outcome, carryOut}
-use Rattle.memory.specs.declared.apply.Applied.the-variants.{Done}
 
 -- ---- bits and bytes
 
@@ -22,7 +21,7 @@ pub record BitLaws : Type 0 where
   pub with-keeps : (w k j : ℕ) → j ≢ k → isSet (withBit w k) j ≡ isSet w j
   pub without-keeps : (w k j : ℕ) → j ≢ k → isSet (withoutBit w k) j ≡ isSet w j
   pub with-fits : (w k n : ℕ) → k < n → w < 2 ^ n → withBit w k < 2 ^ n
-  pub without-fits : (w k n : ℕ) → k < n → w < 2 ^ n → withoutBit w k < 2 ^ n
+  pub without-fits : (w k n : ℕ) → w < 2 ^ n → withoutBit w k < 2 ^ n
   pub none-above : (w n k : ℕ) → w < 2 ^ n → n ≤ k → isSet w k ≡ false
   pub same-word : (w v n : ℕ) → w < 2 ^ n → v < 2 ^ n → ((k : ℕ) → k < n → isSet w k ≡ isSet v k) → w ≡ v
 
@@ -70,9 +69,11 @@ pub record ScriptLaws : Type 0 where
   -- what is encoded is read back, and what is read back was encoded
   pub read-back : (n : ℕ) (es : List Entry) → Inside n es → decode n (encode es) ≡ some es
   pub was-encoded : (n : ℕ) (ws : List ℕ) (es : List Entry) → decode n ws ≡ some es → (encode es ≡ ws) × Inside n es
-  pub carried-out : (m : List ℕ) (es : List Entry) → Inside (length m) es → carryOut m (encode es) ≡ outcome Done (apply m es)
+  pub carried-out : (m : List ℕ) (es : List Entry) → Inside (length m) es → carryOut m (encode es) ≡ outcome 0 (apply m es)
+  -- words that no entries inside the image are written as are refused, and the image stays
+  pub refused : (m ws : List ℕ) → ((es : List Entry) → Inside (length m) es → encode es ≡ ws → ⊥) → carryOut m ws ≡ outcome 3 m
   -- entries, then others written to the rest of the buffer, are all of them written
-  pub lent-on : (es fs : List Entry) (buffer : List ℕ)
+  pub written-append : (es fs : List Entry) (buffer : List ℕ)
       → take (2 * length es) (written es buffer) ++ written fs (drop (2 * length es) (written es buffer)) ≡ written (es ++ fs) buffer
   pub length-written : (es : List Entry) (buffer : List ℕ) → 2 * length es ≤ length buffer → length (written es buffer) ≡ length buffer
 
@@ -96,7 +97,7 @@ pub record LastBarrier (es : List Entry) (k b : ℕ) : Type 0 where
 pub record StoredSince (es : List Entry) (b k i j v : ℕ) : Type 0 where
   pub since : b ≤ j
   pub before : j < k
-  pub is : getElem? es j ≡ some (store i v)
+  pub entry : getElem? es j ≡ some (store i v)
 
 -- what may be chosen for word i: its content at the last barrier, or the value of a store to it since
 pub data Choice (m : List ℕ) (es : List Entry) (b k i : ℕ) : ℕ → Type 0 where
@@ -108,7 +109,8 @@ abbrev pub image : ℕ → (ℕ → ℕ) → List ℕ
 image zero f = []
 image (suc n) f = f 0 ∷ image n (λ i. f (suc i))
 
--- each word by itself is old or one of a segment's stores
+-- power was lost among a segment's stores: each word by itself is old or one of them. The image is torn between words; no word
+-- itself ever is
 pub record Torn (m : List ℕ) (seg : List Store) (m' : List ℕ) : Type 0 where
   pub same-length : length m' ≡ length m
   pub each : (i : ℕ) → (reads m' i ≡ reads m i) ⊎ List·Memᴰ (i, reads m' i) seg
@@ -120,6 +122,9 @@ pub data FallsIn (m' : List ℕ) : List ℕ → List (List Store) → Type 0 whe
   later : {m : List ℕ} {seg : List Store} {segs : List (List Store)} → FallsIn m' (apply m (stores seg)) segs → FallsIn m' m (seg ∷ segs)
 
 pub record CrashLaws : Type 0 where
+  -- a crash falls after none to all of the entries, and leaves an image of the same length
+  pub within : (m : List ℕ) (es : List Entry) (k : ℕ) (m' : List ℕ) → CrashImage m es k m' → k ≤ length es
+  pub same-length : (m : List ℕ) (es : List Entry) (k : ℕ) (m' : List ℕ) → CrashImage m es k m' → length m' ≡ length m
   -- there is a last barrier (or none yet) to speak of
   pub last-barrier : (es : List Entry) (k : ℕ) → (b : ℕ) × LastBarrier es k b
   -- possibility: whatever is chosen, word by word, is an image that a crash after k entries can leave
@@ -136,9 +141,12 @@ pub record CrashLaws : Type 0 where
       → CrashImage m (es ++ barrier ∷ []) (length (es ++ barrier ∷ [])) m' ↔ (m' ≡ apply m (es ++ barrier ∷ []))
   pub all-passed : (m : List ℕ) (segs : List (List Store)) (k : ℕ) (m' : List ℕ)
       → passed (segmented segs) k → CrashImage m (segmented segs) k m' → m' ≡ apply m (segmented segs)
+  -- what "no barrier left to pass" means, by the entries' numbers; after all entries there is none
+  pub passed-means : (es : List Entry) (k : ℕ) → passed es k ↔ ((j : ℕ) → k ≤ j → getElem? es j ≢ some barrier)
+  pub passed-at-end : (es : List Entry) → passed es (length es)
   -- words not stored to since the last barrier passed are as they were then
-  pub outside : (m : List ℕ) (es : List Entry) (k : ℕ) (m' : List ℕ) (i : ℕ) → CrashImage m es k m'
-      → Avoids i (unfenced (take k es)) → reads m' i ≡ reads (apply m (fenced (take k es))) i
+  pub outside : (m : List ℕ) (es : List Entry) (k b : ℕ) (m' : List ℕ) (i : ℕ) → LastBarrier es k b → CrashImage m es k m'
+      → Avoids i (drop b (take k es)) → reads m' i ≡ reads (apply m (take b es)) i
   -- the crash lemma
   pub falls-in : (m : List ℕ) (segs : List (List Store)) (k : ℕ) (m' : List ℕ) → CrashImage m (segmented segs) k m' → FallsIn m' m segs
   pub fits : (m : List ℕ) (es : List Entry) (k : ℕ) (m' : List ℕ) → Fit m → FitStores es → CrashImage m es k m' → Fit m'

@@ -2,7 +2,7 @@
 ghost use mathlib.Core.Path.{_≡_};
 ghost use mathlib.Core.Bool.{true};
 ghost use lib.ListN.{length};
-ghost use Rattle.memory.specs.Apply.{isEntry, isScript, madeStores, outcome, carryOut};
+ghost use Rattle.memory.specs.Apply.{isEntry, isScript, madeStores, numberOf, outcome, carryOut};
 use crate::script::BARRIER;
 
 // What carrying a script out answers.
@@ -51,9 +51,10 @@ fn make_stores(image: &mut [u64], script: &[u64])
     }
 }
 
-// Carries a script of whole entries out on an image, or refuses it and writes nothing.
+// Carries a script of whole entries out on an image, or refuses it and writes nothing. It passes no
+// barrier: it is for images that need no crash safety while it runs, as in a simulation or a bench.
 pub fn apply(image: &mut [u64], script: &[u64]) -> Applied
-    ensures { λ r. ⌜ outcome r (now (image .exit)) ≡ carryOut (now (image .entry)) (now (script .entry)) ⌝ }
+    ensures { λ r. ⌜ outcome (numberOf r) (now (image .exit)) ≡ carryOut (now (image .entry)) (now (script .entry)) ⌝ }
 {
     if !is_script(image.len(), script) {
         return Applied::Refused;

@@ -6,6 +6,6 @@ pub use Rattle.memory.specs.Script.{Entry, store, barrier, Store}
 unfoldable pub use Rattle.memory.specs.Script.{encode, decode, stores, segmented}
 pub use Rattle.memory.specs.Crash.{CrashImage, passed}
 unfoldable pub use Rattle.memory.specs.Crash.{apply}
-pub use Rattle.memory.specs.Apply.{isSome, outcome, numberOf}
+pub use Rattle.memory.specs.Apply.{isSome, outcome}
 unfoldable pub use Rattle.memory.specs.Apply.{carryOut}
 pub use Rattle.memory.specs.Laws.{Avoids, Inside, Fit, FitStores, Torn, FallsIn, after-all, here, later}

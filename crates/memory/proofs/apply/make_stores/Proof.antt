@@ -1,4 +1,4 @@
-use mathlib.Core.Path.{_≡_, refl, sym, _∙_, ap}
+use mathlib.Core.Path.{_≡_, refl, sym, _∙_}
 use mathlib.Core.Bool.{true}
 use mathlib.Core.Logic.{⊎-elim}
 use mathlib.Core.List.{List}
@@ -12,7 +12,9 @@ use Rattle.memory.proofs.apply.make_stores.Statement.{statement}
 use Rattle.memory.proofs.apply.make_stores.Tie as tie
 
 abbrev Inv-loop : tie.InvT-loop
-Inv-loop image₀ script at₀ image at = (length image ≡ length image₀) × (at ≤ length script) × (isScript (length image) (drop at script) ≡ true) × (madeStores image₀ script ≡ madeStores image (drop at script))
+Inv-loop image₀ script at₀ image at =
+    let left = drop at script in
+    (length image ≡ length image₀) × (at ≤ length script) × (isScript (length image) left ≡ true) × (madeStores image₀ script ≡ madeStores image left)
 
 abbrev μ-loop : tie.MeasureT-loop
 μ-loop image₀ script at₀ image at = length script - at

@@ -1,7 +1,7 @@
 use mathlib.Core.Path.{refl}
 use mathlib.Core.List.{[], _∷_}
 use Rattle.memory.specs.Script.{store, barrier}
-use Rattle.memory.proofs.Written.{lent-written}
+use Rattle.memory.proofs.Written.{written-rest}
 use borrow.Author.Needs.{needs}
 use Rattle.memory.proofs.script.put_fenced.Statement.{statement}
 use Rattle.memory.proofs.script.put_fenced.Tie as tie
@@ -19,4 +19,4 @@ put-fenced-spec =
     (λ c. let a = c .before .before .before .before .before .before .before .before .before .args in
     let one = c .before .before .before .before .before .before .put-store in
     let two = c .before .before .put-barrier in
-    lent-written (store (a .index) (a .value) ∷ []) (barrier ∷ []) 2 (a .script .now) (one .last .0) (two .last .0) refl (one .ensures) (two .ensures)))
+    written-rest (store (a .index) (a .value) ∷ []) (barrier ∷ []) 2 (a .script .now) (one .last .0) (two .last .0) refl (one .ensures) (two .ensures)))

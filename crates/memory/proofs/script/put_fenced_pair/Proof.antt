@@ -1,7 +1,7 @@
 use mathlib.Core.Path.{refl}
 use mathlib.Core.List.{[], _∷_}
 use Rattle.memory.specs.Script.{store, barrier}
-use Rattle.memory.proofs.Written.{lent-written}
+use Rattle.memory.proofs.Written.{written-rest}
 use borrow.Author.Needs.{needs}
 use Rattle.memory.proofs.script.put_fenced_pair.Statement.{statement}
 use Rattle.memory.proofs.script.put_fenced_pair.Tie as tie
@@ -19,4 +19,6 @@ put-fenced-pair-spec =
     (λ c. let a = c .before .before .before .before .before .before .before .before .before .args in
     let one = c .before .before .before .before .before .before .put-fenced in
     let two = c .before .before .put-fenced2 in
-    lent-written (store (a .index) (a .value) ∷ barrier ∷ []) (store (a .index2) (a .value2) ∷ barrier ∷ []) 4 (a .script .now) (one .last .0) (two .last .0) refl (one .ensures) (two .ensures)))
+    let first = store (a .index) (a .value) ∷ barrier ∷ [] in
+    let second = store (a .index2) (a .value2) ∷ barrier ∷ [] in
+    written-rest first second 4 (a .script .now) (one .last .0) (two .last .0) refl (one .ensures) (two .ensures)))

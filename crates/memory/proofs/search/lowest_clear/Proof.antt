@@ -1,4 +1,4 @@
-use Prim.Native.Nat.{ℕ, _≤_, _-_}
+use Prim.Native.Nat.{_≤_, _-_}
 use native.Mathlib.Omega.{arith}
 use borrow.Author.Count.{below-more, below-none}
 use borrow.Author.Needs.{needs}
@@ -9,7 +9,7 @@ use Rattle.memory.proofs.search.lowest_clear.Statement.{statement}
 use Rattle.memory.proofs.search.lowest_clear.Tie as tie
 
 abbrev Inv-loop : tie.InvT-loop
-Inv-loop w n k₀ k = (k ≤ n) × NoneBelow (clearIn w) k
+Inv-loop w n k₀ k = NoneBelow (clearIn w) k × (k ≤ n)
 
 abbrev μ-loop : tie.MeasureT-loop
 μ-loop w n k₀ k = n - k
@@ -21,10 +21,10 @@ lowest-clear-spec =
     Inv-loop
     μ-loop
     (λ c. rw (c .if1 .taken) (full-word (c .before .args .n) (c .before .pre)))
-    (λ c. (search needs, below-none _))
+    (λ c. (below-none _, search needs))
     (λ c κs. search needs)
-    (λ c. first-laws _ _ .stops _ (search needs) (c .before .before .before .loop .inv .1) (λ l. cc))
+    (λ c. first-laws _ _ .stops _ (search needs) (c .before .before .before .loop .inv .0) (λ l. cc))
     (λ c. search needs)
     (λ c. search needs)
-    (λ c. (search needs, below-more _ _ (c .before .before .before .loop .inv .1) cc))
-    (λ c. first-laws _ _ .stops _ (search needs) (c .before .loop .inv .1) (λ l. absurd (omega arith))))
+    (λ c. (below-more _ _ (c .before .before .before .loop .inv .0) cc, search needs))
+    (λ c. first-laws _ _ .stops _ (search needs) (c .before .loop .inv .0) (λ l. absurd (omega arith))))

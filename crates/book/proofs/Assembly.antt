@@ -26,7 +26,7 @@ use Rattle.book.proofs.Showing.{shows-view}
 use Rattle.book.proofs.Reading.{same-geometry}
 use Rattle.book.proofs.Alike.{alike}
 use Rattle.book.proofs.Settled.{idle-table}
-use Rattle.book.proofs.Formatted.{format-agrees}
+use Rattle.book.proofs.Formatted.{format-agrees, format-starts}
 use Rattle.book.proofs.Recovery.{recover-answers, interrupted-view, recovered-agrees, attempts-view, recovered-view}
 
 -- ---- what is assumed of each operation
@@ -163,7 +163,7 @@ module _ (steps : Steps) where
   survived {s} {t} a op fit k m c = elim (ℕ-discrete (perform op s .answer) 0) [
     | yes h ↦ rw (after-answered a op fit h) (answered-seen a fit (kind op) h c)
     | no h ↦
-        let e : m ≡ s .image = crash-none (c .itself) k m (rw (demand1 op s h .no-store) at (c .script)) ∙ itself-same c (refused-image op s h) in
+        let e : m ≡ s .image = crash-none (c .itself) k m (rw (demand1 .refused op s h .no-store) at (c .script)) ∙ itself-same c (refused-image op s h) in
         inr (rw (after-refused a op fit h, e) (seen (a .shows)))
   ]
 
@@ -186,4 +186,4 @@ module _ (steps : Steps) where
   demand3-from s t f = let a = agreed f in record { agrees = a; survives = survives a }
 
   pub demand2-from : Demand2
-  demand2-from s t f op fit = alike (agreed f) op fit
+  demand2-from = record { starts = format-starts; alike = λ s t f op fit. alike (agreed f) op fit }

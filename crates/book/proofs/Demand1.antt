@@ -1,21 +1,21 @@
 -- Demand 1: a refusal has one of the operation's numbers, hands out nothing and leaves everything.
 use mathlib.Core.Path.{_≡_, refl}
-use mathlib.Core.Bool.{false}
-use mathlib.Core.Logic.{inl, inr, _≢_}
+use mathlib.Core.Bool.{true, false}
+use mathlib.Core.Logic.{_⊎_, inl, inr, _↔_, _≢_}
 use mathlib.Core.List.{List, _∷_, map, List·Memᴰ}
-use Prim.Native.Nat.{ℕ, zero, suc}
-use lib.Dec.{eqb}
+use Prim.Native.Nat.{ℕ, zero, suc, _<_}
+use lib.Dec.{eqb, ltb}
 use lib.ListN.{length-replicate}
-use borrow.Author.Tests.{eqb-true}
+use borrow.Author.Tests.{eqb-true, eqb-false, ltb-true, eq-eqb, lt-ltb}
 use Rattle.tree.specs.Memory.{reads}
 use Rattle.tree.specs.Pool.{clearMap}
 use Rattle.tree.specs.Test.{is}
 use Rattle.book.specs.Refusals.{Refusal, refusal, _gives_}
 use Rattle.book.specs.State.{State, Operation, format, recover, openReel, claim, fill, commit, abandon, remove, has, list, retire}
 use Rattle.book.specs.Checks.{refusals}
-use Rattle.book.specs.Perform.{leaves, perform}
-use Rattle.book.specs.Demands.{numbers, Leaves, as-before, map-cleared, Demand1}
-use Rattle.tree.proofs.Cases.{test}
+use Rattle.book.specs.Perform.{leaves, pastChecks, clears, perform}
+use Rattle.book.specs.Demands.{numbers, ClearsMap, unsound, BorrowsScratch, by-list, by-retire, Leaves, as-before, map-cleared, Refused, Demand1}
+use Rattle.tree.proofs.Cases.{test, true-not-false, or-true, or-left, or-right}
 use Rattle.book.proofs.Refusals.{refusal-listed}
 use Rattle.book.proofs.Performed.{answer-is, work-refused}
 
@@ -45,28 +45,56 @@ clear-reads zero i = refl
 clear-reads (suc n) zero = refl
 clear-reads (suc n) (suc i) = clear-reads n i
 
+cleared-at : {words n : ℕ} → ClearsMap (recover words) n → n ≡ 4
+cleared-at unsound = refl
+
 left-by : (op : Operation) (s : State) (n : ℕ) → Leaves s op n (leaves op s n)
 unfolding leaves
-left-by (format words slots nodes) s n = as-before refl
+left-by (format words slots nodes) s n = as-before {op = format words slots nodes} {n = n} (λ c. elim c [ ]) refl
 left-by (recover words) s n = elim (test (eqb n 4)) [
   | inl e ↦ rw (e, eqb-true n 4 e) (map-cleared refl refl (length-replicate {A = ℕ} words 0) (clear-reads words))
-  | inr e ↦ rw e (as-before refl)
+  | inr e ↦ rw e (as-before {op = recover words} {n = n} (λ c. eqb-false n 4 e (cleared-at c)) refl)
 ]
-left-by (openReel words script reel) s n = as-before refl
-left-by (claim words script h reel f) s n = as-before refl
-left-by (fill script h) s n = as-before refl
-left-by (commit script h) s n = as-before refl
-left-by (abandon script h) s n = as-before refl
-left-by (remove script reel f) s n = as-before refl
-left-by (has reel f) s n = as-before refl
-left-by (list scratch room reel) s n = as-before refl
-left-by (retire words scratch script reel) s n = as-before refl
+left-by (openReel words script reel) s n = as-before {op = openReel words script reel} {n = n} (λ c. elim c [ ]) refl
+left-by (claim words script h reel f) s n = as-before {op = claim words script h reel f} {n = n} (λ c. elim c [ ]) refl
+left-by (fill script h) s n = as-before {op = fill script h} {n = n} (λ c. elim c [ ]) refl
+left-by (commit script h) s n = as-before {op = commit script h} {n = n} (λ c. elim c [ ]) refl
+left-by (abandon script h) s n = as-before {op = abandon script h} {n = n} (λ c. elim c [ ]) refl
+left-by (remove script reel f) s n = as-before {op = remove script reel f} {n = n} (λ c. elim c [ ]) refl
+left-by (has reel f) s n = as-before {op = has reel f} {n = n} (λ c. elim c [ ]) refl
+left-by (list scratch room reel) s n = as-before {op = list scratch room reel} {n = n} (λ c. elim c [ ]) refl
+left-by (retire words scratch script reel) s n = as-before {op = retire words scratch script reel} {n = n} (λ c. elim c [ ]) refl
 
-pub demand1 : Demand1
-demand1 op s h = let w = work-refused op s h in record {
+-- an end that is none of 1, 2 and 3
+past-checks : (n : ℕ) → (pastChecks n ≡ true) ↔ ((n ≡ 0) ⊎ (3 < n))
+past-checks n = (
+  λ h. elim (or-true (eqb n 0) (ltb 3 n) h) [ inl e ↦ inl (eqb-true n 0 e) | inr e ↦ inr (ltb-true 3 n e) ],
+  λ h. elim h [ inl e ↦ or-left (ltb 3 n) (eq-eqb n 0 e) | inr l ↦ or-right (eqb n 0) (lt-ltb 3 n l) ],
+)
+
+clears-scratch : (op : Operation) (n : ℕ) → (clears op n ≡ true) ↔ (BorrowsScratch op × ((n ≡ 0) ⊎ (3 < n)))
+unfolding clears
+clears-scratch (list scratch room reel) n = (λ h. (by-list, past-checks n .0 h), λ x. past-checks n .1 (x .1))
+clears-scratch (retire words scratch script reel) n = (λ h. (by-retire, past-checks n .0 h), λ x. past-checks n .1 (x .1))
+clears-scratch (format words slots nodes) n = (λ h. absurd (true-not-false h refl), λ x. elim (x .0) [ ])
+clears-scratch (recover words) n = (λ h. absurd (true-not-false h refl), λ x. elim (x .0) [ ])
+clears-scratch (openReel words script reel) n = (λ h. absurd (true-not-false h refl), λ x. elim (x .0) [ ])
+clears-scratch (claim words script h reel f) n = (λ h. absurd (true-not-false h refl), λ x. elim (x .0) [ ])
+clears-scratch (fill script h) n = (λ h. absurd (true-not-false h refl), λ x. elim (x .0) [ ])
+clears-scratch (commit script h) n = (λ h. absurd (true-not-false h refl), λ x. elim (x .0) [ ])
+clears-scratch (abandon script h) n = (λ h. absurd (true-not-false h refl), λ x. elim (x .0) [ ])
+clears-scratch (remove script reel f) n = (λ h. absurd (true-not-false h refl), λ x. elim (x .0) [ ])
+clears-scratch (has reel f) n = (λ h. absurd (true-not-false h refl), λ x. elim (x .0) [ ])
+
+refused : (op : Operation) (s : State) → perform op s .answer ≢ 0 → Refused op s
+refused op s h = let w = work-refused op s h in record {
   number = rw (answer-is op s) (numbered op s (rw (answer-is op s) at h));
   no-store = rw w;
   no-value = rw w;
   no-listing = rw w;
   left = rw w (left-by op s (perform op s .answer));
 }
+
+pub demand1 : Demand1
+unfolding perform
+demand1 = record { refused = refused; scratch = λ op s. clears-scratch op (perform op s .answer) }

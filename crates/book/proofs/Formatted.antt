@@ -27,7 +27,7 @@ use Rattle.book.specs.Perform.{formatStores, granted, perform}
 use Rattle.book.specs.Table.{emptyTable}
 use Rattle.book.specs.Agrees.{Agrees}
 use Rattle.book.specs.Histories.{carriedOut, done}
-use Rattle.book.proofs.Refusals.{passes}
+use Rattle.book.proofs.Refusals.{passes, passed-all}
 use Rattle.book.proofs.Performed.{answer-is}
 use Rattle.book.proofs.Done.{carried-leaving, done-granted}
 use Rattle.book.proofs.View.{Header, View}
@@ -154,3 +154,9 @@ format-agrees words slots nodes s fit h =
     let p = passes _ (omega arith) (sym (ap refusal (format-refusals words g s)) ∙ sym (answer-is (format words slots nodes) s) ∙ h) in
     let q = done-granted (format words slots nodes) s h ∙ ap carriedOut (granted-format words g s) ∙ carried-leaving _ in
     rw (q, ← idle-empty slots nodes) (agrees-settled (blank-settled g (s .image) fit (omega (arith, p .0)) (omega (arith, p .0))))
+
+-- a format is answered where its numbers and the lengths are right
+pub format-starts : (g : Geometry) (s : State) → Says (inRange g) → length (s .image) ≡ imageWords g
+    → perform (format (mapWords g) (g .slots) (g .nodes)) s .answer ≡ 0
+unfolding perform refusals badImage inRange
+format-starts g s r l = passed-all _ (((omega arith, (omega arith, (omega arith, omega arith))), l), (refl, tt))

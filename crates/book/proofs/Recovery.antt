@@ -146,7 +146,7 @@ record Writes (r : State) (w : Work) : Type 0 where
 recover-writes : (words : ℕ) (r : State) → Writes r (perform (recover words) r .work)
 recover-writes words r = elim (ℕ-discrete (perform (recover words) r .answer) 0) [
   | yes h ↦ let q = work-granted (recover words) r h ∙ granted-recover words r in record { script = rw q refl; image = inr (rw q refl) }
-  | no h ↦ record { script = demand1 (recover words) r h .no-store; image = inl (refused-image (recover words) r h) }
+  | no h ↦ record { script = demand1 .refused (recover words) r h .no-store; image = inl (refused-image (recover words) r h) }
 ]
 
 module _ {g : Geometry} {rs : List Reel} where

@@ -1,7 +1,7 @@
 -- Scripts, over any state: bounded, inside the image, ending in a barrier, and carried out as words.
 use mathlib.Core.Path.{_≡_, refl, ap₂}
 use mathlib.Core.Bool.{not}
-use mathlib.Core.Logic.{_≢_}
+use mathlib.Core.Logic.{_⊎_, inl, inr, _≢_}
 use mathlib.Core.List.{List, [], _∷_, _++_, map, map-append, List·Memᴰ·not-nil}
 use Prim.Native.Nat.{ℕ, _-_, _^_, _<_}
 use native.Mathlib.Omega.{arith}
@@ -17,10 +17,11 @@ use Rattle.book.specs.Refusals.{refusal}
 use Rattle.book.specs.State.{State, Operation, format, recover, openReel, claim, fill, commit, abandon, remove, has, list, retire, arguments, Work}
 use Rattle.book.specs.Checks.{badImage, refusals}
 use Rattle.book.specs.Perform.{formatStores, recoverStores, granted, perform}
-use Rattle.book.specs.Demands.{GoodScript, Scripts}
+use Rattle.book.specs.Demands.{WritesImage, by-format, by-recover, GoodScript, Scripts}
 use Rattle.tree.proofs.Lists.{in-range}
 use Rattle.book.proofs.Refusals.{Denies, passes}
 use Rattle.book.proofs.Performed.{answer-is, work-granted, work-refused}
+use Rattle.book.proofs.Done.{refused-image}
 use Rattle.book.proofs.Entries.{MemoryLaws, Each, each-at, each-append, each-map, stored, each-entry, ends-in-barrier, length-segmented}
 use Rattle.book.proofs.Inside.{sized, find-inside, path-room, run-inside, target-fits}
 use Rattle.book.proofs.Writes.{Writes, Good, no-stores, good-open, good-retire, good-claim, good-fill, good-commit, good-abandon, good-remove}
@@ -34,6 +35,21 @@ record Answered (s : State) (w : Work) : Type 0 where
 geometry-is : (m : Memory) (g : Geometry) → m 1 ≡ g .slots → m 2 ≡ g .nodes → geometryOf m ≡ g
 unfolding geometryOf
 geometry-is m g p q = ap₂ (λ a b. record { slots = a; nodes = b }) p q
+
+-- an answered operation stores by its script alone, or writes the image itself and has no script
+writes-one-way : (op : Operation) (s : State) → (WritesImage op × (granted op s .script ≡ [])) ⊎ (granted op s .after .image ≡ s .image)
+unfolding granted
+writes-one-way (format words slots nodes) s = inl (by-format, refl)
+writes-one-way (recover words) s = inl (by-recover, refl)
+writes-one-way (openReel words script reel) s = inr refl
+writes-one-way (claim words script h reel f) s = inr refl
+writes-one-way (fill script h) s = inr refl
+writes-one-way (commit script h) s = inr refl
+writes-one-way (abandon script h) s = inr refl
+writes-one-way (remove script reel f) s = inr refl
+writes-one-way (has reel f) s = inr refl
+writes-one-way (list scratch room reel) s = inr refl
+writes-one-way (retire words scratch script reel) s = inr refl
 
 module _ (laws : MemoryLaws) where
   -- what a list of stores leaves at an index: nothing new, or its last store there
@@ -138,15 +154,16 @@ module _ (laws : MemoryLaws) where
 
   good-refused : (op : Operation) (s : State) → perform op s .answer ≢ 0 → GoodScript op s
   good-refused op s h = let w = work-refused op s h in record {
+    one-way = inr (refused-image op s h);
     short = rw (w, laws .no-segment) (omega arith);
-    fenced = ends-in-barrier laws (perform op s .work .script);
+    ends-in-barrier = ends-in-barrier laws (perform op s .work .script);
     inside = λ i v x. absurd (List·Memᴰ·not-nil (rw (w, laws .no-segment) at x));
     fits = λ i v x. absurd (List·Memᴰ·not-nil (rw (w, laws .no-segment) at x));
     carried-out = λ z. absurd (h z);
   }
 
-  good-answered : (op : Operation) (s : State) → Answered s (perform op s .work) → GoodScript op s
-  good-answered op s a =
+  good-answered : (op : Operation) (s : State) → perform op s .work ≡ granted op s → Answered s (perform op s .work) → GoodScript op s
+  good-answered op s q a =
       let w = perform op s .work in
       let P = Writes (length (s .image)) in
       let z = sized _ _ (a .header) in
@@ -155,8 +172,9 @@ module _ (laws : MemoryLaws) where
       let short : length (s .image) < 2 ^ 64 - 1 = omega arith in
       let inside : Inside (length (s .image)) (segmented (w .script)) = λ i v x. let t = each i v x in (t .0, λ q. omega arith) in
       record {
+        one-way = rw q (writes-one-way op s);
         short = omega (arith, length-segmented laws (w .script), a .script .few);
-        fenced = ends-in-barrier laws (w .script);
+        ends-in-barrier = ends-in-barrier laws (w .script);
         inside = inside;
         fits = λ i v x. each i v x .1;
         carried-out = λ e. laws .carried-out (w .after .image) (segmented (w .script)) (a .header) (rw n inside);
@@ -165,6 +183,6 @@ module _ (laws : MemoryLaws) where
   -- every script is good
   pub scripts-by : Scripts
   scripts-by op s a b c = elim (ℕ-discrete (perform op s .answer) 0) [
-    | yes h ↦ good-answered op s (rw (work-granted op s h) (answered op s a b c (rw (answer-is op s) at h)))
+    | yes h ↦ good-answered op s (work-granted op s h) (rw (work-granted op s h) (answered op s a b c (rw (answer-is op s) at h)))
     | no h ↦ good-refused op s h
   ]

@@ -1,13 +1,14 @@
 -- The customer's demands, and with them where frames sit and what a script may hold: statements alone.
 use mathlib.Core.Path.{_≡_}
-use mathlib.Core.Bool.{cond}
+use mathlib.Core.Bool.{true, cond}
 use mathlib.Core.Logic.{_⊎_, _↔_, _≢_}
 use mathlib.Core.List.{List, [], _∷_, _++_, List·Memᴰ}
-use Prim.Native.Nat.{ℕ, _≤_}
+use Prim.Native.Nat.{ℕ, _≤_, _<_}
 use lib.ListN.{length}
 use lib.Dec.{eqb}
 use Rattle.tree.specs.Memory.{reads, Entry, barrier, encode, segmented, apply, passed, Inside, Fit, FitStores}
-use Rattle.tree.specs.Layout.{mapWords, reelAt, geometryOf}
+use Rattle.tree.specs.Test.{Says}
+use Rattle.tree.specs.Layout.{Geometry, inRange, imageWords, mapWords, reelAt, geometryOf}
 use Rattle.tree.specs.Reach.{Holds}
 use Rattle.book.specs.declared.Target.{Target}
 use Rattle.book.specs.declared.HeadState.the-variants.{Claimed}
@@ -36,9 +37,18 @@ numbers (has reel f) = 1 ∷ 2 ∷ 5 ∷ 4 ∷ []
 numbers (list scratch room reel) = 1 ∷ 2 ∷ 3 ∷ 5 ∷ 4 ∷ 14 ∷ []
 numbers (retire words scratch script reel) = 1 ∷ 2 ∷ 3 ∷ 5 ∷ 13 ∷ 4 ∷ []
 
+-- a recovery refused 4 clears the map
+pub data ClearsMap : Operation → ℕ → Type 0 where
+  unsound : {words : ℕ} → ClearsMap (recover words) 4
+
+-- List and Retire borrow a scratch map
+pub data BorrowsScratch : Operation → Type 0 where
+  by-list : {scratch room reel : ℕ} → BorrowsScratch (list scratch room reel)
+  by-retire : {words scratch script reel : ℕ} → BorrowsScratch (retire words scratch script reel)
+
 -- what a refusal leaves: everything, but for the map that a recovery refused 4 clears
 pub data Leaves (s : State) : Operation → ℕ → State → Type 0 where
-  as-before : {op : Operation} {n : ℕ} {s' : State} → s' ≡ s → Leaves s op n s'
+  as-before : {op : Operation} {n : ℕ} {s' : State} → (ClearsMap op n → ⊥) → s' ≡ s → Leaves s op n s'
   map-cleared : {words : ℕ} {s' : State} → s' .image ≡ s .image → s' .heads ≡ s .heads → length (s' .pool) ≡ words
       → ((i : ℕ) → reads (s' .pool) i ≡ 0) → Leaves s (recover words) 4 s'
 
@@ -49,8 +59,11 @@ pub record Refused (op : Operation) (s : State) : Type 0 where
   pub no-listing : perform op s .work .listing ≡ []
   pub left : Leaves s op (perform op s .answer) (perform op s .work .after)
 
-abbrev pub Demand1 : Type 0
-Demand1 = (op : Operation) (s : State) → perform op s .answer ≢ 0 → Refused op s
+pub record Demand1 : Type 0 where
+  pub refused : (op : Operation) (s : State) → perform op s .answer ≢ 0 → Refused op s
+  -- the scratch map is all 0 after any end but 1, 2 or 3
+  pub scratch : (op : Operation) (s : State)
+      → (perform op s .cleared ≡ true) ↔ (BorrowsScratch op × ((perform op s .answer ≡ 0) ⊎ (3 < perform op s .answer)))
 
 -- ---- 2: in every history, book and table answer alike
 
@@ -67,8 +80,11 @@ pub record Alike (op : Operation) (s : State) (t : Table) : Type 0 where
   -- an 8 comes exactly where the operation comes to it and lacks the nodes that it needs
   pub no-run : reply op noRun t .answer ≡ 8 → (perform op s .answer ≡ 8) ↔ Lacks s op
 
-abbrev pub Demand2 : Type 0
-Demand2 = (s : State) (t : Table) → Follows s t → (op : Operation) → Fit (arguments op) → Alike op s t
+pub record Demand2 : Type 0 where
+  -- a format is answered over any memory, map and heads where numbers and lengths are right, so that histories start
+  pub starts : (g : Geometry) (s : State) → Says (inRange g) → length (s .image) ≡ imageWords g
+      → perform (format (mapWords g) (g .slots) (g .nodes)) s .answer ≡ 0
+  pub alike : (s : State) (t : Table) → Follows s t → (op : Operation) → Fit (arguments op) → Alike op s t
 
 -- ---- 3: every history agrees with its table, through every crash
 
@@ -117,9 +133,16 @@ Placed = (s : State) (t : Table) → Follows s t → Places s
 
 -- ---- scripts, over any state of words below 2^64
 
+-- the operations that write the image themselves
+pub data WritesImage : Operation → Type 0 where
+  by-format : {words slots nodes : ℕ} → WritesImage (format words slots nodes)
+  by-recover : {words : ℕ} → WritesImage (recover words)
+
 pub record GoodScript (op : Operation) (s : State) : Type 0 where
+  -- an operation stores by its script, or writes the image itself and has no script
+  pub one-way : (WritesImage op × (perform op s .work .script ≡ [])) ⊎ (perform op s .work .after .image ≡ s .image)
   pub short : length (segmented (perform op s .work .script)) ≤ 25
-  pub fenced : (segmented (perform op s .work .script) ≡ []) ⊎ ((es : List Entry) × (segmented (perform op s .work .script) ≡ es ++ barrier ∷ []))
+  pub ends-in-barrier : (segmented (perform op s .work .script) ≡ []) ⊎ ((es : List Entry) × (segmented (perform op s .work .script) ≡ es ++ barrier ∷ []))
   pub inside : Inside (length (s .image)) (segmented (perform op s .work .script))
   pub fits : FitStores (segmented (perform op s .work .script))
   -- carried out as words, it answers 0 and leaves the image that a history goes on with

@@ -61,7 +61,7 @@ module _ (pool : List ℕ) (n : ℕ) where
 
   fits-unmark : Fit pool → Fit (unmark pool n)
   unfolding unmark
-  fits-unmark f = fits-set pool (n / 64) _ (bit-laws .without-fits (reads pool (n / 64)) (n % 64) 64 (omega arith) (f (n / 64))) f
+  fits-unmark f = fits-set pool (n / 64) _ (bit-laws .without-fits (reads pool (n / 64)) (n % 64) 64 (f (n / 64))) f
 
   mark-same : n < 64 * length pool → used (mark pool n) n ≡ true
   unfolding mark

@@ -22,3 +22,10 @@ pub mod MemoryLaws
 pub mod Paired
 pub mod Alike
 pub mod Crashed
+pub mod Assumed
+pub mod Done
+pub mod Settled
+pub mod Mended
+pub mod Recovery
+pub mod Formatted
+pub mod Assembly

@@ -21,6 +21,8 @@ pub mod Scripts
 pub mod MemoryLaws
 pub mod Paired
 pub mod Alike
+pub mod Keeps
+pub mod Claims
 pub mod Crashed
 pub mod Assumed
 pub mod Done

@@ -15,11 +15,12 @@ use Rattle.book.specs.State.{State, Operation, format, recover, openReel
 use Rattle.book.specs.Perform.{granted, leaves, perform}
 use Rattle.book.specs.Table.{Table, Reel, geometry, fed, tableWork, emptyTable, allIdle}
 use Rattle.book.specs.Agrees.{Shows, Agrees}
-use Rattle.book.specs.Histories.{done, replied, answered-format, Interrupted, Attempts, Recovered, Follows, formatted, performed, before, after}
+use Rattle.book.specs.Histories.{carriedOut, done, replied, answered-format, Interrupted, Attempts, Recovered, Follows, formatted, performed, before, after}
 use Rattle.book.specs.Demands.{Alike, Demand2, Survives, Demand3}
 use Rattle.book.proofs.Performed.{work-granted, work-refused, reply-granted, reply-refused}
 use Rattle.book.proofs.Done.{done-granted, done-refused, leaves-image, leaves-all}
 use Rattle.book.proofs.View.{View}
+use Rattle.book.proofs.Step.{Step}
 use Rattle.book.proofs.Assumed.{Assumed}
 use Rattle.book.proofs.Settled.{idle-table}
 use Rattle.book.proofs.Formatted.{format-agrees}
@@ -38,12 +39,6 @@ pub data Scripted : Operation → Type 0 where
   asks : {reel f : ℕ} → Scripted (has reel f)
   lists : {scratch room reel : ℕ} → Scripted (list scratch room reel)
   retires : {words scratch script reel : ℕ} → Scripted (retire words scratch script reel)
-
--- done, it agrees with the table after; a crash shows the table before or the one after
-pub record Step (op : Operation) (s : State) (t : Table) : Type 0 where
-  pub final : Agrees (done op s) (tableWork op t .after)
-  pub crash : (k : ℕ) (m' : List ℕ) → CrashImage (s .image) (segmented (granted op s .script)) k m'
-      → Shows m' t ⊎ Shows m' (tableWork op t .after)
 
 pub record Steps : Type 0 where
   pub step : {s : State} {t : Table} {op : Operation} → Agrees s t → Scripted op → Fit (arguments op) → perform op s .answer ≡ 0 → Step op s t
@@ -130,7 +125,7 @@ module _ (known : Assumed) where
         rw (table-format words slots nodes t) (format-agrees known words slots nodes s (a .shows .fits) h)
     answered-agrees {s} {t} a fit (recovers {words}) h =
         rw (table-recover words t, ← idle-table {g = geometry t} t refl refl) (recovered-agrees known words s (seen (a .shows)) h)
-    answered-agrees a fit (scripted x) h = steps .step a x fit h .final
+    answered-agrees {s} a {op} fit (scripted x) h = rw (done-granted op s h) (steps .step a x fit h .final)
 
     module _ {s : State} {t : Table} (a : Agrees s t) (op : Operation) (fit : Fit (arguments op)) where
       -- the table after: of an answered operation its work, of a refused one the table before
@@ -156,14 +151,14 @@ module _ (known : Assumed) where
         → Interrupted op s k m → ((passed (segmented (perform op s .work .script)) k → ⊥) × Seen m t) ⊎ Seen m (tableWork op t .after)
     answered-seen a fit formats h c = absurd (c .unsteady (rw h answered-format))
     answered-seen {s} {t} {k = k} {m = m} a fit (recovers {words}) h c =
-        inr (rw (table-recover words t) (idle-seen t (interrupted-view known words s k m (seen (a .shows)) c)))
+        inr (rw (table-recover words t) (idle-seen t (interrupted-view words s k m (seen (a .shows)) c)))
     answered-seen {s} {t} {op = op} {k = k} {m = m} a fit (scripted x) h c =
         let w = work-granted op s h in
         let step = steps .step a x fit h in
         let es = segmented (granted op s .script) in
         let q : c .itself ≡ s .image = itself-same c (ap (λ y. y .after .image) w ∙ granted-image s x) in
         let crash : CrashImage (s .image) es k m = rw (q, w) at (c .script) in
-        let end : done op s .image ≡ apply (s .image) es = ap (λ y. y .image) (done-granted op s h) ∙ ap (λ i. apply i es) (granted-image s x) in
+        let end : carriedOut (granted op s) .image ≡ apply (s .image) es = ap (λ i. apply i es) (granted-image s x) in
         elim (passed-or (segmented (perform op s .work .script)) k) [
           | inl p ↦ inr (rw (crash-laws .all-passed (s .image) (granted op s .script) k m (rw w at p) crash ∙ sym end) (seen (step .final .shows)))
           | inr n ↦ elim (step .crash k m crash) [ inl u ↦ inl (n, seen u) | inr u ↦ inr (seen u) ]
@@ -183,8 +178,8 @@ module _ (known : Assumed) where
     survives : {s : State} {t : Table} → Agrees s t → (op : Operation) → Fit (arguments op) → (k : ℕ) (m m' : List ℕ) → Interrupted op s k m
         → Attempts m m' → Survives op s t k m'
     survives {s} {t} a op fit k m m' c tried = elim (survived a op fit k m c) [
-      | inl p ↦ let v = attempts-view known tried (p .1) in record { accepted = accepted v; whole = λ s' r. inl (p .0, whole t v r) }
-      | inr u ↦ let v = attempts-view known tried u in record { accepted = accepted v; whole = λ s' r. inr (whole (replied op s t .work .after) v r) }
+      | inl p ↦ let v = attempts-view tried (p .1) in record { accepted = accepted v; whole = λ s' r. inl (p .0, whole t v r) }
+      | inr u ↦ let v = attempts-view tried u in record { accepted = accepted v; whole = λ s' r. inr (whole (replied op s t .work .after) v r) }
     ]
 
     -- ---- histories

@@ -4,18 +4,14 @@ use mathlib.Core.Logic.{inl, inr, _≢_}
 use Prim.Native.Nat.{ℕ}
 use lib.Dec.{eqb}
 use borrow.Author.Tests.{ne-eqb}
-use Rattle.tree.specs.Memory.{segmented, apply}
 use Rattle.tree.proofs.Cases.{test}
 use Rattle.tree.proofs.StoreLists.{apply-none}
-use Rattle.book.specs.State.{State, Operation, format, recover, openReel, claim, fill, commit, abandon, remove, has, list, retire, Work, leaving}
+use Rattle.book.specs.State.{State, Operation, format, recover, openReel, claim, fill, commit, abandon, remove, has, list, retire, leaving}
 use Rattle.book.specs.Perform.{granted, leaves, perform}
-use Rattle.book.specs.Histories.{done}
+use Rattle.book.specs.Histories.{carriedOut, done}
 use Rattle.book.proofs.Performed.{work-granted, work-refused}
 
--- a work's state, its script carried out
-abbrev pub carriedOut : Work → State
-carriedOut w = record { image = apply (w .after .image) (segmented (w .script)); pool = w .after .pool; heads = w .after .heads }
-
+-- work that only leaves a state
 pub carried-leaving : (s : State) → carriedOut (leaving s) ≡ s
 carried-leaving s = ap (λ m. record { image = m; pool = s .pool; heads = s .heads }) (apply-none (s .image))
 

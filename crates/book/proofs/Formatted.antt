@@ -5,19 +5,21 @@ use mathlib.Core.List.{List, [], _∷_, map, List·Memᴰ, List·Memᴰ·head, L
 use mathlib.Core.List.{List·Memᴰ·append-cases, Memᴰ·append-right, Memᴰ·map, Memᴰ·of-map}
 use Prim.Native.Nat.{ℕ, zero, suc, _^_, _≤_, _<_}
 use native.Mathlib.Omega.{arith}
-use lib.ListN.{length, length-replicate}
+use lib.ListN.{length}
 use Rattle.tree.specs.Memory.{Memory, reads, Store, stores, apply, Fit}
 use Rattle.tree.specs.Test.{Says}
 use Rattle.tree.specs.Lists.{range, upTo, empty}
 use Rattle.tree.specs.Layout.{Geometry, inRange, imageWords, mapWords, editionAt, slotsAt, nodesAt, geometryOf, rootAt}
+use Rattle.tree.specs.Fingerprint.{ruleOf}
 use Rattle.tree.specs.Slots.{Filled}
 use Rattle.tree.specs.Reach.{Reaches}
 use Rattle.tree.specs.Pool.{clearMap}
 use Rattle.tree.proofs.Cases.{true-not-false}
 use Rattle.tree.proofs.Lists.{in-range, upTo-members}
 use Rattle.tree.proofs.Memory.{apply-laws}
+use Rattle.tree.proofs.Pool.{pool-laws}
 use Rattle.tree.proofs.StoreLists.{stored, settles}
-use Rattle.tree.proofs.Laws.{reach-laws}
+use Rattle.tree.proofs.Laws.{reach-laws, sound-laws}
 use Rattle.book.specs.Heads.{idleHeads}
 use Rattle.book.specs.Refusals.{_gives_, refusal}
 use Rattle.book.specs.State.{State, format, leaving}
@@ -25,10 +27,10 @@ use Rattle.book.specs.Checks.{badImage, badMap, refusals}
 use Rattle.book.specs.Perform.{formatStores, granted, perform}
 use Rattle.book.specs.Table.{emptyTable}
 use Rattle.book.specs.Agrees.{Agrees}
-use Rattle.book.specs.Histories.{done}
+use Rattle.book.specs.Histories.{carriedOut, done}
 use Rattle.book.proofs.Refusals.{passes}
 use Rattle.book.proofs.Performed.{answer-is}
-use Rattle.book.proofs.Done.{carriedOut, carried-leaving, done-granted}
+use Rattle.book.proofs.Done.{carried-leaving, done-granted}
 use Rattle.book.proofs.View.{Header, View}
 use Rattle.book.proofs.Assumed.{Assumed}
 use Rattle.book.proofs.Settled.{idleTable, Settled, agrees-settled}
@@ -109,14 +111,7 @@ module _ (g : Geometry) (im : List ℕ) (fit : Fit im) (range : Says (inRange g)
   blank-view : View g (blank g im) []
   blank-view = record {
     header = header;
-    sound = record {
-      well-formed = λ r. absurd (none-reached r);
-      once = λ r r'. absurd (none-reached r);
-      reels = λ b b' q. absurd (none-filled b);
-      on-path = λ x. absurd (none-reached (x .there));
-      frame-once = λ x y. absurd (none-reached (x .there));
-      fingerprints = λ x. absurd (none-reached (x .there));
-    };
+    sound = sound-laws (ruleOf (reads (blank g im))) g (reads (blank g im)) .formatted (λ s h. written (rootAt s) 0 (omega arith) (root-stored g s h));
     once = record { numbers = empty; frames = λ r x. absurd (List·Memᴰ·not-nil x) };
     same = record {
       present = λ reel. (λ t. absurd (none-filled (t .1 .open-slot)), λ t. absurd (List·Memᴰ·not-nil (t .1)));
@@ -124,11 +119,11 @@ module _ (g : Geometry) (im : List ℕ) (fit : Fit im) (range : Says (inRange g)
     };
   }
 
-  blank-settled : Assumed → Settled g (blank g im) (clearMap (mapWords g)) []
-  blank-settled known = record {
+  blank-settled : Settled g (blank g im) (clearMap (mapWords g)) []
+  blank-settled = record {
     view = blank-view;
-    map-words = length-replicate {A = ℕ} (mapWords g) 0;
-    marks = λ n. (λ e. absurd (true-not-false e (known .clear-map (mapWords g) n)), λ r. absurd (none-reached (r .there)));
+    map-words = pool-laws .length-clear (mapWords g);
+    marks = λ n. (λ e. absurd (true-not-false e (pool-laws .clear (mapWords g) n)), λ r. absurd (none-reached (r .there)));
     equal = λ n r. absurd (none-reached (r .there));
   }
 
@@ -158,4 +153,4 @@ format-agrees known words slots nodes s fit h =
     let g : Geometry = record { slots = slots; nodes = nodes } in
     let p = passes _ (omega arith) (sym (ap refusal (format-refusals words g s)) ∙ sym (answer-is (format words slots nodes) s) ∙ h) in
     let q = done-granted (format words slots nodes) s h ∙ ap carriedOut (granted-format words g s) ∙ carried-leaving _ in
-    rw (q, ← idle-empty slots nodes) (agrees-settled known (blank-settled g (s .image) fit (omega (arith, p .0)) (omega (arith, p .0)) known))
+    rw (q, ← idle-empty slots nodes) (agrees-settled known (blank-settled g (s .image) fit (omega (arith, p .0)) (omega (arith, p .0))))

@@ -6,15 +6,16 @@ use mathlib.Core.List.{List}
 use Prim.Native.Nat.{ℕ, _-_, _%_}
 use native.Mathlib.Omega.{arith}
 use lib.ListN.{length}
-use Rattle.tree.specs.Memory.{Memory, reads, byte}
-use Rattle.tree.specs.Layout.{Geometry, editionAt, slotsAt, nodesAt, geometryOf, reelAt, rootAt, nextAt, locateAt, setAt, levelAt, sizeAt, fingerprintsAt, frameAt}
+use Rattle.tree.specs.Memory.{Memory, reads, byte, Fit}
+use Rattle.tree.specs.Layout.{Geometry, editionAt, slotsAt, nodesAt, reelAt, rootAt, nextAt, locateAt, setAt, levelAt, sizeAt, fingerprintsAt, frameAt}
 use Rattle.tree.specs.Node.{wellFormed}
 use Rattle.tree.specs.Same.{Same}
 use Rattle.tree.proofs.Laws.{node-laws, same-laws}
 use Rattle.book.specs.Table.{Reel}
 use Rattle.book.specs.Agrees.{Reached}
 use Rattle.book.proofs.View.{View}
-use Rattle.book.proofs.Assumed.{Assumed}
+use Rattle.book.proofs.Stored.{header-same}
+use Rattle.book.proofs.Views.{view-same}
 
 -- word i, with the value v, is the locate word of a reached node, and v its set word
 pub record Mends (g : Geometry) (m : Memory) (i v : ℕ) : Type 0 where
@@ -70,18 +71,10 @@ module _ {g : Geometry} {m m' : Memory} (a : Mended g m m') where
     λ r. record { slot = r .slot; way = r .way; there = same-laws mended-same .reaches .1 (r .there) },
   )
 
-geometry-kept : (m m' : Memory) → m slotsAt ≡ m' slotsAt → m nodesAt ≡ m' nodesAt → geometryOf m' ≡ geometryOf m
-unfolding geometryOf
-geometry-kept m m' p q = rw (p, q)
-
-pub mended-view : Assumed → {g : Geometry} {im im' : List ℕ} {rs : List Reel} → View g im rs → length im' ≡ length im
+pub mended-view : {g : Geometry} {im im' : List ℕ} {rs : List Reel} → View g im rs → length im' ≡ length im
     → Mended g (reads im) (reads im') → View g im' rs
-mended-view known {im = im} {im' = im'} v l a =
+mended-view {im' = im'} v l a =
     let h = v .header in
-    known .view-same v (record {
-      fits = λ i. elim (a .each i) [ inl q ↦ rw q (h .fits i) | inr x ↦ rw (x .is) (h .fits _) ];
-      edition = sym (kept a editionAt (λ k. omega arith)) ∙ h .edition;
-      geometry = geometry-kept (reads im) (reads im') (kept a slotsAt (λ k. omega arith)) (kept a nodesAt (λ k. omega arith)) ∙ h .geometry;
-      in-range = h .in-range;
-      words = l ∙ h .words;
-    }) (mended-same a) (λ s w n r. mended-formed a (length w) n (v .sound .well-formed r))
+    let fits : Fit im' = λ i. elim (a .each i) [ inl q ↦ rw q (h .fits i) | inr x ↦ rw (x .is) (h .fits _) ] in
+    view-same v (header-same h l fits (kept a editionAt (λ k. omega arith)) (kept a slotsAt (λ k. omega arith)) (kept a nodesAt (λ k. omega arith)))
+    (mended-same a) (λ s w n r. mended-formed a (length w) n (v .sound .well-formed r))

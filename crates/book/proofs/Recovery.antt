@@ -23,6 +23,7 @@ use Rattle.tree.proofs.Tests.{said}
 use Rattle.tree.proofs.Lists.{within, together, keeps}
 use Rattle.tree.proofs.Lists as Lists
 use Rattle.tree.proofs.Memory.{apply-laws}
+use Rattle.tree.proofs.Pool.{pool-laws}
 use Rattle.tree.proofs.StoreLists.{stored, settles, crash-none}
 use Rattle.tree.proofs.Laws.{slot-laws, tree-laws, reach-laws, sound-laws, node-laws}
 use Rattle.book.specs.Heads.{idleHeads}
@@ -32,10 +33,10 @@ use Rattle.book.specs.Checks.{badImage, badMap, refusals}
 use Rattle.book.specs.Perform.{recoverStores, nodesOf, granted, leaves, perform}
 use Rattle.book.specs.Table.{Reel}
 use Rattle.book.specs.Agrees.{Agrees, Reached}
-use Rattle.book.specs.Histories.{done, Interrupted, Attempts, none-yet, refused, interrupted, Recovered}
+use Rattle.book.specs.Histories.{carriedOut, done, Interrupted, Attempts, none-yet, refused, interrupted, Recovered}
 use Rattle.book.proofs.Refusals.{Denies, denied, passed-all, refused-here, refused-later}
 use Rattle.book.proofs.Performed.{answer-is, work-granted, work-refused}
-use Rattle.book.proofs.Done.{carriedOut, carried-leaving, done-granted, done-refused, leaves-image}
+use Rattle.book.proofs.Done.{carried-leaving, done-granted, done-refused, leaves-image}
 use Rattle.book.proofs.View.{Header, View}
 use Rattle.book.proofs.Assumed.{Assumed}
 use Rattle.book.proofs.Mended.{Mends, Mended, kept, mended-reached, mended-view}
@@ -148,13 +149,13 @@ recover-writes words r = elim (ℕ-discrete (perform (recover words) r .answer) 
   | no h ↦ record { state = _; only = work-refused (recover words) r h; image = inl (leaves-image (recover words) r _) }
 ]
 
-module _ (known : Assumed) {g : Geometry} {rs : List Reel} where
+module _ {g : Geometry} {rs : List Reel} where
   -- interrupted: each word old or new
   pub interrupted-view : (words : ℕ) (r : State) (k : ℕ) (m' : List ℕ) → View g (r .image) rs → Interrupted (recover words) r k m' → View g m' rs
   interrupted-view words r k m' v c =
       let w = recover-writes words r in
       let e : m' ≡ c .itself = crash-none (c .itself) k m' (rw (w .only) at (c .script)) in
-      rw e (mended-view known v (c .same-length) (record {
+      rw e (mended-view v (c .same-length) (record {
         each = λ i. elim (c .old-or-new i) [
           | inl q ↦ inl q
           | inr q ↦ elim (w .image) [
@@ -173,10 +174,10 @@ module _ (known : Assumed) {g : Geometry} {rs : List Reel} where
   settled-image im v =
       let a = mended-words g im in
       record {
-        view = mended-view known v (apply-laws .length-apply im (stores (recoverStores g (reads im)))) a;
-        map-words = known .length-map g (nodesOf (allTrees g (reads im)));
+        view = mended-view v (apply-laws .length-apply im (stores (recoverStores g (reads im)))) a;
+        map-words = pool-laws .length-map g (nodesOf (allTrees g (reads im)));
         marks = λ n.
-            let t = known .map-marks g (nodesOf (allTrees g (reads im))) (λ k x. inside v (nodes-reached g (reads im) k .0 x)) n in
+            let t = pool-laws .map g (nodesOf (allTrees g (reads im))) n (λ k x. inside v (nodes-reached g (reads im) k .0 x)) in
             let b = nodes-reached g (reads im) n in
             (λ e. mended-reached a .0 (b .0 (t .0 e)), λ r. t .1 (b .1 (mended-reached a .1 r)));
         equal = λ n r.
@@ -184,9 +185,9 @@ module _ (known : Assumed) {g : Geometry} {rs : List Reel} where
             now-equal g im r' (omega (arith, inside v r', v .header .words)) ∙ kept a (setAt g n) (λ k. omega arith);
       }
 
-  pub recovered-agrees : (words : ℕ) (r : State) → View g (r .image) rs → perform (recover words) r .answer ≡ 0
+  pub recovered-agrees : Assumed → (words : ℕ) (r : State) → View g (r .image) rs → perform (recover words) r .answer ≡ 0
       → Agrees (done (recover words) r) (idleTable g rs)
-  recovered-agrees words r v h =
+  recovered-agrees known words r v h =
       let q = done-granted (recover words) r h ∙ ap carriedOut (granted-recover words r) ∙ carried-leaving _ in
       rw (q, v .header .geometry) (agrees-settled known (settled-image (r .image) v))
 
@@ -196,5 +197,5 @@ module _ (known : Assumed) {g : Geometry} {rs : List Reel} where
       attempts-view a (rw (ap (λ x. x .image) (done-refused (recover words) s h) ∙ leaves-image (recover words) s _ ∙ q) v)
   attempts-view (interrupted words s k q c a) v = attempts-view a (interrupted-view words s k _ (rw q v) c)
 
-  pub recovered-view : {m : List ℕ} {s' : State} → Recovered m s' → View g m rs → Agrees s' (idleTable g rs)
-  recovered-view c v = rw (c .is) (recovered-agrees (c .words) (c .from) (rw (c .image) (attempts-view (c .attempts) v)) (c .answered))
+  pub recovered-view : Assumed → {m : List ℕ} {s' : State} → Recovered m s' → View g m rs → Agrees s' (idleTable g rs)
+  recovered-view known c v = rw (c .is) (recovered-agrees known (c .words) (c .from) (rw (c .image) (attempts-view (c .attempts) v)) (c .answered))

@@ -3,19 +3,16 @@ use mathlib.Core.Path.{_≡_, refl, sym, subst}
 use mathlib.Core.Bool.{true}
 use mathlib.Core.Logic.{inl, inr, _↔_}
 use mathlib.Core.List.{List}
-use Prim.Native.Nat.{ℕ, _*_}
-use native.Mathlib.Omega.{arith}
-use lib.ListN.{length, replicate, length-replicate, getD-replicate}
+use Prim.Native.Nat.{ℕ}
+use lib.ListN.{length, replicate, length-replicate}
 use Rattle.tree.specs.Memory.{reads}
 use Rattle.tree.specs.Layout.{Geometry, mapWords, geometryOf, locateAt, setAt}
 use Rattle.tree.specs.Pool.{used}
-use Rattle.book.specs.declared.Target.{Target}
-use Rattle.book.specs.declared.HeadState.{HeadState}
-use Rattle.book.specs.declared.HeadState.the-variants.{Idle}
-use Rattle.book.specs.Heads.{headCount, idleHeads}
+use Rattle.book.specs.Heads.{headCount, headAt, idleHeads, isIdle}
 use Rattle.book.specs.Table.{Table, Reel, idle, allIdle}
-use Rattle.book.specs.Agrees.{Agrees, Reached, About, by-claim, by-fill, both-idle}
+use Rattle.book.specs.Agrees.{Agrees, Reached, both-idle}
 use Rattle.book.proofs.View.{View}
+use Rattle.book.proofs.Heads.{idle-heads, length-idle, idle-nothing, replicate-idle}
 use Rattle.book.proofs.Assumed.{Assumed}
 
 -- the table of some reels with every head idle
@@ -32,10 +29,8 @@ pub record Settled (g : Geometry) (im pool : List ℕ) (rs : List Reel) : Type 0
   pub marks : (n : ℕ) → (used pool n ≡ true) ↔ Reached g (reads im) n
   pub equal : (n : ℕ) → Reached g (reads im) n → reads im (locateAt g n) ≡ reads im (setAt g n)
 
--- no idle head is about a target
-about-none : {t : Target} {x : HeadState} → About t x → x ≡ Idle → ⊥
-about-none by-claim q = let z : _≡_ {A = ℕ} 0 1 = cc in omega arith
-about-none by-fill q = let z : _≡_ {A = ℕ} 0 1 = cc in omega arith
+idle-head : (h : ℕ) → isIdle (headAt idleHeads h) ≡ true
+idle-head h = rw (idle-heads h) refl
 
 module _ (known : Assumed) where
   settled : {im pool : List ℕ} {rs : List Reel} → Settled (geometryOf (reads im)) im pool rs
@@ -44,11 +39,11 @@ module _ (known : Assumed) where
     shows = known .view-shows (a .view) refl refl;
     map-words = a .map-words;
     marks = a .marks;
-    head-words = length-replicate {A = ℕ} (5 * headCount) 0;
+    head-words = length-idle;
     table-heads = length-replicate headCount idle;
-    heads = λ h l. rw (known .idle-heads h, getD-replicate headCount h idle idle l) both-idle;
-    apart = λ h h' l l' x y o. absurd (about-none x (known .idle-heads h));
-    locates = λ n p r l. rw (a .equal n r) (λ e. inl e, λ o. elim o [ inl e ↦ e | inr c ↦ absurd (about-none (c .1 .about) (known .idle-heads (c .0))) ]);
+    heads = λ h l. rw (idle-heads h, replicate-idle headCount h) both-idle;
+    apart = λ h h' l l' x y o. absurd (idle-nothing (idle-head h) x);
+    locates = λ n p r l. rw (a .equal n r) (λ e. inl e, λ o. elim o [ inl e ↦ e | inr c ↦ absurd (idle-nothing (idle-head (c .0)) (c .1 .about)) ]);
   }
 
   pub agrees-settled : {g : Geometry} {im pool : List ℕ} {rs : List Reel} → Settled g im pool rs

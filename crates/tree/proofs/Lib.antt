@@ -26,5 +26,4 @@ pub mod Level
 pub mod Pool
 pub mod Memory
 pub mod Laws
-pub mod Memory
 pub mod StoreLists

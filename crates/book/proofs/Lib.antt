@@ -31,3 +31,4 @@ pub mod Mended
 pub mod Recovery
 pub mod Formatted
 pub mod Assembly
+pub mod Placed

@@ -18,7 +18,6 @@ use Rattle.tree.proofs.Cases.{true-not-false}
 use Rattle.tree.proofs.Lists.{in-range, upTo-members}
 use Rattle.tree.proofs.Memory.{apply-laws}
 use Rattle.tree.proofs.Pool.{pool-laws}
-use Rattle.tree.proofs.StoreLists.{stored, settles}
 use Rattle.tree.proofs.Laws.{reach-laws, sound-laws}
 use Rattle.book.specs.Heads.{idleHeads}
 use Rattle.book.specs.Refusals.{_gives_, refusal}
@@ -32,7 +31,8 @@ use Rattle.book.proofs.Refusals.{passes}
 use Rattle.book.proofs.Performed.{answer-is}
 use Rattle.book.proofs.Done.{carried-leaving, done-granted}
 use Rattle.book.proofs.View.{Header, View}
-use Rattle.book.proofs.Assumed.{Assumed}
+use Rattle.book.proofs.Crashed.{torn-whole}
+use Rattle.book.proofs.StoreLists.{settles}
 use Rattle.book.proofs.Settled.{idleTable, Settled, agrees-settled}
 
 -- ---- its stores
@@ -95,7 +95,7 @@ module _ (g : Geometry) (im : List ℕ) (fit : Fit im) (range : Says (inRange g)
   header : Header g (blank g im)
   unfolding inRange
   header = let h = header-stored g in record {
-    fits = λ i. elim (stored im (formatStores g) i) [ inl q ↦ rw q (fit i) | inr x ↦ rw (formats g i _ x) (word-fits i) ];
+    fits = λ i. elim (torn-whole im (formatStores g) .each i) [ inl q ↦ rw q (fit i) | inr x ↦ rw (formats g i _ x) (word-fits i) ];
     edition = written editionAt 1 (omega arith) (h .0);
     geometry = geometry-is (reads (blank g im)) (written slotsAt (g .slots) (omega arith) (h .1)) (written nodesAt (g .nodes) (omega arith) (h .2));
     in-range = range;
@@ -146,11 +146,11 @@ idle-empty : (slots nodes : ℕ) → idleTable (record { slots = slots; nodes = 
 unfolding emptyTable
 idle-empty slots nodes = refl
 
-pub format-agrees : Assumed → (words slots nodes : ℕ) (s : State) → Fit (s .image) → perform (format words slots nodes) s .answer ≡ 0
+pub format-agrees : (words slots nodes : ℕ) (s : State) → Fit (s .image) → perform (format words slots nodes) s .answer ≡ 0
     → Agrees (done (format words slots nodes) s) (emptyTable slots nodes)
 unfolding badImage inRange
-format-agrees known words slots nodes s fit h =
+format-agrees words slots nodes s fit h =
     let g : Geometry = record { slots = slots; nodes = nodes } in
     let p = passes _ (omega arith) (sym (ap refusal (format-refusals words g s)) ∙ sym (answer-is (format words slots nodes) s) ∙ h) in
     let q = done-granted (format words slots nodes) s h ∙ ap carriedOut (granted-format words g s) ∙ carried-leaving _ in
-    rw (q, ← idle-empty slots nodes) (agrees-settled known (blank-settled g (s .image) fit (omega (arith, p .0)) (omega (arith, p .0))))
+    rw (q, ← idle-empty slots nodes) (agrees-settled (blank-settled g (s .image) fit (omega (arith, p .0)) (omega (arith, p .0))))

@@ -24,7 +24,7 @@ pub mod Alike
 pub mod Keeps
 pub mod Claims
 pub mod Crashed
-pub mod Assumed
+pub mod StoreLists
 pub mod Done
 pub mod Settled
 pub mod Mended

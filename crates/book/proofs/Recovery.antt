@@ -24,7 +24,6 @@ use Rattle.tree.proofs.Lists.{within, together, keeps}
 use Rattle.tree.proofs.Lists as Lists
 use Rattle.tree.proofs.Memory.{apply-laws}
 use Rattle.tree.proofs.Pool.{pool-laws}
-use Rattle.tree.proofs.StoreLists.{stored, settles, crash-none}
 use Rattle.tree.proofs.Laws.{slot-laws, tree-laws, reach-laws, sound-laws, node-laws}
 use Rattle.book.specs.Heads.{idleHeads}
 use Rattle.book.specs.Refusals.{_gives_}
@@ -35,10 +34,12 @@ use Rattle.book.specs.Table.{Reel}
 use Rattle.book.specs.Agrees.{Agrees, Reached}
 use Rattle.book.specs.Histories.{carriedOut, done, Interrupted, Attempts, none-yet, refused, interrupted, Recovered}
 use Rattle.book.proofs.Refusals.{Denies, denied, passed-all, refused-here, refused-later}
-use Rattle.book.proofs.Performed.{answer-is, work-granted, work-refused}
-use Rattle.book.proofs.Done.{carried-leaving, done-granted, done-refused, leaves-image}
+use Rattle.book.proofs.Performed.{answer-is, work-granted}
+use Rattle.book.proofs.Demand1.{demand1}
+use Rattle.book.proofs.Done.{carried-leaving, done-granted, refused-image, done-image}
 use Rattle.book.proofs.View.{Header, View}
-use Rattle.book.proofs.Assumed.{Assumed}
+use Rattle.book.proofs.Crashed.{torn-whole}
+use Rattle.book.proofs.StoreLists.{settles, crash-none}
 use Rattle.book.proofs.Mended.{Mends, Mended, kept, mended-reached, mended-view}
 use Rattle.book.proofs.Settled.{idleTable, Settled, agrees-settled}
 
@@ -89,7 +90,7 @@ mendedImage g im = apply im (stores (recoverStores g (reads im)))
 module _ (g : Geometry) (im : List ℕ) where
   mended-words : Mended g (reads im) (reads (mendedImage g im))
   mended-words = record {
-    each = λ i. elim (stored im (recoverStores g (reads im)) i) [ inl q ↦ inl q | inr x ↦ inr (mends-stored g (reads im) i _ x) ];
+    each = λ i. elim (torn-whole im (recoverStores g (reads im)) .each i) [ inl q ↦ inl q | inr x ↦ inr (mends-stored g (reads im) i _ x) ];
   }
 
   -- a reached node's locate word is its set word then
@@ -139,14 +140,13 @@ granted-recover words r = refl
 
 -- the image that a recovery writes itself, refused or answered; it hands out no script
 record Writes (r : State) (w : Work) : Type 0 where
-  state : State
-  only : w ≡ leaving state
-  image : (state .image ≡ r .image) ⊎ (state .image ≡ mendedImage (geometryOf (reads (r .image))) (r .image))
+  script : w .script ≡ []
+  image : (w .after .image ≡ r .image) ⊎ (w .after .image ≡ mendedImage (geometryOf (reads (r .image))) (r .image))
 
 recover-writes : (words : ℕ) (r : State) → Writes r (perform (recover words) r .work)
 recover-writes words r = elim (ℕ-discrete (perform (recover words) r .answer) 0) [
-  | yes h ↦ record { state = _; only = work-granted (recover words) r h ∙ granted-recover words r; image = inr refl }
-  | no h ↦ record { state = _; only = work-refused (recover words) r h; image = inl (leaves-image (recover words) r _) }
+  | yes h ↦ let q = work-granted (recover words) r h ∙ granted-recover words r in record { script = rw q refl; image = inr (rw q refl) }
+  | no h ↦ record { script = demand1 (recover words) r h .no-store; image = inl (refused-image (recover words) r h) }
 ]
 
 module _ {g : Geometry} {rs : List Reel} where
@@ -154,13 +154,13 @@ module _ {g : Geometry} {rs : List Reel} where
   pub interrupted-view : (words : ℕ) (r : State) (k : ℕ) (m' : List ℕ) → View g (r .image) rs → Interrupted (recover words) r k m' → View g m' rs
   interrupted-view words r k m' v c =
       let w = recover-writes words r in
-      let e : m' ≡ c .itself = crash-none (c .itself) k m' (rw (w .only) at (c .script)) in
+      let e : m' ≡ c .itself = crash-none (c .itself) k m' (rw (w .script) at (c .script)) in
       rw e (mended-view v (c .same-length) (record {
         each = λ i. elim (c .old-or-new i) [
           | inl q ↦ inl q
           | inr q ↦ elim (w .image) [
-            | inl p ↦ inl (q ∙ ap (λ x. reads (x .after .image) i) (w .only) ∙ ap (λ x. reads x i) p)
-            | inr p ↦ rw (q ∙ ap (λ x. reads (x .after .image) i) (w .only) ∙ ap (λ x. reads x i) p, v .header .geometry) (mended-words g (r .image) .each i)
+            | inl p ↦ inl (q ∙ ap (λ x. reads x i) p)
+            | inr p ↦ rw (q ∙ ap (λ x. reads x i) p, v .header .geometry) (mended-words g (r .image) .each i)
           ]
         ];
       }))
@@ -185,17 +185,17 @@ module _ {g : Geometry} {rs : List Reel} where
             now-equal g im r' (omega (arith, inside v r', v .header .words)) ∙ kept a (setAt g n) (λ k. omega arith);
       }
 
-  pub recovered-agrees : Assumed → (words : ℕ) (r : State) → View g (r .image) rs → perform (recover words) r .answer ≡ 0
+  pub recovered-agrees : (words : ℕ) (r : State) → View g (r .image) rs → perform (recover words) r .answer ≡ 0
       → Agrees (done (recover words) r) (idleTable g rs)
-  recovered-agrees known words r v h =
+  recovered-agrees words r v h =
       let q = done-granted (recover words) r h ∙ ap carriedOut (granted-recover words r) ∙ carried-leaving _ in
-      rw (q, v .header .geometry) (agrees-settled known (settled-image (r .image) v))
+      rw (q, v .header .geometry) (agrees-settled (settled-image (r .image) v))
 
   pub attempts-view : {m m' : List ℕ} → Attempts m m' → View g m rs → View g m' rs
   attempts-view none-yet v = v
   attempts-view (refused words s q h a) v =
-      attempts-view a (rw (ap (λ x. x .image) (done-refused (recover words) s h) ∙ leaves-image (recover words) s _ ∙ q) v)
+      attempts-view a (rw (done-image (recover words) s h ∙ q) v)
   attempts-view (interrupted words s k q c a) v = attempts-view a (interrupted-view words s k _ (rw q v) c)
 
-  pub recovered-view : Assumed → {m : List ℕ} {s' : State} → Recovered m s' → View g m rs → Agrees s' (idleTable g rs)
-  recovered-view known c v = rw (c .is) (recovered-agrees known (c .words) (c .from) (rw (c .image) (attempts-view (c .attempts) v)) (c .answered))
+  pub recovered-view : {m : List ℕ} {s' : State} → Recovered m s' → View g m rs → Agrees s' (idleTable g rs)
+  recovered-view c v = rw (c .is) (recovered-agrees (c .words) (c .from) (rw (c .image) (attempts-view (c .attempts) v)) (c .answered))

@@ -13,7 +13,7 @@ use Rattle.book.specs.Table.{Table, Reel, idle, allIdle}
 use Rattle.book.specs.Agrees.{Agrees, Reached, both-idle}
 use Rattle.book.proofs.View.{View}
 use Rattle.book.proofs.Heads.{idle-heads, length-idle, idle-nothing, replicate-idle}
-use Rattle.book.proofs.Assumed.{Assumed}
+use Rattle.book.proofs.Showing.{view-shows}
 
 -- the table of some reels with every head idle
 abbrev pub idleTable : Geometry → List Reel → Table
@@ -32,22 +32,21 @@ pub record Settled (g : Geometry) (im pool : List ℕ) (rs : List Reel) : Type 0
 idle-head : (h : ℕ) → isIdle (headAt idleHeads h) ≡ true
 idle-head h = rw (idle-heads h) refl
 
-module _ (known : Assumed) where
-  settled : {im pool : List ℕ} {rs : List Reel} → Settled (geometryOf (reads im)) im pool rs
-      → Agrees (record { image = im; pool = pool; heads = idleHeads }) (idleTable (geometryOf (reads im)) rs)
-  settled a = record {
-    shows = known .view-shows (a .view) refl refl;
-    map-words = a .map-words;
-    marks = a .marks;
-    head-words = length-idle;
-    table-heads = length-replicate headCount idle;
-    heads = λ h l. rw (idle-heads h, replicate-idle headCount h) both-idle;
-    apart = λ h h' l l' x y o. absurd (idle-nothing (idle-head h) x);
-    locates = λ n p r l. rw (a .equal n r) (λ e. inl e, λ o. elim o [ inl e ↦ e | inr c ↦ absurd (idle-nothing (idle-head (c .0)) (c .1 .about)) ]);
-  }
+settled : {im pool : List ℕ} {rs : List Reel} → Settled (geometryOf (reads im)) im pool rs
+    → Agrees (record { image = im; pool = pool; heads = idleHeads }) (idleTable (geometryOf (reads im)) rs)
+settled a = record {
+  shows = view-shows (a .view) refl refl;
+  map-words = a .map-words;
+  marks = a .marks;
+  head-words = length-idle;
+  table-heads = length-replicate headCount idle;
+  heads = λ h l. rw (idle-heads h, replicate-idle headCount h) both-idle;
+  apart = λ h h' l l' x y o. absurd (idle-nothing (idle-head h) x);
+  locates = λ n p r l. rw (a .equal n r) (λ e. inl e, λ o. elim o [ inl e ↦ e | inr c ↦ absurd (idle-nothing (idle-head (c .0)) (c .1 .about)) ]);
+}
 
-  pub agrees-settled : {g : Geometry} {im pool : List ℕ} {rs : List Reel} → Settled g im pool rs
-      → Agrees (record { image = im; pool = pool; heads = idleHeads }) (idleTable g rs)
-  agrees-settled {im = im} {pool = pool} {rs = rs} a =
-      let q = a .view .header .geometry in
-      subst (λ g. Agrees (record { image = im; pool = pool; heads = idleHeads }) (idleTable g rs)) q (settled (subst (λ g. Settled g im pool rs) (sym q) a))
+pub agrees-settled : {g : Geometry} {im pool : List ℕ} {rs : List Reel} → Settled g im pool rs
+    → Agrees (record { image = im; pool = pool; heads = idleHeads }) (idleTable g rs)
+agrees-settled {im = im} {pool = pool} {rs = rs} a =
+    let q = a .view .header .geometry in
+    subst (λ g. Agrees (record { image = im; pool = pool; heads = idleHeads }) (idleTable g rs)) q (settled (subst (λ g. Settled g im pool rs) (sym q) a))

@@ -26,4 +26,3 @@ pub mod Level
 pub mod Pool
 pub mod Memory
 pub mod Laws
-pub mod StoreLists

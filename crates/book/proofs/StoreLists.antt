@@ -1,24 +1,16 @@
--- What a list of stores leaves in a word, and what a script of none leaves.
+-- What a list of stores, a script of none, and a script that is past its last barrier leave.
 use mathlib.Core.Path.{_≡_, refl, _∙_, ap}
+use mathlib.Core.Bool.{Bool, true, false}
 use mathlib.Core.Logic.{_⊎_, inl, inr}
 use mathlib.Core.List.{List, [], _∷_, List·Memᴰ, List·Memᴰ·head, List·Memᴰ·tail, List·Memᴰ·cases-cons, List·Memᴰ·not-nil}
 use Prim.Native.Nat.{ℕ, _<_}
 use native.Mathlib.Omega.{arith}
 use native.Mathlib.Decide.{ℕ-discrete}
-use lib.ListN.{length, set, drop, length-set}
+use lib.ListN.{length, set, length-set}
 use lib.Seq.{getD-set-same, getD-set-other}
-use Rattle.memory.specs.Words.{reads}
-use Rattle.memory.specs.Script.{Entry, Store, stores, segmented}
-use Rattle.memory.specs.Crash.{apply, hasBarrier, CrashImage, passed}
-use Rattle.memory.proofs.Laws.{crash-laws}
-use Rattle.memory.proofs.Stores.{content}
-use Rattle.memory.proofs.Segments.{store-of}
-use Rattle.tree.proofs.Cases.{test, true-not-false}
-
--- a word is old or holds one of the stores
-pub stored : (m : List ℕ) (seg : List Store) (i : ℕ)
-    → (reads (apply m (stores seg)) i ≡ reads m i) ⊎ List·Memᴰ (i, reads (apply m (stores seg)) i) seg
-stored m seg i = elim (content m (stores seg) i) [ inl q ↦ inl q | inr x ↦ inr (store-of seg i (reads (apply m (stores seg)) i) x) ]
+use Rattle.tree.specs.Memory.{reads, Entry, Store, stores, segmented, apply, CrashImage, passed}
+use Rattle.tree.proofs.Cases.{true-not-false}
+use Rattle.tree.proofs.Memory.{crash-laws}
 
 -- a word that has a value, or gets it by a store, and gets no other, has it in the end
 pub settles : (m : List ℕ) (seg : List Store) (i v : ℕ) → i < length m → ((u : ℕ) → List·Memᴰ (i, u) seg → u ≡ v)
@@ -44,5 +36,9 @@ unfolding segmented
 crash-none m k m' c = let z : k ≡ 0 = omega (arith, c .within) in crash-laws .none-yet m [] m' .0 (rw z at c)
 
 -- after k entries a barrier is left to pass, or none is
+false-or-not : (b : Bool) → (b ≡ false) ⊎ (b ≡ false → ⊥)
+false-or-not false = inl refl
+false-or-not true = inr (λ q. true-not-false refl q)
+
 pub passed-or : (es : List Entry) (k : ℕ) → passed es k ⊎ (passed es k → ⊥)
-passed-or es k = elim (test (hasBarrier (drop k es))) [ inl e ↦ inr (λ q. true-not-false e q) | inr e ↦ inl e ]
+passed-or es k = false-or-not _

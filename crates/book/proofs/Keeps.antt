@@ -1,18 +1,24 @@
 -- Frames keep their places: from what an image holds, place by place.
-use mathlib.Core.Path.{_≡_, refl, sym, _∙_, ap}
+use mathlib.Core.Path.{_≡_, refl, sym, _∙_}
 use mathlib.Core.Logic.{_⊎_, inl, inr}
 use mathlib.Core.List.{List}
-use Prim.Native.Nat.{ℕ, _+_, _*_}
-use Rattle.tree.specs.Memory.{Memory, reads}
-use Rattle.tree.specs.Layout.{Geometry, reelAt, geometryOf}
+use Prim.Native.Nat.{ℕ}
+use Rattle.tree.specs.Memory.{Memory, reads, Store, segmented, CrashImage}
+use Rattle.tree.specs.Layout.{Geometry, reelAt}
 use Rattle.tree.specs.Fingerprint.{Rule}
 use Rattle.tree.specs.Slots.{Filled}
 use Rattle.tree.specs.Reach.{Holds, FrameOf}
 use Rattle.tree.specs.Sound.{Sound}
+use Rattle.tree.proofs.Memory.{crash-laws}
 use Rattle.tree.proofs.Reach.{slot-filled, one-node}
-use Rattle.book.specs.Table.{Reel}
+use Rattle.book.specs.State.{State, Operation}
+use Rattle.book.specs.Perform.{granted, writing}
+use Rattle.book.specs.Table.{Table, Reel, tableWork}
+use Rattle.book.specs.Agrees.{Shows, Agrees}
+use Rattle.book.specs.Histories.{carriedOut}
 use Rattle.book.proofs.View.{Header, View}
-use Rattle.book.proofs.Step.{Keeps}
+use Rattle.book.proofs.Crashed.{Through, falls-through}
+use Rattle.book.proofs.Step.{Keeps, Step}
 
 -- slots filled in both have the same reels, and what m' holds m holds in the same place, or it is a frame new to its slot
 pub record Keeping (g : Geometry) (m m' : Memory) : Type 0 where
@@ -41,3 +47,19 @@ module _ {r : Rule} {g : Geometry} {m m' : Memory} (d : Sound r g m) (a : Keepin
 
 pub keeps-of : {g : Geometry} {im im' : List ℕ} {rs : List Reel} → View g im rs → Header g im' → Keeping g (reads im) (reads im') → Keeps im im'
 keeps-of v h a = record { same-place = rw (v .header .geometry, h .geometry) (λ x y q. keeping-place (v .sound) a x y q) }
+
+pub keeps-itself : {g : Geometry} {im : List ℕ} {rs : List Reel} → View g im rs → Keeps im im
+keeps-itself v = keeps-of v (v .header) (record { reels = λ x y. refl; held = λ x. inl x })
+
+-- ---- a step from its parts: the script, the state after it and the table after it, and each image that a crash can leave
+
+pub step-of : {op : Operation} {s s' : State} {t t' : Table} {segs : List (List Store)} → granted op s ≡ writing segs s' → tableWork op t .after ≡ t'
+    → Agrees (carriedOut (writing segs s')) t' → Through (λ im. (Shows im t ⊎ Shows im t') × Keeps (s .image) im) (s .image) segs → Step op s t
+step-of {op} {s} {s'} {t} {t'} {segs} p q a h = record {
+  final = rw (p, q) a;
+  crash = rw (p, q) (λ k im c. through k im c .0);
+  keeps = rw p (λ k im c. through k im c .1);
+}
+  where
+    through : (k : ℕ) (im : List ℕ) → CrashImage (s .image) (segmented segs) k im → (Shows im t ⊎ Shows im t') × Keeps (s .image) im
+    through k im c = falls-through (λ im. (Shows im t ⊎ Shows im t') × Keeps (s .image) im) (crash-laws .falls-in (s .image) segs k im c) h

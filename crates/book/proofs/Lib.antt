@@ -32,3 +32,6 @@ pub mod Recovery
 pub mod Formatted
 pub mod Assembly
 pub mod Placed
+pub mod StepRetire
+pub mod Opening
+pub mod StepOpen

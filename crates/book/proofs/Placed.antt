@@ -21,7 +21,7 @@ use Rattle.tree.proofs.Laws.{same-laws}
 use Rattle.book.specs.State.{State, Operation, format, recover, openReel, claim, fill, commit, abandon, remove, has, list, retire, arguments, Work}
 use Rattle.book.specs.Perform.{recoverStores, granted, perform}
 use Rattle.book.specs.Table.{Table, emptyTable}
-use Rattle.book.specs.Agrees.{Shows, Agrees}
+use Rattle.book.specs.Agrees.{Agrees}
 use Rattle.book.specs.Histories.{done, answered-format, Interrupted, Attempts, none-yet, refused, interrupted, Recovered, Next, performed, crashed}
 use Rattle.book.specs.Demands.{ClaimPlaced, Placed}
 use Rattle.book.proofs.Performed.{work-granted}
@@ -33,7 +33,7 @@ use Rattle.book.proofs.Showing.{shows-view}
 use Rattle.book.proofs.Stored.{same-geometry}
 use Rattle.book.proofs.Crashed.{torn-whole}
 use Rattle.book.proofs.Step.{Keeps}
-use Rattle.book.proofs.Keeps.{keeps-of}
+use Rattle.book.proofs.Keeps.{keeps-itself}
 use Rattle.book.proofs.Formatted.{format-agrees}
 use Rattle.book.proofs.Assembly.{Scripted, opens, claims, fills, commits, abandons, removes, asks, lists, retires, Steps, agreed}
 
@@ -52,9 +52,6 @@ held-on a b = record { held = λ x. let y = b .held x in let z = a .held (y .0) 
 
 keeps-held : {im im' im'' : List ℕ} → Keeps im im' → Held im' im'' → Keeps im im''
 keeps-held a b = record { same-place = λ x y q. let z = b .held y in a .same-place x (z .0) (q ∙ sym (z .1)) }
-
-keeps-itself : {im : List ℕ} {t : Table} → Shows im t → Keeps im im
-keeps-itself h = let v = shows-view h in keeps-of v (v .header) (record { reels = λ b c. refl; held = λ x. inl x })
 
 -- ---- recovery, answered, refused or interrupted
 
@@ -173,7 +170,7 @@ module _ (steps : Steps) where
       → Keeps (s .image) (done op s .image)
   answered-keeps {s} a fit (formats {words} {slots} {nodes}) h =
       keeps-none (rw (no-reels slots nodes) at (shows-view (format-agrees words slots nodes s (a .shows .fits) h .shows)))
-  answered-keeps {s} a fit (recovers {words}) h = keeps-held (keeps-itself (a .shows)) (recovered-held words s)
+  answered-keeps {s} a fit (recovers {words}) h = keeps-held (keeps-itself (shows-view (a .shows))) (recovered-held words s)
   answered-keeps {s} {op = op} a fit (scripted x e) h =
       let es = segmented (granted op s .script) in
       let end : done op s .image ≡ apply (s .image) es = ap (λ y. y .image) (done-granted op s h) ∙ ap (λ i. apply i es) e in
@@ -183,13 +180,13 @@ module _ (steps : Steps) where
   done-keeps : {s : State} {t : Table} → Agrees s t → (op : Operation) → Fit (arguments op) → Keeps (s .image) (done op s .image)
   done-keeps {s} a op fit = elim (ℕ-discrete (perform op s .answer) 0) [
     | yes h ↦ answered-keeps a fit (kind s op) h
-    | no h ↦ rw (done-image op s h) (keeps-itself (a .shows))
+    | no h ↦ rw (done-image op s h) (keeps-itself (shows-view (a .shows)))
   ]
 
   answered-crash : {s : State} {t : Table} {op : Operation} {k : ℕ} {m : List ℕ} → Agrees s t → Fit (arguments op) → Kind s op
       → perform op s .answer ≡ 0 → Interrupted op s k m → Keeps (s .image) m
   answered-crash a fit formats h c = absurd (c .unsteady (rw h answered-format))
-  answered-crash {s} {k = k} {m = m} a fit (recovers {words}) h c = keeps-held (keeps-itself (a .shows)) (interrupted-held words s k m c)
+  answered-crash {s} {k = k} {m = m} a fit (recovers {words}) h c = keeps-held (keeps-itself (shows-view (a .shows))) (interrupted-held words s k m c)
   answered-crash {s} {op = op} {k = k} {m = m} a fit (scripted x e) h c =
       let w = work-granted op s h in
       steps .step a x fit h .keeps k m (rw w at (script-alone c (ap (λ y. y .after .image) w ∙ e)))
@@ -198,7 +195,7 @@ module _ (steps : Steps) where
       → Keeps (s .image) m
   crash-keeps {s} {k = k} {m = m} a op fit c = elim (ℕ-discrete (perform op s .answer) 0) [
     | yes h ↦ answered-crash a fit (kind s op) h c
-    | no h ↦ rw (crash-none (s .image) k m (rw (demand1 op s h .no-store) at (script-alone c (refused-image op s h)))) (keeps-itself (a .shows))
+    | no h ↦ rw (crash-none (s .image) k m (rw (demand1 op s h .no-store) at (script-alone c (refused-image op s h)))) (keeps-itself (shows-view (a .shows)))
   ]
 
   next-keeps : {s s' : State} {t : Table} → Agrees s t → Next s s' → Keeps (s .image) (s' .image)

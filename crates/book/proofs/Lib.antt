@@ -21,6 +21,8 @@ pub mod Scripts
 pub mod MemoryLaws
 pub mod Paired
 pub mod Alike
+pub mod Keeps
+pub mod Claims
 pub mod Crashed
 pub mod StoreLists
 pub mod Done
@@ -29,9 +31,8 @@ pub mod Mended
 pub mod Recovery
 pub mod Formatted
 pub mod Assembly
-pub mod Keeps
-pub mod Claims
 pub mod StepRetire
 pub mod Opening
 pub mod StepOpen
 pub mod StepRead
+pub mod Placed

@@ -10,5 +10,10 @@ pub mod Stored
 pub mod ReelLists
 pub mod Reels
 pub mod Views
+pub mod Sames
+pub mod Showing
 pub mod Reading
 pub mod OnePlace
+pub mod Keeps
+pub mod Claims
+pub mod Crashed

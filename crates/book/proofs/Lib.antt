@@ -17,3 +17,4 @@ pub mod OnePlace
 pub mod Keeps
 pub mod Claims
 pub mod Crashed
+pub mod Replaced

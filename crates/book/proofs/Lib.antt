@@ -18,3 +18,5 @@ pub mod Keeps
 pub mod Claims
 pub mod Crashed
 pub mod Replaced
+pub mod Single
+pub mod StepAbandon

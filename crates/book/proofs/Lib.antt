@@ -20,3 +20,4 @@ pub mod Crashed
 pub mod Replaced
 pub mod Single
 pub mod StepAbandon
+pub mod StepCommit

@@ -1,26 +1,26 @@
 -- What a book reads of its image and its heads, where it agrees with a table: what the table reads of itself.
-use mathlib.Core.Path.{_≡_, refl, sym, _∙_, ap, ap₂, subst}
-use mathlib.Core.Bool.{Bool, true, false, cond, not, _||_, Bool·not-not}
+use mathlib.Core.Path.{_≡_, refl, sym, _∙_, ap, ap₂}
+use mathlib.Core.Bool.{Bool, true, false, cond, not}
 use mathlib.Core.Logic.{_⊎_, inl, inr, _↔_}
 use mathlib.Core.Option.{some}
 use mathlib.Core.List.{List, [], _∷_, map, List·Memᴰ, List·Memᴰ·head, List·Memᴰ·tail, List·Memᴰ·cases-cons, List·Memᴰ·not-nil, Memᴰ·map, Memᴰ·of-map, Memᴰ·cast}
-use Prim.Native.Nat.{ℕ, zero, suc, _+_, _*_, _≤_, _<_}
+use Prim.Native.Nat.{ℕ, suc, _≤_, _<_}
 use native.Mathlib.Omega.{arith}
 use native.Mathlib.Decide.{decLt}
 use lib.ListN.{length, getD, length-map}
 use lib.Dec.{eqb}
-use borrow.Author.Tests.{eqb-true, eq-eqb, lt-ltb, le-leb, ltb-true, leb-true}
+use borrow.Author.Tests.{eqb-true, eq-eqb}
 use Rattle.tree.specs.Memory.{Memory, reads, isSome}
-use Rattle.tree.specs.Test.{Says, ne, holds}
-use Rattle.tree.specs.Lists.{every, hasKey, upTo, Distinct, onto}
-use Rattle.tree.specs.Layout.{Geometry, inRange, imageWords, editionAt, geometryOf, reelAt, rootAt, sizeAt}
+use Rattle.tree.specs.Test.{ne, holds}
+use Rattle.tree.specs.Lists.{every, Distinct, onto}
+use Rattle.tree.specs.Layout.{Geometry, inRange, editionAt, geometryOf, reelAt, rootAt, sizeAt}
 use Rattle.tree.specs.Path.{wayOf}
 use Rattle.tree.specs.Fingerprint.{ruleOf}
 use Rattle.tree.specs.Slots.{Filled, filledSlots, reelsPresent, slotOf, emptySlot}
 use Rattle.tree.specs.Lookup.{pathFrom, find}
 use Rattle.tree.specs.Subtree.{listing}
 use Rattle.tree.specs.Check.{isSoundTree, isSound}
-use Rattle.tree.proofs.Cases.{test, true-not-false, not-false, or-true, or-left, or-right, seen, nothing, just}
+use Rattle.tree.proofs.Cases.{test, true-not-false, not-false, seen, nothing, just}
 use Rattle.tree.proofs.Distinct.{distinct-by, distinct-upTo}
 use Rattle.tree.proofs.Lists.{upTo-members}
 use Rattle.tree.proofs.Pigeon.{pigeon, length-upTo}
@@ -29,30 +29,21 @@ use Rattle.tree.proofs.Laws.{child-laws, node-laws, slot-laws, path-laws, looku
 use Rattle.book.specs.declared.Target.{Target}
 use Rattle.book.specs.declared.HeadState.{HeadState}
 use Rattle.book.specs.Heads as book
-use Rattle.book.specs.Heads.{headCount, headAt, targetOf, names, busy}
+use Rattle.book.specs.Heads.{targetOf, names, busy}
 use Rattle.book.specs.State.{State}
 use Rattle.book.specs.Checks.{badImage}
 use Rattle.book.specs.Table as table
-use Rattle.book.specs.Table.{Table, TableHead, Reel, geometry, framesIn, orEmpty, isPresent, framesOf, isHeld, tableHead, isAbout, isBusy}
+use Rattle.book.specs.Table.{Table, TableHead, Reel, geometry, framesIn, orEmpty, isPresent, framesOf, isHeld, isAbout, isBusy}
 use Rattle.book.specs.Agrees.{EachOnce, Shows, Claims, HeadAgrees, both-idle, both-claimed, both-filled, Agrees}
 use Rattle.book.specs.Ways.{SlotHas}
-use Rattle.book.proofs.Refusals.{Denies, denied}
+use Rattle.book.proofs.Refusals.{denied}
+use Rattle.book.proofs.Heads.{busy-names, is-busy}
+use Rattle.book.proofs.ReelLists.{has-member}
 
 -- ---- tests, and lists in which each number occurs once
 
 pub same-test : {b c : Bool} → (b ≡ true) ↔ (c ≡ true) → b ≡ c
 same-test {b} {c} h = elim (test b) [ inl e ↦ e ∙ sym (h .0 e) | inr e ↦ e ∙ sym (not-false (λ q. true-not-false (h .1 q) e)) ]
-
-has-member : (f : ℕ) (fs : List ℕ) → (hasKey (λ x. x) f fs ≡ true) ↔ List·Memᴰ f fs
-unfolding hasKey
-has-member f [] = (λ h. absurd (true-not-false h refl), λ x. absurd (List·Memᴰ·not-nil x))
-has-member f (x ∷ fs) = (
-  λ h. elim (or-true (eqb x f) (hasKey (λ x. x) f fs) h) [ inl e ↦ List·Memᴰ·head (sym (eqb-true x f e)) | inr e ↦ List·Memᴰ·tail (has-member f fs .0 e) ],
-  λ y. elim (List·Memᴰ·cases-cons y) [
-    | inl q ↦ or-left (hasKey (λ x. x) f fs) (eq-eqb x f (sym q))
-    | inr z ↦ or-right (eqb x f) (has-member f fs .1 z)
-  ],
-)
 
 -- where a number is in a list
 position : ℕ → List ℕ → ℕ
@@ -142,13 +133,14 @@ full-slots g m = (all, none-empty)
           ];
         })) in
         omega (arith, length-upTo (g .slots))
+
     none-empty : g .slots ≤ length (filledSlots g m) → g .slots ≤ emptySlot g m
     none-empty h = elim (decLt (emptySlot g m) (g .slots)) [
       | yes l ↦
           let z = slot-laws g m .empty l in
           let few = pigeon (λ s. s) (g .slots) (emptySlot g m ∷ filledSlots g m)
-              (onto (λ y x q. let b = slot-laws g m .listed .0 x in omega (arith, b .linked, ap (λ s. m (rootAt s)) q)) (slot-laws g m .listed-once))
-              (λ y x. elim (List·Memᴰ·cases-cons x) [ inl q ↦ omega arith | inr x' ↦ slot-laws g m .listed .0 x' .inside ]) in
+          (onto (λ y x q. let b = slot-laws g m .listed .0 x in omega (arith, b .linked, ap (λ s. m (rootAt s)) q)) (slot-laws g m .listed-once))
+          (λ y x. elim (List·Memᴰ·cases-cons x) [ inl q ↦ omega arith | inr x' ↦ slot-laws g m .listed .0 x' .inside ]) in
           absurd (omega arith)
       | no l ↦ omega arith
     ]
@@ -189,7 +181,10 @@ module _ {image : List ℕ} {t : Table} (v : Shows image t) where
 
   pub slot-below : (reel : ℕ) → (slotOf (sizesOf image) (reads image) reel < sizesOf image .slots) ↔ (isPresent t reel ≡ true)
   slot-below reel = (
-    λ h. let x = slot-laws (sizesOf image) (reads image) .reel reel h in has-present {reel = reel} {slot = slotOf (sizesOf image) (reads image) reel} (record { open-slot = x .0; number = x .1 }),
+    λ h.
+        let x = slot-laws (sizesOf image) (reads image) .reel reel h in
+        let y : SlotHas (sizesOf image) (reads image) reel (slotOf (sizesOf image) (reads image) reel) = record { open-slot = x .0; number = x .1 } in
+        has-present y,
     λ h. slot-has reel h .open-slot .inside,
   )
 
@@ -227,7 +222,7 @@ module _ {image : List ℕ} {t : Table} (v : Shows image t) where
   all-filled =
       let full = full-slots (sizesOf image) (reads image) in
       let count : length (filledSlots (sizesOf image) (reads image)) ≡ length (t .reels) =
-          sym (present-length (sizesOf image) (reads image)) ∙ same-length (v .reels) ∙ length-map (t .reels) (λ r. r .number) in
+      sym (present-length (sizesOf image) (reads image)) ∙ same-length (v .reels) ∙ length-map (t .reels) (λ r. r .number) in
       (λ h. omega (arith, full .0 h, v .slots), λ h. full .1 (omega (arith, v .slots)))
 
 -- ---- the heads
@@ -260,7 +255,7 @@ module _ {image : List ℕ} {t : Table} (v : Shows image t) {x : Target} {r f : 
   claim-inside =
       let w = node-laws (sizesOf image) (reads image) .facts (length (wayOf (c .depth) f)) (x .node) .0 (v .sound .well-formed (c .on-path)) in
       let size : reads image (sizeAt (sizesOf image) (x .node)) ≤ 64 =
-          elim (w .size) [ inl q ↦ omega arith | inr q ↦ elim (q .1) [ inl e ↦ omega arith | inr e ↦ omega arith ] ] in
+      elim (w .size) [ inl q ↦ omega arith | inr q ↦ elim (q .1) [ inl e ↦ omega arith | inr e ↦ omega arith ] ] in
       (w .inside, omega (arith, c .place))
 
   pub claim-slot : SlotHas (sizesOf image) (reads image) r (x .slot)
@@ -280,10 +275,11 @@ same-names v h (both-claimed c) = claim-names v c h
 same-names v h (both-filled c w) = claim-names v c h
 
 pub same-busy : {s : State} {t : Table} {reel slot : ℕ} → Agrees s t → SlotHas (sizesOf (s .image)) (reads (s .image)) reel slot
-    → (busy (s .heads) slot ≡ true) ↔ ((h : ℕ) × (h < headCount) × (names slot (headAt (s .heads) h) ≡ true))
-    → (isBusy t reel ≡ true) ↔ ((h : ℕ) × (h < length (t .heads)) × (isAbout reel (tableHead t h) ≡ true))
     → busy (s .heads) slot ≡ isBusy t reel
-same-busy a x b c = same-test (
-  λ h. let k = b .0 h in c .1 (k .0, rw (a .table-heads) (k .1), sym (same-names (a .shows) x (a .heads (k .0) (k .1))) ∙ k .2),
-  λ h. let k = c .0 h in let l = rw (a .table-heads) at (k .1) in b .1 (k .0, l, same-names (a .shows) x (a .heads (k .0) l) ∙ k .2),
-)
+same-busy {s} {t} {reel} {slot} a x =
+    let b = busy-names (s .heads) slot in
+    let c = is-busy t reel in
+    same-test (
+      λ h. let k = b .0 h in c .1 (k .0, rw (a .table-heads) (k .1), sym (same-names (a .shows) x (a .heads (k .0) (k .1))) ∙ k .2),
+      λ h. let k = c .0 h in let l = rw (a .table-heads) at (k .1) in b .1 (k .0, l, same-names (a .shows) x (a .heads (k .0) l) ∙ k .2),
+    )

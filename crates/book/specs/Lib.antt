@@ -11,3 +11,4 @@ pub mod Histories
 pub mod Ways
 pub mod Demands
 pub mod Starred
+pub mod Witnesses

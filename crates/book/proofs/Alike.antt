@@ -1,0 +1,271 @@
+-- Demand 2: where a book agrees with a table, both answer alike.
+use mathlib.Core.Path.{_≡_, refl, sym, _∙_, ap}
+use mathlib.Core.Bool.{true, false, not}
+use mathlib.Core.Logic.{inl, inr, _↔_, _≢_}
+use mathlib.Core.Option.{some}
+use mathlib.Core.List.{List, [], _∷_}
+use Prim.Native.Nat.{ℕ, _<_}
+use native.Mathlib.Omega.{arith}
+use native.Mathlib.Decide.{ℕ-discrete}
+use lib.ListN.{length}
+use lib.Dec.{ltb, leb}
+use borrow.Author.Tests.{ltb-false, leb-true, le-leb, lt-leb, not-false}
+use Rattle.tree.specs.Memory.{Memory, reads, isSome, Fit}
+use Rattle.tree.specs.Test.{Test, lt, le, ne, is, _and_, _or_, holds, Says}
+use Rattle.tree.specs.Lists.{empty}
+use Rattle.tree.specs.Layout.{Geometry, imageWords, editionAt}
+use Rattle.tree.specs.Slots.{slotOf, emptySlot}
+use Rattle.tree.specs.Lookup.{pathFrom, freeRun}
+use Rattle.tree.proofs.Cases.{test, true-not-false}
+use Rattle.tree.proofs.Tests.{says, said}
+use Rattle.book.specs.Heads as book
+use Rattle.book.specs.Heads.{headCount, headAt, targetOf}
+use Rattle.book.specs.Refusals.{Refusal, _gives_, refusal}
+use Rattle.book.specs.Room.{roomOn, needs, atLevel31}
+use Rattle.book.specs.State.{State, Operation, format, recover, openReel, claim, fill, commit, abandon, remove, has, list, retire, arguments, Work}
+use Rattle.book.specs.Checks.{badImage, badMap, badScript, outside, noPath, refusals}
+use Rattle.book.specs.Perform.{oneIf, granted, perform}
+use Rattle.book.specs.Table as table
+use Rattle.book.specs.Table.{Table, TableHead, TableWork, Fed, noRun, fed, isPresent, tableHead, tableRefusals, tableWork, reply}
+use Rattle.book.specs.Agrees.{EachOnce, Agrees}
+use Rattle.book.specs.Ways.{SlotHas, Lacks}
+use Rattle.book.specs.Histories.{replied}
+use Rattle.book.specs.Demands.{IsFormat, is-format, Alike}
+use Rattle.book.proofs.Refusals.{denies, denied, passes}
+use Rattle.book.proofs.Performed.{answer-is, work-granted, work-refused, reply-is, reply-granted, reply-refused}
+use Rattle.book.proofs.Level31.{never-level31, lacks-open, lacks-claim}
+use Rattle.book.proofs.Paired.{Paired, end, same, skip, run, paired-answer, paired-run}
+use Rattle.book.proofs.Reading.{sizesOf, same-test, image-right, edition-right, same-geometry, is-sound, slot-has, slot-below, path-there, tree-right}
+use Rattle.book.proofs.Reading.{same-frames, same-length, same-held, all-filled, same-idle, same-claimed, same-filled, claim-of, claim-inside, same-busy}
+
+-- ---- the operations' lists
+
+abbrev imageOf : State → Memory
+imageOf s = reads (s .image)
+
+abbrev shapeOf : State → Geometry
+shapeOf s = sizesOf (s .image)
+
+claimed-not-idle : (y : TableHead) → table.isClaimed y ≡ true → table.isIdle y ≡ false
+claimed-not-idle table.idle h = absurd (true-not-false h refl)
+claimed-not-idle (table.claimed r f) h = refl
+claimed-not-idle (table.filled r f) h = refl
+
+filled-not-idle : (y : TableHead) → table.isFilled y ≡ true → table.isIdle y ≡ false
+filled-not-idle table.idle h = absurd (true-not-false h refl)
+filled-not-idle (table.claimed r f) h = refl
+filled-not-idle (table.filled r f) h = refl
+
+-- what a test says, as a fact that decides it
+decided : (t : Test) {P : Type 0} → Says t ↔ P → (holds t ≡ true) ↔ P
+decided t h = (λ e. h .0 (says t e), λ p. said t (h .1 p))
+
+module _ {s : State} {t : Table} (a : Agrees s t) where
+  present-test : (reel : ℕ) → ltb (slotOf (shapeOf s) (imageOf s) reel) (shapeOf s .slots) ≡ isPresent t reel
+  present-test reel = same-test (decided (lt (slotOf (shapeOf s) (imageOf s) reel) (shapeOf s .slots)) (slot-below (a .shows) reel))
+
+  absent-test : (reel : ℕ) → leb (shapeOf s .slots) (slotOf (shapeOf s) (imageOf s) reel) ≡ not (isPresent t reel)
+  absent-test reel = elim (test (isPresent t reel)) [
+    | inl e ↦ rw e (lt-leb _ _ (slot-below (a .shows) reel .1 e))
+    | inr e ↦ rw e (le-leb (shapeOf s .slots) (slotOf (shapeOf s) (imageOf s) reel) (ltb-false _ _ (present-test reel ∙ e)))
+  ]
+
+  full-test : leb (shapeOf s .slots) (emptySlot (shapeOf s) (imageOf s)) ≡ leb (t .slots) (length (t .reels))
+  full-test = let d = all-filled (a .shows) in same-test (λ e. le-leb _ _ (d .0 (leb-true _ _ e)), λ e. le-leb _ _ (d .1 (leb-true _ _ e)))
+
+  -- a head's claim is inside
+  inside-test : (h : ℕ) → h < headCount → table.isIdle (tableHead t h) ≡ false → holds (outside (shapeOf s) (targetOf (headAt (s .heads) h))) ≡ false
+  inside-test h l e =
+      let x = a .heads h l in
+      denied (outside (shapeOf s) (targetOf (headAt (s .heads) h))) (claim-inside (a .shows) (claim-of x (same-idle x ∙ e)))
+
+  -- 1 and 2 never come
+  checks : {x : Fed} {P : Type 0} {rs qs : List Refusal} → Paired x P rs qs
+      → Paired x P ((badImage (length (s .image)) (shapeOf s) gives 1) ∷ (ne (imageOf s editionAt) 1 gives 2) ∷ rs) qs
+  checks p = skip (image-right (a .shows)) (skip (edition-right (a .shows)) p)
+
+  -- 5, and after it the reel's slot
+  reel-there : {x : Fed} {P : Type 0} {rs qs : List Refusal} (reel : ℕ)
+      → (SlotHas (shapeOf s) (imageOf s) reel (slotOf (shapeOf s) (imageOf s) reel) → Paired x P rs qs)
+      → Paired x P ((le (shapeOf s .slots) (slotOf (shapeOf s) (imageOf s) reel) gives 5) ∷ rs) ((is (not (isPresent t reel)) gives 5) ∷ qs)
+  reel-there reel p = same 5 refl (absent-test reel) (λ e. p (slot-has (a .shows) reel (not-false _ e)))
+
+  -- 11, and after it the head
+  head-there : {x : Fed} {P : Type 0} {rs qs : List Refusal} (h : ℕ) → (h < headCount → Paired x P rs qs)
+      → Paired x P ((le headCount h gives 11) ∷ rs) ((le headCount h gives 11) ∷ qs)
+  head-there h p = same 11 refl refl (λ e. p (denies (le headCount h) e))
+
+  -- 4 never comes on a path
+  path-test : {reel slot : ℕ} (f : ℕ) → SlotHas (shapeOf s) (imageOf s) reel slot
+      → holds (noPath (pathFrom (shapeOf s) (imageOf s) slot f)) ≡ false
+  path-test f r = ap (λ ns. not (isSome ns)) (path-there (a .shows) (r .open-slot) f .1)
+
+  room-test : {reel slot : ℕ} (f : ℕ) → SlotHas (shapeOf s) (imageOf s) reel slot
+      → let ns = pathFrom (shapeOf s) (imageOf s) slot f in
+      holds (noPath ns or is (atLevel31 (roomOn (shapeOf s) (imageOf s) ns))) ≡ false
+  room-test f r = let ns = path-there (a .shows) (r .open-slot) f in rw (ns .1) (never-level31 a f (ns .0) (r .open-slot) (ns .1))
+
+  run-test : {reel slot : ℕ} (words script h f : ℕ) → SlotHas (shapeOf s) (imageOf s) reel slot
+      → let n = needs (roomOn (shapeOf s) (imageOf s) (pathFrom (shapeOf s) (imageOf s) slot f)) in
+      (holds (lt 0 n and le (shapeOf s .nodes) (freeRun (shapeOf s) (reads (s .pool)) n)) ≡ true) ↔ Lacks s (claim words script h reel f)
+  run-test words script h f r =
+      let ns = path-there (a .shows) (r .open-slot) f in
+      let n = needs (roomOn (shapeOf s) (imageOf s) (some (ns .0))) in
+      rw (ns .1) (decided (lt 0 n and le (shapeOf s .nodes) (freeRun (shapeOf s) (reads (s .pool)) n))
+      (lacks-claim a words script h f (ns .0) r (ns .1)))
+
+  paired : (op : Operation) (x : Fed) → Paired x (Lacks s op) (refusals op s) (tableRefusals op x t)
+  unfolding refusals tableRefusals
+  paired (format words slots nodes) x =
+      let g : Geometry = record { slots = slots; nodes = nodes } in
+      same 1 refl (ap (λ n. holds (badImage n g)) (a .shows .words ∙ ap imageWords (same-geometry (a .shows)))) (λ e.
+      same 3 refl refl (λ e. end))
+  paired (recover words) x =
+      checks (same 3 refl (ap (λ g. holds (badMap g words)) (same-geometry (a .shows))) (λ e. skip (ap not (is-sound (a .shows))) end))
+  paired (openReel words script reel) x =
+      checks (same 3 refl (ap (λ g. holds (badMap g words or badScript script)) (same-geometry (a .shows))) (λ e.
+      same 6 refl (present-test reel) (λ e.
+      same 7 refl full-test (λ e.
+      run (decided (le (shapeOf s .nodes) (freeRun (shapeOf s) (reads (s .pool)) 1)) (lacks-open a words script reel))))))
+  paired (claim words script h reel f) x =
+      checks (same 3 refl (ap (λ g. holds (badMap g words or badScript script)) (same-geometry (a .shows))) (λ e.
+      head-there h (λ l.
+      same 12 refl (ap not (same-idle (a .heads h l))) (λ e.
+      reel-there reel (λ r.
+      same 13 refl (same-busy a r) (λ e.
+      skip (room-test f r) (same 9 refl (same-held (a .shows) r f) (λ e. run (run-test words script h f r)))))))))
+  paired (fill script h) x =
+      checks (same 3 refl refl (λ e.
+      head-there h (λ l.
+      same 12 refl (ap not (same-claimed (a .heads h l))) (λ e.
+      skip (inside-test h l (claimed-not-idle (tableHead t h) (not-false _ e))) end))))
+  paired (commit script h) x =
+      checks (same 3 refl refl (λ e.
+      head-there h (λ l.
+      same 12 refl (ap not (same-filled (a .heads h l))) (λ e.
+      skip (inside-test h l (filled-not-idle (tableHead t h) (not-false _ e))) end))))
+  paired (abandon script h) x =
+      checks (same 3 refl refl (λ e.
+      head-there h (λ l.
+      same 12 refl (same-idle (a .heads h l)) (λ e. skip (inside-test h l e) end))))
+  paired (remove script reel f) x =
+      checks (same 3 refl refl (λ e.
+      reel-there reel (λ r.
+      same 13 refl (same-busy a r) (λ e.
+      skip (path-test f r) (same 10 refl (ap not (same-held (a .shows) r f)) (λ e. end))))))
+  paired (has reel f) x = checks (skip refl (reel-there reel (λ r. skip (path-test f r) end)))
+  paired (list scratch room reel) x =
+      checks (same 3 refl (ap (λ g. holds (badMap g scratch)) (same-geometry (a .shows))) (λ e.
+      reel-there reel (λ r.
+      skip (ap not (tree-right (a .shows) (r .open-slot)))
+      (same 14 refl (ap (ltb room) (same-length (same-frames (a .shows) r))) (λ e. end)))))
+  paired (retire words scratch script reel) x =
+      checks (same 3 refl (ap (λ g. holds (badMap g words or badMap g scratch or badScript script)) (same-geometry (a .shows))) (λ e.
+      reel-there reel (λ r.
+      same 13 refl (same-busy a r) (λ e. skip (ap not (tree-right (a .shows) (r .open-slot))) end))))
+
+-- ---- what is handed back
+
+-- Has and List answer 0 only for a reel that is present
+has-passes : (reel f : ℕ) (x : Fed) (t : Table) → reply (has reel f) x t .answer ≡ 0 → isPresent t reel ≡ true
+unfolding tableRefusals
+has-passes reel f x t h = not-false _ (passes (tableRefusals (has reel f) x t) (omega arith) (sym (reply-is (has reel f) x t) ∙ h) .0)
+
+list-passes : (scratch room reel : ℕ) (x : Fed) (t : Table) → reply (list scratch room reel) x t .answer ≡ 0 → isPresent t reel ≡ true
+unfolding tableRefusals
+list-passes scratch room reel x t h =
+    not-false _ (passes (tableRefusals (list scratch room reel) x t) (omega arith) (sym (reply-is (list scratch room reel) x t) ∙ h) .1 .0)
+
+none-once : EachOnce [] []
+none-once = record { once = empty; once-too = empty; same = λ x. (λ y. y, λ y. y) }
+
+-- two works hand back the same
+record SameWork (w : Work) (u : TableWork) : Type 0 where
+  value : w .value ≡ u .value
+  listing : EachOnce (w .listing) (u .frames)
+
+granted-alike : {s : State} {t : Table} → Agrees s t → (op : Operation) (x : Fed) → reply op x t .answer ≡ 0 → SameWork (granted op s) (tableWork op t)
+unfolding granted tableWork
+granted-alike a (format words slots nodes) x h = record { value = refl; listing = none-once }
+granted-alike a (recover words) x h = record { value = refl; listing = none-once }
+granted-alike a (openReel words script reel) x h = record { value = refl; listing = none-once }
+granted-alike a (claim words script h' reel f) x h = record { value = refl; listing = none-once }
+granted-alike a (fill script h') x h = record { value = refl; listing = none-once }
+granted-alike a (commit script h') x h = record { value = refl; listing = none-once }
+granted-alike a (abandon script h') x h = record { value = refl; listing = none-once }
+granted-alike a (remove script reel f) x h = record { value = refl; listing = none-once }
+granted-alike a (retire words scratch script reel) x h = record { value = refl; listing = none-once }
+granted-alike {s} {t} a (has reel f) x h =
+    let r = slot-has (a .shows) reel (has-passes reel f x t h) in
+    record { value = ap oneIf (same-held (a .shows) r f); listing = none-once }
+granted-alike {s} {t} a (list scratch room reel) x h =
+    let r = slot-has (a .shows) reel (list-passes scratch room reel x t h) in
+    record { value = same-length (same-frames (a .shows) r); listing = same-frames (a .shows) r }
+
+work-alike : {s : State} {t : Table} → Agrees s t → (op : Operation) → perform op s .answer ≡ replied op s t .answer
+    → SameWork (perform op s .work) (replied op s t .work)
+work-alike {s} {t} a op e = elim (ℕ-discrete (perform op s .answer) 0) [
+  | yes z ↦
+      let y : replied op s t .answer ≡ 0 = sym e ∙ z in
+      rw (work-granted op s z, reply-granted op (fed (perform op s .answer)) t y) (granted-alike a op (fed (perform op s .answer)) y)
+  | no z ↦
+      rw (work-refused op s z, reply-refused op (fed (perform op s .answer)) t (λ q. z (e ∙ q)))
+      (record { value = refl; listing = none-once })
+]
+
+-- ---- the table's numbers: 2 and 4 never, 1 only of Format
+
+record Answers (op : Operation) (n : ℕ) : Type 0 where
+  not-edition : n ≢ 2
+  not-malformed : n ≢ 4
+  format-alone : n ≡ 1 → IsFormat op
+
+-- what holds of 0 and of every number of a list holds of its answer
+abbrev Each : (ℕ → Type 0) → List Refusal → Type 0
+Each P [] = Unit {0}
+Each P (r ∷ rs) = P (r .number) × Each P rs
+
+each-answer : (P : ℕ → Type 0) → P 0 → (rs : List Refusal) → Each P rs → P (refusal rs)
+unfolding refusal
+each-answer P z [] p = z
+each-answer P z (r ∷ rs) p = elim (test (holds (r .test))) [ inl e ↦ rw e (p .0) | inr e ↦ rw e (each-answer P z rs (p .1)) ]
+
+never-these : {op : Operation} (rs : List Refusal) → Each (λ n. (n ≢ 1) × (n ≢ 2) × (n ≢ 4)) rs → Answers op (refusal rs)
+never-these rs p =
+    let n = each-answer (λ n. (n ≢ 1) × (n ≢ 2) × (n ≢ 4)) (omega arith) rs p in
+    record { not-edition = n .1; not-malformed = n .2; format-alone = λ q. absurd (n .0 q) }
+
+table-answers : (op : Operation) (x : Fed) (t : Table) → Answers op (refusal (tableRefusals op x t))
+unfolding tableRefusals
+table-answers (format words slots nodes) x t =
+    let n = each-answer (λ n. (n ≢ 2) × (n ≢ 4)) (omega arith) (tableRefusals (format words slots nodes) x t) (omega arith) in
+    record { not-edition = n .0; not-malformed = n .1; format-alone = λ q. is-format }
+table-answers (recover words) x t = never-these (tableRefusals (recover words) x t) (omega arith)
+table-answers (openReel words script reel) x t = never-these (tableRefusals (openReel words script reel) x t) (omega arith)
+table-answers (claim words script h reel f) x t = never-these (tableRefusals (claim words script h reel f) x t) (omega arith)
+table-answers (fill script h) x t = never-these (tableRefusals (fill script h) x t) (omega arith)
+table-answers (commit script h) x t = never-these (tableRefusals (commit script h) x t) (omega arith)
+table-answers (abandon script h) x t = never-these (tableRefusals (abandon script h) x t) (omega arith)
+table-answers (remove script reel f) x t = never-these (tableRefusals (remove script reel f) x t) (omega arith)
+table-answers (has reel f) x t = never-these (tableRefusals (has reel f) x t) (omega arith)
+table-answers (list scratch room reel) x t = never-these (tableRefusals (list scratch room reel) x t) (omega arith)
+table-answers (retire words scratch script reel) x t = never-these (tableRefusals (retire words scratch script reel) x t) (omega arith)
+
+-- ---- demand 2 of one state
+
+pub alike : {s : State} {t : Table} → Agrees s t → (op : Operation) → Fit (arguments op) → Alike op s t
+alike {s} {t} a op fit =
+    let x = fed (perform op s .answer) in
+    let e : perform op s .answer ≡ refusal (tableRefusals op x t) = sym (paired-answer (paired a op x) (sym (answer-is op s)) refl) in
+    let q : perform op s .answer ≡ replied op s t .answer = e ∙ sym (reply-is op x t) in
+    let n = table-answers op x t in
+    let w = work-alike a op q in
+    record {
+      answer = q;
+      value = w .value;
+      listing = w .listing;
+      not-edition = λ z. n .not-edition (sym e ∙ z);
+      not-malformed = λ z. n .not-malformed (sym e ∙ z);
+      format-alone = λ z. n .format-alone (sym e ∙ z);
+      no-run = λ z. rw answer-is (paired-run (paired a op noRun) (sym (reply-is op noRun t) ∙ z));
+    }

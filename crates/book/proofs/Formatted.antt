@@ -1,0 +1,156 @@
+-- A format that is answered leaves a book that agrees with the empty table.
+use mathlib.Core.Path.{_≡_, refl, sym, _∙_, ap, ap₂}
+use mathlib.Core.Logic.{inl, inr}
+use mathlib.Core.List.{List, [], _∷_, map, List·Memᴰ, List·Memᴰ·head, List·Memᴰ·tail, List·Memᴰ·not-nil}
+use mathlib.Core.List.{List·Memᴰ·append-cases, Memᴰ·append-right, Memᴰ·map, Memᴰ·of-map}
+use Prim.Native.Nat.{ℕ, zero, suc, _^_, _≤_, _<_}
+use native.Mathlib.Omega.{arith}
+use lib.ListN.{length}
+use Rattle.tree.specs.Memory.{Memory, reads, Store, stores, apply, Fit}
+use Rattle.tree.specs.Test.{Says}
+use Rattle.tree.specs.Lists.{range, upTo, empty}
+use Rattle.tree.specs.Layout.{Geometry, inRange, imageWords, mapWords, editionAt, slotsAt, nodesAt, geometryOf, rootAt}
+use Rattle.tree.specs.Fingerprint.{ruleOf}
+use Rattle.tree.specs.Slots.{Filled}
+use Rattle.tree.specs.Reach.{Reaches}
+use Rattle.tree.specs.Pool.{clearMap}
+use Rattle.tree.proofs.Cases.{true-not-false}
+use Rattle.tree.proofs.Lists.{in-range, upTo-members}
+use Rattle.tree.proofs.Memory.{apply-laws}
+use Rattle.tree.proofs.Pool.{pool-laws}
+use Rattle.tree.proofs.Laws.{reach-laws, sound-laws}
+use Rattle.book.specs.Heads.{idleHeads}
+use Rattle.book.specs.Refusals.{_gives_, refusal}
+use Rattle.book.specs.State.{State, format, leaving}
+use Rattle.book.specs.Checks.{badImage, badMap, refusals}
+use Rattle.book.specs.Perform.{formatStores, granted, perform}
+use Rattle.book.specs.Table.{emptyTable}
+use Rattle.book.specs.Agrees.{Agrees}
+use Rattle.book.specs.Histories.{carriedOut, done}
+use Rattle.book.proofs.Refusals.{passes}
+use Rattle.book.proofs.Performed.{answer-is}
+use Rattle.book.proofs.Done.{carried-leaving, done-granted}
+use Rattle.book.proofs.View.{Header, View}
+use Rattle.book.proofs.Crashed.{torn-whole}
+use Rattle.book.proofs.StoreLists.{settles}
+use Rattle.book.proofs.Settled.{idleTable, Settled, agrees-settled}
+
+-- ---- its stores
+
+-- what each word gets, where it gets any
+abbrev formatWord : Geometry → ℕ → ℕ
+formatWord g zero = 1
+formatWord g (suc zero) = g .slots
+formatWord g (suc (suc zero)) = g .nodes
+formatWord g (suc (suc (suc i))) = 0
+
+clear-word : (g : Geometry) (i : ℕ) → 3 ≤ i → formatWord g i ≡ 0
+clear-word g zero h = absurd (omega arith)
+clear-word g (suc zero) h = absurd (omega arith)
+clear-word g (suc (suc zero)) h = absurd (omega arith)
+clear-word g (suc (suc (suc i))) h = refl
+
+formats : (g : Geometry) (i v : ℕ) → List·Memᴰ (i, v) (formatStores g) → v ≡ formatWord g i
+unfolding formatStores
+formats g i v (List·Memᴰ·head q) = ap (λ s. s .1) q ∙ ap (formatWord g) (sym (ap (λ s. s .0) q))
+formats g i v (List·Memᴰ·tail (List·Memᴰ·head q)) = ap (λ s. s .1) q ∙ ap (formatWord g) (sym (ap (λ s. s .0) q))
+formats g i v (List·Memᴰ·tail (List·Memᴰ·tail (List·Memᴰ·head q))) = ap (λ s. s .1) q ∙ ap (formatWord g) (sym (ap (λ s. s .0) q))
+formats g i v (List·Memᴰ·tail (List·Memᴰ·tail (List·Memᴰ·tail x))) = elim (List·Memᴰ·append-cases (map (λ i. (i, 0)) (range 3 61)) x) [
+  | inl y ↦ let t = Memᴰ·of-map {A = ℕ} {B = Store} (λ i. (i, 0)) (range 3 61) y in
+      sym (ap (λ s. s .1) (t .2)) ∙ sym (clear-word g i (omega (arith, in-range 3 61 (t .1), ap (λ s. s .0) (t .2))))
+  | inr y ↦ let t = Memᴰ·of-map {A = ℕ} {B = Store} (λ s. (rootAt s, 0)) (upTo (g .slots)) y in
+      sym (ap (λ s. s .1) (t .2)) ∙ sym (clear-word g i (omega (arith, ap (λ s. s .0) (t .2))))
+]
+
+header-stored : (g : Geometry)
+    → List·Memᴰ (editionAt, 1) (formatStores g) × List·Memᴰ (slotsAt, g .slots) (formatStores g) × List·Memᴰ (nodesAt, g .nodes) (formatStores g)
+unfolding formatStores
+header-stored g = (List·Memᴰ·head refl, List·Memᴰ·tail (List·Memᴰ·head refl), List·Memᴰ·tail (List·Memᴰ·tail (List·Memᴰ·head refl)))
+
+root-stored : (g : Geometry) (s : ℕ) → s < g .slots → List·Memᴰ (rootAt s, 0) (formatStores g)
+unfolding formatStores
+root-stored g s h = List·Memᴰ·tail (List·Memᴰ·tail (List·Memᴰ·tail
+    (Memᴰ·append-right (map (λ i. (i, 0)) (range 3 61)) (Memᴰ·map (λ s. (rootAt s, 0)) (upTo-members (g .slots) .1 h)))))
+
+geometry-is : (m : Memory) {g : Geometry} → m slotsAt ≡ g .slots → m nodesAt ≡ g .nodes → geometryOf m ≡ g
+unfolding geometryOf
+geometry-is m p q = ap₂ (λ a b. record { slots = a; nodes = b }) p q
+
+-- ---- the image that it leaves
+
+abbrev blank : Geometry → List ℕ → List ℕ
+blank g im = apply im (stores (formatStores g))
+
+module _ (g : Geometry) (im : List ℕ) (fit : Fit im) (range : Says (inRange g)) (words : length im ≡ imageWords g) where
+  written : (i v : ℕ) → i < length im → List·Memᴰ (i, v) (formatStores g) → reads (blank g im) i ≡ v
+  written i v l x = settles im (formatStores g) i v l (λ u y. formats g i u y ∙ sym (formats g i v x)) (inr x)
+
+  word-fits : (i : ℕ) → formatWord g i < 2 ^ 64
+  unfolding inRange
+  word-fits zero = omega arith
+  word-fits (suc zero) = omega arith
+  word-fits (suc (suc zero)) = omega arith
+  word-fits (suc (suc (suc i))) = omega arith
+
+  header : Header g (blank g im)
+  unfolding inRange
+  header = let h = header-stored g in record {
+    fits = λ i. elim (torn-whole im (formatStores g) .each i) [ inl q ↦ rw q (fit i) | inr x ↦ rw (formats g i _ x) (word-fits i) ];
+    edition = written editionAt 1 (omega arith) (h .0);
+    geometry = geometry-is (reads (blank g im)) (written slotsAt (g .slots) (omega arith) (h .1)) (written nodesAt (g .nodes) (omega arith) (h .2));
+    in-range = range;
+    words = apply-laws .length-apply im (stores (formatStores g)) ∙ words;
+  }
+
+  none-filled : {s : ℕ} → Filled g (reads (blank g im)) s → ⊥
+  none-filled {s} b = omega (arith, b .linked, written (rootAt s) 0 (omega (arith, b .inside)) (root-stored g s (b .inside)))
+
+  none-reached : {s n : ℕ} {w : List ℕ} → Reaches g (reads (blank g im)) s w n → ⊥
+  none-reached r = none-filled (reach-laws g (reads (blank g im)) .slot-filled r)
+
+  blank-view : View g (blank g im) []
+  blank-view = record {
+    header = header;
+    sound = sound-laws (ruleOf (reads (blank g im))) g (reads (blank g im)) .formatted (λ s h. written (rootAt s) 0 (omega arith) (root-stored g s h));
+    once = record { numbers = empty; frames = λ r x. absurd (List·Memᴰ·not-nil x) };
+    same = record {
+      present = λ reel. (λ t. absurd (none-filled (t .1 .open-slot)), λ t. absurd (List·Memᴰ·not-nil (t .1)));
+      frames = λ b x q f. absurd (none-filled b);
+    };
+  }
+
+  blank-settled : Settled g (blank g im) (clearMap (mapWords g)) []
+  blank-settled = record {
+    view = blank-view;
+    map-words = pool-laws .length-clear (mapWords g);
+    marks = λ n. (λ e. absurd (true-not-false e (pool-laws .clear (mapWords g) n)), λ r. absurd (none-reached (r .there)));
+    equal = λ n r. absurd (none-reached (r .there));
+  }
+
+-- ---- answered
+
+format-refusals : (words : ℕ) (g : Geometry) (s : State) → refusals (format words (g .slots) (g .nodes)) s ≡
+    (badImage (length (s .image)) g gives 1) ∷ (badMap g words gives 3) ∷ []
+unfolding refusals
+format-refusals words g s = refl
+
+granted-format : (words : ℕ) (g : Geometry) (s : State) → granted (format words (g .slots) (g .nodes)) s ≡ leaving (record {
+  image = apply (s .image) (stores (formatStores g));
+  pool = clearMap (mapWords g);
+  heads = idleHeads;
+})
+unfolding granted
+granted-format words g s = refl
+
+idle-empty : (slots nodes : ℕ) → idleTable (record { slots = slots; nodes = nodes }) [] ≡ emptyTable slots nodes
+unfolding emptyTable
+idle-empty slots nodes = refl
+
+pub format-agrees : (words slots nodes : ℕ) (s : State) → Fit (s .image) → perform (format words slots nodes) s .answer ≡ 0
+    → Agrees (done (format words slots nodes) s) (emptyTable slots nodes)
+unfolding badImage inRange
+format-agrees words slots nodes s fit h =
+    let g : Geometry = record { slots = slots; nodes = nodes } in
+    let p = passes _ (omega arith) (sym (ap refusal (format-refusals words g s)) ∙ sym (answer-is (format words slots nodes) s) ∙ h) in
+    let q = done-granted (format words slots nodes) s h ∙ ap carriedOut (granted-format words g s) ∙ carried-leaving _ in
+    rw (q, ← idle-empty slots nodes) (agrees-settled (blank-settled g (s .image) fit (omega (arith, p .0)) (omega (arith, p .0))))

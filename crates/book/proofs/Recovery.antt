@@ -1,0 +1,201 @@
+-- Recovery of an image that shows reels: accepted with a map of the right length, and it leaves those reels, whole, with
+-- every head idle; a recovery that is refused or interrupted keeps them.
+use mathlib.Core.Path.{_≡_, refl, sym, _∙_, ap}
+use mathlib.Core.Bool.{false, cond, not}
+use mathlib.Core.Logic.{_⊎_, inl, inr, _≢_, _↔_}
+use mathlib.Core.List.{List, [], _∷_, map, List·Memᴰ, Memᴰ·map, Memᴰ·of-map}
+use Prim.Native.Nat.{ℕ, _<_}
+use native.Mathlib.Omega.{arith}
+use native.Mathlib.Decide.{ℕ-discrete}
+use lib.ListN.{length}
+use lib.Dec.{eqb}
+use borrow.Author.Tests.{eqb-true, eqb-false, ne-eqb}
+use Rattle.tree.specs.Memory.{Memory, reads, Store, stores, apply}
+use Rattle.tree.specs.Test.{ne, is}
+use Rattle.tree.specs.Layout.{Geometry, inRange, mapWords, editionAt, geometryOf, locateAt, setAt}
+use Rattle.tree.specs.Fingerprint.{ruleOf}
+use Rattle.tree.specs.Slots.{filledSlots}
+use Rattle.tree.specs.Subtree.{Visit, visit, tree, allTrees}
+use Rattle.tree.specs.Check.{isSound}
+use Rattle.tree.specs.Pool.{mapOf}
+use Rattle.tree.proofs.Cases.{test}
+use Rattle.tree.proofs.Tests.{said}
+use Rattle.tree.proofs.Lists.{within, together, keeps}
+use Rattle.tree.proofs.Lists as Lists
+use Rattle.tree.proofs.Memory.{apply-laws}
+use Rattle.tree.proofs.Pool.{pool-laws}
+use Rattle.tree.proofs.Laws.{slot-laws, tree-laws, reach-laws, sound-laws, node-laws}
+use Rattle.book.specs.Heads.{idleHeads}
+use Rattle.book.specs.Refusals.{_gives_}
+use Rattle.book.specs.State.{State, recover, Work, leaving}
+use Rattle.book.specs.Checks.{badImage, badMap, refusals}
+use Rattle.book.specs.Perform.{recoverStores, nodesOf, granted, leaves, perform}
+use Rattle.book.specs.Table.{Reel}
+use Rattle.book.specs.Agrees.{Agrees, Reached}
+use Rattle.book.specs.Histories.{carriedOut, done, Interrupted, Attempts, none-yet, refused, interrupted, Recovered}
+use Rattle.book.proofs.Refusals.{Denies, denied, passed-all, refused-here, refused-later}
+use Rattle.book.proofs.Performed.{answer-is, work-granted}
+use Rattle.book.proofs.Demand1.{demand1}
+use Rattle.book.proofs.Done.{carried-leaving, done-granted, refused-image, done-image}
+use Rattle.book.proofs.View.{Header, View}
+use Rattle.book.proofs.Crashed.{torn-whole}
+use Rattle.book.proofs.StoreLists.{settles, crash-none}
+use Rattle.book.proofs.Mended.{Mends, Mended, kept, mended-reached, mended-view}
+use Rattle.book.proofs.Settled.{idleTable, Settled, agrees-settled}
+
+-- ---- the nodes of all trees are those reached
+
+module _ (g : Geometry) (m : Memory) where
+  reached-in : (v : Visit) → List·Memᴰ v (allTrees g m) → Reached g m (v .node)
+  unfolding allTrees
+  reached-in v x =
+      let t = within (tree g m) (filledSlots g m) x in
+      record { slot = t .from; way = v .way; there = tree-laws (slot-laws g m .listed .0 (t .member)) .visited (v .way) (v .node) .0 (t .inside) }
+
+  in-reached : {n : ℕ} → (r : Reached g m n) → List·Memᴰ (visit (r .way) n) (allTrees g m)
+  unfolding allTrees
+  in-reached {n} r =
+      let b = reach-laws g m .slot-filled (r .there) in
+      together (tree g m) (slot-laws g m .listed .1 b) (tree-laws b .visited (r .way) n .1 (r .there))
+
+  pub nodes-reached : (n : ℕ) → List·Memᴰ n (nodesOf (allTrees g m)) ↔ Reached g m n
+  unfolding nodesOf
+  nodes-reached n = (
+    λ x. let t = Memᴰ·of-map (λ v. v .node) (allTrees g m) x in rw (← t .2) (reached-in (t .0) (t .1)),
+    λ r. Memᴰ·map (λ v. v .node) (in-reached r),
+  )
+
+  -- ---- its stores: differing locate words of reached nodes, each to the node's set word
+
+  mends-stored : (i v : ℕ) → List·Memᴰ (i, v) (recoverStores g m) → Mends g m i v
+  unfolding recoverStores
+  mends-stored i v x =
+      let t = Memᴰ·of-map {A = Visit} {B = Store} (λ v. (locateAt g (v .node), m (setAt g (v .node)))) _ x in
+      record {
+        node = t .0 .node;
+        reached = reached-in (t .0) (Lists.kept _ (allTrees g m) (t .1) .0);
+        at = sym (ap (λ s. s .0) (t .2));
+        is = sym (ap (λ s. s .1) (t .2));
+      }
+
+  stored-differing : {n : ℕ} → Reached g m n → m (locateAt g n) ≢ m (setAt g n) → List·Memᴰ (locateAt g n, m (setAt g n)) (recoverStores g m)
+  unfolding recoverStores
+  stored-differing {n} r h =
+      Memᴰ·map (λ v. (locateAt g (v .node), m (setAt g (v .node)))) (keeps _ (in-reached r) (rw (ne-eqb (m (locateAt g n)) (m (setAt g n)) h) refl))
+
+-- the image as recovery leaves it
+abbrev pub mendedImage : Geometry → List ℕ → List ℕ
+mendedImage g im = apply im (stores (recoverStores g (reads im)))
+
+module _ (g : Geometry) (im : List ℕ) where
+  mended-words : Mended g (reads im) (reads (mendedImage g im))
+  mended-words = record {
+    each = λ i. elim (torn-whole im (recoverStores g (reads im)) .each i) [ inl q ↦ inl q | inr x ↦ inr (mends-stored g (reads im) i _ x) ];
+  }
+
+  -- a reached node's locate word is its set word then
+  now-equal : {n : ℕ} → Reached g (reads im) n → locateAt g n < length im → reads (mendedImage g im) (locateAt g n) ≡ reads im (setAt g n)
+  now-equal {n} r l =
+      settles im (recoverStores g (reads im)) (locateAt g n) (reads im (setAt g n)) l
+      (λ u x. let t = mends-stored g (reads im) (locateAt g n) u x in let e : t .node ≡ n = omega (arith, t .at) in t .is ∙ ap (λ k. reads im (setAt g k)) e)
+      (elim (ℕ-discrete (reads im (locateAt g n)) (reads im (setAt g n))) [ yes q ↦ inl q | no h ↦ inr (stored-differing g (reads im) r h) ])
+
+-- ---- what recovery answers and leaves
+
+recover-refusals : (words : ℕ) (r : State) → refusals (recover words) r ≡
+    (badImage (length (r .image)) (geometryOf (reads (r .image))) gives 1)
+    ∷ (ne (reads (r .image) editionAt) 1 gives 2)
+    ∷ (badMap (geometryOf (reads (r .image))) words gives 3)
+    ∷ (is (not (isSound (ruleOf (reads (r .image))) (geometryOf (reads (r .image))) (reads (r .image)))) gives 4)
+    ∷ []
+unfolding refusals
+recover-refusals words r = refl
+
+-- an image with a right header is no bad image
+pub good-image : {g : Geometry} {im : List ℕ} → Header g im → Denies (badImage (length im) g)
+unfolding badImage inRange
+good-image h = omega (arith, h .words, h .in-range)
+
+pub recover-answers : {g : Geometry} {rs : List Reel} (r : State) → View g (r .image) rs → (words : ℕ)
+    → perform (recover words) r .answer ≡ cond (eqb words (mapWords g)) 0 3
+recover-answers {g} r v words =
+    let h = v .header in
+    let m = reads (r .image) in
+    let sound : not (isSound (ruleOf m) g m) ≡ false = rw (sound-laws (ruleOf m) g m .image .1 (v .sound)) refl in
+    rw (answer-is, recover-refusals, h .geometry) (elim (test (eqb words (mapWords g))) [
+      | inl e ↦ rw e (passed-all _ (good-image h, (h .edition, (eqb-true words (mapWords g) e, (sound, tt)))))
+      | inr e ↦ rw e (
+          refused-later _ _ (denied (badImage (length (r .image)) g) (good-image h))
+          ∙ refused-later _ _ (denied (ne (m editionAt) 1) (h .edition))
+          ∙ refused-here _ _ (said (badMap g words) (eqb-false words (mapWords g) e)))
+    ])
+
+granted-recover : (words : ℕ) (r : State) → granted (recover words) r ≡ leaving (record {
+  image = mendedImage (geometryOf (reads (r .image))) (r .image);
+  pool = mapOf (geometryOf (reads (r .image))) (nodesOf (allTrees (geometryOf (reads (r .image))) (reads (r .image))));
+  heads = idleHeads;
+})
+unfolding granted
+granted-recover words r = refl
+
+-- the image that a recovery writes itself, refused or answered; it hands out no script
+record Writes (r : State) (w : Work) : Type 0 where
+  script : w .script ≡ []
+  image : (w .after .image ≡ r .image) ⊎ (w .after .image ≡ mendedImage (geometryOf (reads (r .image))) (r .image))
+
+recover-writes : (words : ℕ) (r : State) → Writes r (perform (recover words) r .work)
+recover-writes words r = elim (ℕ-discrete (perform (recover words) r .answer) 0) [
+  | yes h ↦ let q = work-granted (recover words) r h ∙ granted-recover words r in record { script = rw q refl; image = inr (rw q refl) }
+  | no h ↦ record { script = demand1 (recover words) r h .no-store; image = inl (refused-image (recover words) r h) }
+]
+
+module _ {g : Geometry} {rs : List Reel} where
+  -- interrupted: each word old or new
+  pub interrupted-view : (words : ℕ) (r : State) (k : ℕ) (m' : List ℕ) → View g (r .image) rs → Interrupted (recover words) r k m' → View g m' rs
+  interrupted-view words r k m' v c =
+      let w = recover-writes words r in
+      let e : m' ≡ c .itself = crash-none (c .itself) k m' (rw (w .script) at (c .script)) in
+      rw e (mended-view v (c .same-length) (record {
+        each = λ i. elim (c .old-or-new i) [
+          | inl q ↦ inl q
+          | inr q ↦ elim (w .image) [
+            | inl p ↦ inl (q ∙ ap (λ x. reads x i) p)
+            | inr p ↦ rw (q ∙ ap (λ x. reads x i) p, v .header .geometry) (mended-words g (r .image) .each i)
+          ]
+        ];
+      }))
+
+  -- a reached node is inside the pool
+  inside : {im : List ℕ} {n : ℕ} → View g im rs → Reached g (reads im) n → n < g .nodes
+  inside {im} {n} v r = node-laws g (reads im) .facts (length (r .way)) n .0 (v .sound .well-formed (r .there)) .inside
+
+  -- answered: the map and the locate words as the nodes reached and the set words have them
+  settled-image : (im : List ℕ) → View g im rs → Settled g (mendedImage g im) (mapOf g (nodesOf (allTrees g (reads im)))) rs
+  settled-image im v =
+      let a = mended-words g im in
+      record {
+        view = mended-view v (apply-laws .length-apply im (stores (recoverStores g (reads im)))) a;
+        map-words = pool-laws .length-map g (nodesOf (allTrees g (reads im)));
+        marks = λ n.
+            let t = pool-laws .map g (nodesOf (allTrees g (reads im))) n (λ k x. inside v (nodes-reached g (reads im) k .0 x)) in
+            let b = nodes-reached g (reads im) n in
+            (λ e. mended-reached a .0 (b .0 (t .0 e)), λ r. t .1 (b .1 (mended-reached a .1 r)));
+        equal = λ n r.
+            let r' = mended-reached a .1 r in
+            now-equal g im r' (omega (arith, inside v r', v .header .words)) ∙ kept a (setAt g n) (λ k. omega arith);
+      }
+
+  pub recovered-agrees : (words : ℕ) (r : State) → View g (r .image) rs → perform (recover words) r .answer ≡ 0
+      → Agrees (done (recover words) r) (idleTable g rs)
+  recovered-agrees words r v h =
+      let q = done-granted (recover words) r h ∙ ap carriedOut (granted-recover words r) ∙ carried-leaving _ in
+      rw (q, v .header .geometry) (agrees-settled (settled-image (r .image) v))
+
+  pub attempts-view : {m m' : List ℕ} → Attempts m m' → View g m rs → View g m' rs
+  attempts-view none-yet v = v
+  attempts-view (refused words s q h a) v =
+      attempts-view a (rw (done-image (recover words) s h ∙ q) v)
+  attempts-view (interrupted words s k q c a) v = attempts-view a (interrupted-view words s k _ (rw q v) c)
+
+  pub recovered-view : {m : List ℕ} {s' : State} → Recovered m s' → View g m rs → Agrees s' (idleTable g rs)
+  recovered-view c v = rw (c .is) (recovered-agrees (c .words) (c .from) (rw (c .image) (attempts-view (c .attempts) v)) (c .answered))

@@ -1,0 +1,89 @@
+-- The script of each operation: at most 25 entries, each a store inside the image of a value below 2^64.
+use mathlib.Core.Path.{_≡_, refl}
+use mathlib.Core.Bool.{false}
+use mathlib.Core.List.{List, [], _∷_, flatMap}
+use Prim.Native.Nat.{ℕ, zero, suc, _+_, _*_, _%_, _^_, _≤_, _<_}
+use native.Mathlib.Omega.{arith}
+use lib.ListN.{length}
+use borrow.Author.Tests.{eqb-false}
+use Rattle.tree.specs.Memory.{Memory, Store}
+use Rattle.tree.specs.Layout.{Geometry, rootAt, locateAt, setAt, fingerprintsAt}
+use Rattle.tree.specs.Lists.{range}
+use Rattle.tree.specs.Path.{fanout}
+use Rattle.tree.specs.Fingerprint.{fingerprint, ruleOf}
+use Rattle.tree.specs.Lookup.{Spot}
+use Rattle.book.specs.declared.Target.{Target}
+use Rattle.book.specs.Room.{Room, clear, scaleUp, branchOut, needs, atLevel31}
+use Rattle.book.specs.Perform.{newNode, openScript, roomScript, claimScript, fillScript, bitOn, bitOff, removeScript}
+use Rattle.tree.proofs.Lists.{in-range}
+use Rattle.tree.proofs.Laws.{child-laws}
+use Rattle.book.proofs.Entries.{MemoryLaws, Each, each-flatMap, entries}
+use Rattle.book.proofs.Inside.{Sized, SpotInside, RoomInside, fanout-few, fingerprint-lt}
+
+-- a store to one of some words, of a value below 2^64
+abbrev pub Writes : ℕ → Store → Type 0
+Writes words p = (p .0 < words) × (p .1 < 2 ^ 64)
+
+pub record Good (words : ℕ) (script : List (List Store)) : Type 0 where
+  pub each : Each (Each (Writes words)) script
+  pub few : entries script ≤ 25
+
+pub no-stores : (words : ℕ) → Good words []
+no-stores words = record { each = tt; few = omega arith }
+
+module _ {words : ℕ} {g : Geometry} (z : Sized words g) where
+  -- a node's five words, and those of a group of nodes
+  new-node : (n level size : ℕ) → n < g .nodes → level < 2 ^ 64 → size < 2 ^ 64 → Each (Writes words) (newNode g n level size)
+  new-node n level size h a b = omega arith
+
+  group-length : (start k level : ℕ) → length (flatMap (λ n. newNode g n level 64) (range start k)) ≡ 5 * k
+  unfolding range flatMap
+  group-length start zero level = refl
+  group-length start (suc k) level = let e = group-length (suc start) k level in omega arith
+
+  pub good-open : (slot n reel : ℕ) → slot < g .slots → n < g .nodes → reel < 2 ^ 64 → Good words (openScript g slot n reel)
+  unfolding openScript
+  good-open slot n reel a b c = record { each = omega arith; few = omega arith }
+
+  pub good-retire : (slot : ℕ) → slot < g .slots → Good words (((rootAt slot, 0) ∷ []) ∷ [])
+  good-retire slot a = record { each = omega arith; few = omega arith }
+
+  module _ (laws : MemoryLaws) (m : Memory) (fits : (i : ℕ) → m i < 2 ^ 64) where
+    pub good-claim : (r : Room) (start f : ℕ) → RoomInside g m r → atLevel31 r ≡ false → (0 < needs r → start + needs r ≤ g .nodes)
+        → Good words (claimScript g m r start f)
+    unfolding claimScript roomScript
+    good-claim (clear t) start f a l h =
+        let v = laws .bit-on (m (locateAt g (t .node))) (t .place) (a .place) (fits _) in
+        record { each = omega (arith, a .node); few = omega arith }
+    good-claim (scaleUp n size) start f a l h =
+        let v = laws .bit-on (m (locateAt g n)) size (a .1) (fits _) in
+        record { each = omega arith; few = omega arith }
+    good-claim (branchOut parent d) start f a l h =
+        let low : d < 31 = omega (arith, eqb-false d 31 l) in
+        let few = fanout-few d low in
+        let run = h (few .0) in
+        let c = child-laws .below d f low in
+        let v = laws .bit-on 0 0 (omega arith) (omega arith) in
+        let group : Each (Writes words) (flatMap (λ n. newNode g n (suc d) 64) (range start (fanout d))) =
+        each-flatMap (Writes words) _ _ (λ n y. new-node n (suc d) 64 (omega (arith, in-range start (fanout d) y)) (omega arith) (omega arith)) in
+        record { each = (group, omega arith); few = omega (arith, group-length start (fanout d) (suc d)) }
+
+    pub good-fill : (t : Target) → t .node < g .nodes → t .place < 64 → t .frame < 2 ^ 64 → Good words (fillScript (ruleOf m) g m t)
+    unfolding fillScript
+    good-fill t a b c =
+        let v = laws .byte-put (m (fingerprintsAt g (t .node) (t .place))) (t .place % 8) (fingerprint (ruleOf m) (t .frame))
+        (omega arith) (fingerprint-lt m (t .frame)) (fits _) in
+        record { each = omega arith; few = omega arith }
+
+    pub good-commit : (n p : ℕ) → n < g .nodes → p < 64 → Good words (bitOn m (setAt g n) p ∷ [])
+    good-commit n p a b = let v = laws .bit-on (m (setAt g n)) p b (fits _) in record { each = omega arith; few = omega arith }
+
+    pub good-abandon : (n p : ℕ) → n < g .nodes → p < 64 → Good words (bitOff m (locateAt g n) p ∷ [])
+    good-abandon n p a b = let v = laws .bit-off (m (locateAt g n)) p b (fits _) in record { each = omega arith; few = omega arith }
+
+    pub good-remove : (t : Spot) → SpotInside g m t → Good words (removeScript g m t)
+    unfolding removeScript
+    good-remove t a =
+        let v = laws .bit-off (m (setAt g (t .node))) (t .place) (a .place) (fits _) in
+        let w = laws .bit-off (m (locateAt g (t .node))) (t .place) (a .place) (fits _) in
+        record { each = omega (arith, a .node); few = omega arith }

@@ -36,3 +36,4 @@ pub mod Mended
 pub mod Recovery
 pub mod Formatted
 pub mod Assembly
+pub mod StepFill

@@ -1,7 +1,7 @@
 -- Memories that differ at one place of one node at most: what stays, and the stores that leave such a pair.
 use mathlib.Core.Path.{_≡_, refl, sym, _∙_, ap}
 use mathlib.Core.Bool.{true, false}
-use mathlib.Core.Logic.{_≢_, _↔_}
+use mathlib.Core.Logic.{_≢_, inl}
 use mathlib.Core.List.{List}
 use Prim.Native.Nat.{ℕ, _+_, _*_, _/_, _%_, _≤_, _<_}
 use native.Mathlib.Omega.{arith}
@@ -15,6 +15,7 @@ use Rattle.tree.specs.Same.{SameLinks, SameWords, Stores}
 use Rattle.tree.proofs.Cases.{true-not-false}
 use Rattle.tree.proofs.Same.{filled-on, reaches-on, reaches-back}
 use Rattle.tree.proofs.Words.{beside-node, beside-slots}
+use Rattle.book.proofs.Keeps.{Keeping}
 
 -- a place's two bits, its frame and its fingerprint
 pub record SamePlace (g : Geometry) (m m' : Memory) (n p : ℕ) : Type 0 where
@@ -43,6 +44,10 @@ one-after-other a b = record {
       let x = a .beside l o in let y = b .beside l o in
       record { locate = x .locate ∙ y .locate; set = x .set ∙ y .set; frames = x .frames ∙ y .frames; fingerprints = x .fingerprints ∙ y .fingerprints };
 }
+
+-- frames keep their places
+pub place-keeping : {g : Geometry} {m m' : Memory} {n p : ℕ} → OnePlace g m m' n p → HoldsBack g m m' → Keeping g m m'
+place-keeping o h = record { reels = λ b b'. o .reels b; held = λ {s} {w} {n} {p} {f} y. inl (h s w n p f y) }
 
 -- ---- a store to word k of node n, not its next
 

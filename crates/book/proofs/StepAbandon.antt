@@ -31,7 +31,7 @@ use Rattle.book.proofs.Heads.{about-target}
 use Rattle.book.proofs.Reels.{frames-to}
 use Rattle.book.proofs.Sames.{view-locate}
 use Rattle.book.proofs.Showing.{shows-view}
-use Rattle.book.proofs.OnePlace.{OnePlace, HoldsBack, locate-place, locate-holds}
+use Rattle.book.proofs.OnePlace.{OnePlace, HoldsBack, place-keeping, locate-place, locate-holds}
 use Rattle.book.proofs.Replaced.{claim-formed, claim-low, retabled, restated, idled}
 use Rattle.book.proofs.Single.{single, setAll, agrees-by, left-old, agrees-new, step-of}
 
@@ -90,6 +90,6 @@ step-abandon {s} {t} a script h fits e =
     let im = cleared v c in
     step-of (clearing (geometryOf (reads (s .image))) (reads (s .image)) (targetOf (headAt (s .heads) h))) (s .pool) (withHead (s .heads) h heads.Idle)
     (retabled t (t .reels) h idle) (a .shows) (abandon-granted script h s) (abandon-table script h t)
-    (left-old (a .shows) (view v c) (record { reels = λ b b'. place v c .reels b; held = λ {s} {w} {n} {p} {f} y. inl (holds v c s w n p f y) }), tt)
+    (left-old (a .shows) (view v c) (place-keeping (place v c) (holds v c)), tt)
     (agrees-new (a .shows) (view v c) refl refl (idled (agrees-by a) (p .0) (about-target _ (p .1)) im (v .sound) (place v c)
     (λ slot f z. frames-to (λ w n p y. holds v c slot w n p f y)) (t .reels) (bits v c)))

@@ -37,3 +37,4 @@ pub mod Recovery
 pub mod Formatted
 pub mod Assembly
 pub mod StepFill
+pub mod StepRemove

@@ -3,14 +3,14 @@ use mathlib.Core.Path.{_≡_, refl, sym, _∙_, ap}
 use mathlib.Core.Bool.{true, false}
 use mathlib.Core.Logic.{_≢_, inl}
 use mathlib.Core.List.{List}
-use Prim.Native.Nat.{ℕ, _+_, _*_, _/_, _%_, _≤_, _<_}
+use Prim.Native.Nat.{ℕ, _+_, _/_, _%_, _<_}
 use native.Mathlib.Omega.{arith}
 use native.Mathlib.Decide.{ℕ-discrete}
 use Rattle.tree.specs.Memory.{Memory, isSet, byte}
 use Rattle.tree.specs.Layout.{Geometry, reelAt, rootAt, nodeAt, nextAt, locateAt, setAt, sizeAt, fingerprintsAt, frameAt}
 use Rattle.tree.specs.Node.{held, frame, storedFingerprint}
 use Rattle.tree.specs.Slots.{Filled}
-use Rattle.tree.specs.Reach.{Reaches, Holds}
+use Rattle.tree.specs.Reach.{Holds}
 use Rattle.tree.specs.Same.{SameLinks, SameWords, Stores}
 use Rattle.tree.proofs.Cases.{true-not-false}
 use Rattle.tree.proofs.Same.{filled-on, reaches-on, reaches-back}

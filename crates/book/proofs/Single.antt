@@ -1,17 +1,17 @@
 -- Steps whose script stores one word at a time.
-use mathlib.Core.Path.{_≡_, refl, sym, _∙_}
+use mathlib.Core.Path.{_≡_, refl, _∙_}
 use mathlib.Core.Logic.{_⊎_, inl, inr}
 use mathlib.Core.List.{List, [], _∷_, map}
 use Prim.Native.Nat.{ℕ}
 use lib.ListN.{set}
-use Rattle.tree.specs.Memory.{Memory, reads, Store, stores, segmented, apply, CrashImage}
-use Rattle.tree.specs.Layout.{Geometry, geometryOf}
+use Rattle.tree.specs.Memory.{reads, Store, stores, segmented, apply, CrashImage}
+use Rattle.tree.specs.Layout.{geometryOf}
 use Rattle.tree.proofs.Memory.{crash-laws}
 use Rattle.book.specs.State.{State, Operation}
 use Rattle.book.specs.Perform.{granted, writing}
-use Rattle.book.specs.Table.{Table, Reel, tableWork}
+use Rattle.book.specs.Table.{Table, tableWork}
 use Rattle.book.specs.Agrees.{Shows, Agrees}
-use Rattle.book.proofs.View.{Header, View}
+use Rattle.book.proofs.View.{View}
 use Rattle.book.proofs.Step.{Keeps, Step}
 use Rattle.book.proofs.Keeps.{Keeping, keeps-of}
 use Rattle.book.proofs.Claims.{AgreesBy, agrees-of}

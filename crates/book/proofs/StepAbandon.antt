@@ -1,16 +1,12 @@
 -- The step of Abandon: the locate bit goes, and the head is idle.
 use mathlib.Core.Path.{_≡_, refl, sym, _∙_, ap}
-use mathlib.Core.Bool.{true, false}
-use mathlib.Core.Logic.{_⊎_, inl, inr}
+use mathlib.Core.Bool.{false}
 use mathlib.Core.List.{List, [], _∷_}
-use Prim.Native.Nat.{ℕ, _+_, _*_, _^_, _≤_, _<_}
+use Prim.Native.Nat.{ℕ, _<_}
 use native.Mathlib.Omega.{arith}
-use lib.ListN.{length, set}
 use Rattle.tree.specs.Memory.{Memory, reads, isSet, withoutBit, Store, Fit}
 use Rattle.tree.specs.Layout.{Geometry, geometryOf, locateAt, setAt}
-use Rattle.tree.specs.Fingerprint.{ruleOf}
 use Rattle.tree.specs.Node.{held}
-use Rattle.tree.specs.Reach.{FrameOf}
 use Rattle.tree.specs.Same.{Stores}
 use Rattle.tree.proofs.Memory.{bit-laws}
 use Rattle.book.specs.declared.Target.{Target}
@@ -20,7 +16,7 @@ use Rattle.book.specs.State.{State, abandon, arguments}
 use Rattle.book.specs.Checks.{refusals}
 use Rattle.book.specs.Perform.{granted, writing, perform}
 use Rattle.book.specs.Table.{Table, Reel, idle, tableWork}
-use Rattle.book.specs.Agrees.{Claims, About, Agrees}
+use Rattle.book.specs.Agrees.{Claims, Agrees}
 use Rattle.book.proofs.Refusals.{passes}
 use Rattle.book.proofs.Performed.{answer-is}
 use Rattle.book.proofs.View.{View}
@@ -32,7 +28,7 @@ use Rattle.book.proofs.Reels.{frames-to}
 use Rattle.book.proofs.Sames.{view-locate}
 use Rattle.book.proofs.Showing.{shows-view}
 use Rattle.book.proofs.OnePlace.{OnePlace, HoldsBack, place-keeping, locate-place, locate-holds}
-use Rattle.book.proofs.Replaced.{claim-formed, claim-low, retabled, restated, idled}
+use Rattle.book.proofs.Replaced.{claim-formed, retabled, idled}
 use Rattle.book.proofs.Single.{single, setAll, agrees-by, left-old, agrees-new, step-of}
 
 -- ---- what it does

@@ -1,18 +1,18 @@
 -- The step of Commit: the set bit is put on, the frame joins its reel, and the head is idle.
 use mathlib.Core.Path.{_≡_, refl, sym, _∙_, ap}
-use mathlib.Core.Bool.{true, false}
-use mathlib.Core.Logic.{_⊎_, inl, inr}
+use mathlib.Core.Bool.{true}
+use mathlib.Core.Logic.{inl, inr}
 use mathlib.Core.List.{List, [], _∷_}
-use Prim.Native.Nat.{ℕ, _+_, _*_, _^_, _≤_, _<_}
+use Prim.Native.Nat.{ℕ, _<_}
 use native.Mathlib.Omega.{arith}
 use lib.ListN.{length, set}
 use borrow.Author.Tests.{not-false}
 use Rattle.tree.specs.Memory.{Memory, reads, isSet, withBit, Store, Fit}
-use Rattle.tree.specs.Layout.{Geometry, geometryOf, reelAt, locateAt, setAt}
+use Rattle.tree.specs.Layout.{Geometry, geometryOf, locateAt, setAt}
 use Rattle.tree.specs.Path.{wayOf}
 use Rattle.tree.specs.Fingerprint.{ruleOf}
 use Rattle.tree.specs.Node.{held}
-use Rattle.tree.specs.Reach.{Holds, FrameOf}
+use Rattle.tree.specs.Reach.{FrameOf}
 use Rattle.tree.specs.Same.{Stores}
 use Rattle.tree.specs.Changes.{Commits, Committed}
 use Rattle.tree.proofs.Cases.{true-not-false}
@@ -29,11 +29,10 @@ use Rattle.book.specs.Table.{Table, TableHead, Reel, tableHead, idle, re
 use Rattle.book.specs.Agrees.{Claims, Written, HeadAgrees, both-idle, both-claimed, both-filled, About, by-fill, Agrees}
 use Rattle.book.proofs.Refusals.{passes}
 use Rattle.book.proofs.Performed.{answer-is}
-use Rattle.book.proofs.View.{Header, View}
+use Rattle.book.proofs.View.{View}
 use Rattle.book.proofs.Step.{Step}
 use Rattle.book.proofs.Keeps.{Keeping}
 use Rattle.book.proofs.Stored.{stores-set, header-set, node-inside}
-use Rattle.book.proofs.Heads.{filled-is}
 use Rattle.book.proofs.Views.{view-committed}
 use Rattle.book.proofs.Showing.{shows-view}
 use Rattle.book.proofs.OnePlace.{OnePlace, set-place}

@@ -1,11 +1,10 @@
 -- The step of Fill: the frame and its fingerprint are put in the head's place, and the head is filled.
 use mathlib.Core.Path.{_≡_, refl, sym, _∙_, ap, ap₂, subst}
-use mathlib.Core.Bool.{true, false}
-use mathlib.Core.Logic.{_⊎_, inl, inr}
+use mathlib.Core.Bool.{true}
 use mathlib.Core.List.{List, [], _∷_}
-use Prim.Native.Nat.{ℕ, _+_, _*_, _/_, _%_, _^_, _≤_, _<_}
+use Prim.Native.Nat.{ℕ, _+_, _/_, _%_, _^_, _<_}
 use native.Mathlib.Omega.{arith}
-use lib.ListN.{length, set}
+use lib.ListN.{set}
 use borrow.Author.Tests.{not-false}
 use Rattle.tree.specs.Memory.{Memory, reads, isSet, byte, withByte, Store, Fit}
 use Rattle.tree.specs.Layout.{Geometry, geometryOf, locateAt, setAt, fingerprintsAt, frameAt}
@@ -35,7 +34,7 @@ use Rattle.book.proofs.Showing.{shows-view}
 use Rattle.book.proofs.Inside.{fingerprint-lt}
 use Rattle.book.proofs.OnePlace.{OnePlace, HoldsBack, place-keeping, one-after-other, frame-place, frame-holds, fingerprint-place, fingerprint-holds}
 use Rattle.book.proofs.Replaced.{claim-formed, claim-low, retabled, filled-in}
-use Rattle.book.proofs.Single.{single, setAll, agrees-by, left-old, agrees-new, step-of}
+use Rattle.book.proofs.Single.{single, agrees-by, left-old, agrees-new, step-of}
 
 -- ---- what it does
 
@@ -76,7 +75,8 @@ claiming (both-filled c w) h = absurd (true-not-false h refl)
 
 -- ---- the images after each store
 
-module _ {g : Geometry} {im : List ℕ} {rs : List Reel} {x : Target} {reel f : ℕ} (v : View g im rs) (c : Claims g (reads im) x reel f) (fits : x .frame < 2 ^ 64) where
+module _ {g : Geometry} {im : List ℕ} {rs : List Reel} {x : Target} {reel f : ℕ} (v : View g im rs) (c : Claims g (reads im) x reel f)
+    (fits : x .frame < 2 ^ 64) where
   low : x .place < 64
   low = claim-low (v .sound) c
 
@@ -85,7 +85,8 @@ module _ {g : Geometry} {im : List ℕ} {rs : List Reel} {x : Target} {reel f : 
   framed = set im (frameAt g (x .node) (x .place)) (x .frame)
 
   framed-stores : Stores (reads im) (frameAt g (x .node) (x .place)) (x .frame) (reads framed)
-  framed-stores = stores-set im _ _ (omega (arith, low, node-inside (x .node) (16 + x .place) (v .header) (claim-formed (v .sound) c .inside) (omega (arith, low))))
+  framed-stores = stores-set im _ _
+      (omega (arith, low, node-inside (x .node) (16 + x .place) (v .header) (claim-formed (v .sound) c .inside) (omega (arith, low))))
 
   framed-view : View g framed rs
   framed-view = view-frame v (c .on-path) (x .place) (x .frame) low (c .not-set) fits

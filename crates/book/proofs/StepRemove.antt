@@ -1,12 +1,12 @@
 -- The step of Remove: the set bit goes, and with it the frame from its reel; then the locate bit goes.
 use mathlib.Core.Path.{_≡_, refl, sym, _∙_, ap}
 use mathlib.Core.Bool.{true, false}
-use mathlib.Core.Logic.{_⊎_, inl, inr, _↔_}
-use mathlib.Core.Option.{Option, none, some}
+use mathlib.Core.Logic.{inl, inr}
+use mathlib.Core.Option.{Option}
 use mathlib.Core.List.{List, [], _∷_}
-use Prim.Native.Nat.{ℕ, _+_, _*_, _^_, _≤_, _<_}
+use Prim.Native.Nat.{ℕ, _<_}
 use native.Mathlib.Omega.{arith}
-use native.Mathlib.Decide.{ℕ-discrete, decLt}
+use native.Mathlib.Decide.{decLt}
 use lib.ListN.{length, set}
 use borrow.Author.Tests.{not-false}
 use Rattle.tree.specs.Memory.{Memory, reads, isSet, withoutBit, Store, isSome, Fit}
@@ -15,23 +15,21 @@ use Rattle.tree.specs.Fingerprint.{ruleOf}
 use Rattle.tree.specs.Node.{held}
 use Rattle.tree.specs.Slots.{slotOf}
 use Rattle.tree.specs.Reach.{Holds}
-use Rattle.tree.specs.Lookup.{Spot, spot, find}
+use Rattle.tree.specs.Lookup.{Spot, find}
 use Rattle.tree.specs.Same.{Stores}
 use Rattle.tree.specs.Laws.{WellFormed}
-use Rattle.tree.specs.Changes.{Removes, Removed}
+use Rattle.tree.specs.Changes.{Removes}
 use Rattle.tree.proofs.Cases.{true-not-false, seen, nothing, just}
 use Rattle.tree.proofs.Memory.{bit-laws}
 use Rattle.tree.proofs.Nodes.{wellFormed-facts}
-use Rattle.tree.proofs.Same.{reaches-on, reaches-back}
+use Rattle.tree.proofs.Same.{reaches-on}
 use Rattle.tree.proofs.Laws.{slot-laws, lookup-rule, change-laws}
 use Rattle.book.specs.declared.Target.{Target}
-use Rattle.book.specs.Heads.{headCount, headAt}
 use Rattle.book.specs.State.{State, remove, arguments}
 use Rattle.book.specs.Checks.{refusals}
 use Rattle.book.specs.Perform.{removeScript, orNone, granted, writing, perform}
 use Rattle.book.specs.Table.{Table, Reel, withReels, changeFrames, without, tableWork}
-use Rattle.book.specs.Agrees.{Reached, Claims, About, ClaimsPlace, Agrees}
-use Rattle.book.specs.Ways.{SlotHas}
+use Rattle.book.specs.Agrees.{Reached, Claims, ClaimsPlace, Agrees}
 use Rattle.book.proofs.Refusals.{passes}
 use Rattle.book.proofs.Performed.{answer-is}
 use Rattle.book.proofs.View.{View}
@@ -43,14 +41,16 @@ use Rattle.book.proofs.Sames.{view-locate}
 use Rattle.book.proofs.Showing.{shows-view}
 use Rattle.book.proofs.Claims.{head-on, about-claim, AgreesBy}
 use Rattle.book.proofs.OnePlace.{OnePlace, HoldsBack, place-keeping, one-after-other, set-place, locate-place, locate-holds}
-use Rattle.book.proofs.Replaced.{claim-low}
-use Rattle.book.proofs.Single.{single, setAll, agrees-by, left-new, agrees-new, step-of}
+use Rattle.book.proofs.Replaced.{beside-claim, same-reached, Located, located-on, same-place?}
+use Rattle.book.proofs.Single.{single, agrees-by, left-new, agrees-new, step-of}
 
 -- ---- what it does
 
 -- two stores
 abbrev removing : Geometry → Memory → Spot → List Store
-removing g m t = (setAt g (t .node), withoutBit (m (setAt g (t .node))) (t .place)) ∷ (locateAt g (t .node), withoutBit (m (locateAt g (t .node))) (t .place)) ∷ []
+removing g m t =
+    (setAt g (t .node), withoutBit (m (setAt g (t .node))) (t .place))
+    ∷ (locateAt g (t .node), withoutBit (m (locateAt g (t .node))) (t .place)) ∷ []
 
 module _ (script reel f : ℕ) (s : State) where
   abbrev found : Option Spot
@@ -74,7 +74,8 @@ remove-table script reel f t = refl
 
 -- ---- the images after each store
 
-module _ {g : Geometry} {im : List ℕ} {rs : List Reel} {slot f : ℕ} {w : List ℕ} (v : View g im rs) (x : Spot) (y : Holds g (reads im) slot w (x .node) (x .place) f) where
+module _ {g : Geometry} {im : List ℕ} {rs : List Reel} {slot f : ℕ} {w : List ℕ} (v : View g im rs) (x : Spot)
+    (y : Holds g (reads im) slot w (x .node) (x .place) f) where
   formed : WellFormed g (reads im) (length w) (x .node)
   formed = wellFormed-facts g (reads im) (length w) (x .node) .0 (v .sound .well-formed (y .there))
 
@@ -143,56 +144,30 @@ module _ {g : Geometry} {s : State} {t : Table} {rs : List Reel} {slot f : ℕ} 
   other-place : {b : Target} {reel f' : ℕ} → Claims g (reads (s .image)) b reel f' → (b .node ≡ x .node) × (b .place ≡ x .place) → ⊥
   other-place c q = true-not-false (y .set) (rw (q .0, q .1) at (c .not-set))
 
-  reached-back : {n : ℕ} → Reached g (reads (cleared v x y)) n → Reached g (reads (s .image)) n
-  reached-back c = record { slot = c .slot; way = c .way; there = reaches-back (place v x y .links) (c .there) }
-
   unclaimed : (n p h : ℕ) → ClaimsPlace (s .heads) h n p → (n ≡ x .node) × (p ≡ x .place) → ⊥
   unclaimed n p h c q = other-place (about-claim (a .heads h (c .low)) (c .about) .2) (c .node ∙ q .0, c .place ∙ q .1)
 
-  locates : (n p : ℕ) → Reached g (reads (s .image)) n → p < 64 → (isSet (reads (cleared v x y) (locateAt g n)) p ≡ true)
-      ↔ ((held g (reads (cleared v x y)) n p ≡ true) ⊎ ((h : ℕ) × ClaimsPlace (s .heads) h n p))
-  locates n p c l = elim (ℕ-discrete n (x .node)) [
-    | yes q ↦ elim (ℕ-discrete p (x .place)) [
-      | yes u ↦ (
-        λ z. absurd (true-not-false (rw (q, u) at z) (not-located v x y)),
-        λ z. elim z [ inl z ↦ absurd (true-not-false (rw (q, u) at z) (not-held v x y)) | inr z ↦ absurd (unclaimed n p (z .0) (z .1) (q, u)) ],
-      )
-      | no u ↦ beside (λ z. u (z .1))
-    ]
-    | no q ↦ beside (λ z. q (z .0))
+  locates : (n p : ℕ) → Reached g (reads (s .image)) n → p < 64 → Located g (reads (cleared v x y)) (s .heads) n p
+  locates n p c l = elim (same-place? (x .node) (x .place) n p) [
+    | inl q ↦ (
+      λ z. absurd (true-not-false (rw (q .0, q .1) at z) (not-located v x y)),
+      λ z. elim z [ inl z ↦ absurd (true-not-false (rw (q .0, q .1) at z) (not-held v x y)) | inr z ↦ absurd (unclaimed n p (z .0) (z .1) q) ],
+    )
+    | inr q ↦
+        let u = place v x y .beside l q in
+        located-on g (reads (s .image)) (reads (cleared v x y)) (u .locate) (u .set) (λ h z. z) (λ h z. z) (a .locates n p c l)
   ]
-    where
-      beside : ((n ≡ x .node) × (p ≡ x .place) → ⊥) → (isSet (reads (cleared v x y) (locateAt g n)) p ≡ true)
-          ↔ ((held g (reads (cleared v x y)) n p ≡ true) ⊎ ((h : ℕ) × ClaimsPlace (s .heads) h n p))
-      beside d =
-          let u = place v x y .beside {j = n} {q = p} l d in let k = a .locates n p c l in (
-            λ z. elim (k .0 (u .locate ∙ z)) [ inl e ↦ inl (sym (u .set) ∙ e) | inr e ↦ inr e ],
-            λ z. sym (u .locate) ∙ k .1 (elim z [ inl e ↦ inl (u .set ∙ e) | inr e ↦ inr e ]),
-          )
 
   agrees : (rs' : List Reel) → AgreesBy g (record { image = cleared v x y; pool = s .pool; heads = s .heads }) (withReels t rs')
   agrees rs' = record {
     map-words = a .map-words;
-    marks = λ n. (
-      λ q. let c = a .marks n .0 q in record { slot = c .slot; way = c .way; there = reaches-on (place v x y .links) (c .there) },
-      λ c. a .marks n .1 (reached-back c),
-    );
+    marks = λ n. (λ q. same-reached (place v x y .links) .0 (a .marks n .0 q), λ c. a .marks n .1 (same-reached (place v x y .links) .1 c));
     head-words = a .head-words;
     table-heads = a .table-heads;
     heads = λ h l. head-on (λ b reel f' z c.
-        let u = place v x y .beside (claim-low (v .sound) c) (other-place c) in
-        record {
-          reel = place v x y .reels (c .open-slot);
-          ways = reaches-on (place v x y .links);
-          size = omega (arith, place v x y .sizes (b .node));
-          locate = u .locate;
-          set = u .set;
-          frame = u .frames;
-          fingerprint = u .fingerprints;
-          frames = frames-to (λ w n p k. holds v x y (b .slot) w n p (b .frame) k);
-        }) (a .heads h l);
+        beside-claim (v .sound) (place v x y) c (other-place c) (frames-to (λ w n p k. holds v x y (b .slot) w n p (b .frame) k))) (a .heads h l);
     apart = a .apart;
-    locates = λ n p c. locates n p (reached-back c);
+    locates = λ n p c. locates n p (same-reached (place v x y .links) .1 c);
   }
 
 pub step-remove : {s : State} {t : Table} → Agrees s t → (script reel f : ℕ) → Fit (arguments (remove script reel f))

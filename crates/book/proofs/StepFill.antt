@@ -163,9 +163,10 @@ step-fill {s} {t} a script h word fits e =
     let v = shows-view (a .shows) in
     let x = targetOf (headAt (s .heads) h) in
     step-of (filling (geometryOf (reads (s .image))) (reads (s .image)) x) (s .pool) (withHead (s .heads) h (heads.Filled x))
-    (retabled t (t .reels) h (filled (reelOf (tableHead t h)) (frameOf (tableHead t h)))) (a .shows) (fill-granted script h s) (fill-table script h t)
-    (left-old (a .shows) (framed-view v c word) (place-keeping (framed-place v c word) (framed-holds v c word)),
-    (left-old (a .shows) (view v c word) (place-keeping (place v c word) (holds v c word)), tt))
+    (retabled t (t .reels) h (filled (reelOf (tableHead t h)) (frameOf (tableHead t h)))) (a .shows) (fill-granted script h s) (fill-table script h t) (
+      left-old (a .shows) (framed-view v c word) (place-keeping (framed-place v c word) (framed-holds v c word)),
+      (left-old (a .shows) (view v c word) (place-keeping (place v c word) (holds v c word)), tt),
+    )
     (agrees-new (a .shows) (view v c word) refl refl (filled-in (agrees-by a) (p .0) (y .about) (written v c word) (v .sound) (place v c word)
     (λ slot f z. frames-to (λ w n p u. holds v c word slot w n p f u)) (both-filled (claim-stays v c word) (filled-there v c word))
     (same-locate v c word) (same-set v c word)))

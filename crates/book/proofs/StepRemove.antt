@@ -184,8 +184,9 @@ step-remove {s} {t} a script reel f fits e =
           (withReels t (changeFrames reel (without f) (t .reels))) (a .shows)
           (remove-granted script reel f s ∙ ap (λ o. writing (single (removing (geometryOf (reads (s .image))) (reads (s .image)) (orNone o)))
           (record { image = s .image; pool = s .pool; heads = s .heads })) q)
-          (remove-table script reel f t)
-          (left-new (a .shows) (rw (b .1) at (unset-view v x y)) refl refl (place-keeping (unset-place v x y) (unset-holds v x y)),
-          (left-new (a .shows) (rw (b .1) at (view v x y)) refl refl (place-keeping (place v x y) (holds v x y)), tt))
+          (remove-table script reel f t) (
+            left-new (a .shows) (rw (b .1) at (unset-view v x y)) refl refl (place-keeping (unset-place v x y) (unset-holds v x y)),
+            (left-new (a .shows) (rw (b .1) at (view v x y)) refl refl (place-keeping (place v x y) (holds v x y)), tt),
+          )
           (agrees-new (a .shows) (rw (b .1) at (view v x y)) refl refl (agrees v (agrees-by a) x y (changeFrames reel (without f) (t .reels))))
     ]

@@ -13,6 +13,14 @@ pub mod Views
 pub mod Sames
 pub mod Showing
 pub mod Reading
+pub mod OnePlace
+pub mod Keeps
+pub mod Claims
+pub mod Crashed
+pub mod Replaced
+pub mod Single
+pub mod StepAbandon
+pub mod StepCommit
 pub mod Demand1
 pub mod Entries
 pub mod Inside
@@ -21,9 +29,6 @@ pub mod Scripts
 pub mod MemoryLaws
 pub mod Paired
 pub mod Alike
-pub mod Keeps
-pub mod Claims
-pub mod Crashed
 pub mod StoreLists
 pub mod Done
 pub mod Settled
@@ -36,3 +41,5 @@ pub mod Opening
 pub mod StepOpen
 pub mod StepRead
 pub mod Placed
+pub mod StepFill
+pub mod StepRemove

@@ -63,7 +63,7 @@ module _ {g : Geometry} {im : List ℕ} {rs : List Reel} {x : Target} {reel f : 
   stored = stores-set im _ _ (node-inside (x .node) 1 (v .header) (claim-formed (v .sound) c .inside) (omega arith))
 
   view : View g cleared rs
-  view = view-locate v (c .on-path) _ (bit-laws .without-fits _ _ _ (c .place) (claim-formed (v .sound) c .locate))
+  view = view-locate v (c .on-path) _ (bit-laws .without-fits _ _ _ (claim-formed (v .sound) c .locate))
 
   place : OnePlace g (reads im) (reads cleared) (x .node) (x .place)
   place = locate-place (x .node) (x .place) stored (λ q d. sym (bit-laws .without-keeps _ (x .place) q d))

@@ -99,13 +99,13 @@ module _ {g : Geometry} {im : List ℕ} {rs : List Reel} {slot f : ℕ} {w : Lis
   removes : Removes g (reads im) slot w (x .node) (x .place) (withoutBit (reads im (setAt g (x .node))) (x .place))
   removes = record {
     there = y .there;
-    bits = record { others = λ q d. sym (bit-laws .without-keeps _ (x .place) q d); fits = bit-laws .without-fits _ _ _ low (formed .set) };
+    bits = record { others = λ q d. sym (bit-laws .without-keeps _ (x .place) q d); fits = bit-laws .without-fits _ _ _ (formed .set) };
     off = bit-laws .without-clears _ (x .place);
   }
 
   unset-view : View g unset (changeFrames (reads im (reelAt slot)) (without f) rs)
   unset-view = view-removed v
-      (header-set _ _ (v .header) (omega arith) inside (bit-laws .without-fits _ (x .place) 64 (y .place) (v .header .fits _))) y removes unset-stores
+      (header-set _ _ (v .header) (omega arith) inside (bit-laws .without-fits _ (x .place) 64 (v .header .fits _))) y removes unset-stores
 
   unset-place : OnePlace g (reads im) (reads unset) (x .node) (x .place)
   unset-place = set-place (x .node) (x .place) unset-stores (λ q d. sym (bit-laws .without-keeps _ (x .place) q d))
@@ -122,7 +122,7 @@ module _ {g : Geometry} {im : List ℕ} {rs : List Reel} {slot f : ℕ} {w : Lis
 
   view : View g cleared (changeFrames (reads im (reelAt slot)) (without f) rs)
   view = view-locate unset-view (reaches-on (unset-place .links) (y .there)) _
-      (rw (← unset-place .sizes (x .node)) (bit-laws .without-fits _ (x .place) _ low (formed .locate)))
+      (rw (← unset-place .sizes (x .node)) (bit-laws .without-fits _ (x .place) _ (formed .locate)))
 
   place : OnePlace g (reads im) (reads cleared) (x .node) (x .place)
   place = one-after-other unset-place (locate-place (x .node) (x .place) stored (λ q d.

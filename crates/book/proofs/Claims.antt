@@ -45,6 +45,7 @@ module _ {g : Geometry} {m m' : Memory} where
     open-slot = slot-filled (a .ways (c .on-path));
     of-reel = sym (a .reel) ∙ c .of-reel;
     of-frame = c .of-frame;
+    word = c .word;
     depth = c .depth;
     on-path = a .ways (c .on-path);
     place = omega (arith, c .place, a .size);

@@ -75,8 +75,7 @@ claiming (both-filled c w) h = absurd (true-not-false h refl)
 
 -- ---- the images after each store
 
-module _ {g : Geometry} {im : List ℕ} {rs : List Reel} {x : Target} {reel f : ℕ} (v : View g im rs) (c : Claims g (reads im) x reel f)
-    (fits : x .frame < 2 ^ 64) where
+module _ {g : Geometry} {im : List ℕ} {rs : List Reel} {x : Target} {reel f : ℕ} (v : View g im rs) (c : Claims g (reads im) x reel f) where
   low : x .place < 64
   low = claim-low (v .sound) c
 
@@ -89,7 +88,7 @@ module _ {g : Geometry} {im : List ℕ} {rs : List Reel} {x : Target} {reel f : 
       (omega (arith, low, node-inside (x .node) (16 + x .place) (v .header) (claim-formed (v .sound) c .inside) (omega (arith, low))))
 
   framed-view : View g framed rs
-  framed-view = view-frame v (c .on-path) (x .place) (x .frame) low (c .not-set) fits
+  framed-view = view-frame v (c .on-path) (x .place) (x .frame) low (c .not-set) (rw (c .of-frame) (c .word))
 
   framed-place : OnePlace g (reads im) (reads framed) (x .node) (x .place)
   framed-place = frame-place (x .node) (x .place) low framed-stores
@@ -137,6 +136,7 @@ module _ {g : Geometry} {im : List ℕ} {rs : List Reel} {x : Target} {reel f : 
     open-slot = filled-on (place .links) (c .open-slot);
     of-reel = sym (place .reels (c .open-slot)) ∙ c .of-reel;
     of-frame = c .of-frame;
+    word = c .word;
     depth = c .depth;
     on-path = reaches-on (place .links) (c .on-path);
     place = omega (arith, c .place, place .sizes (x .node));
@@ -154,9 +154,9 @@ module _ {g : Geometry} {im : List ℕ} {rs : List Reel} {x : Target} {reel f : 
         ∙ ap₂ fingerprint (same-rule (reads im) (reads written)) (c .of-frame);
   }
 
-pub step-fill : {s : State} {t : Table} → Agrees s t → (script h : ℕ) → targetOf (headAt (s .heads) h) .frame < 2 ^ 64 → Fit (arguments (fill script h))
+pub step-fill : {s : State} {t : Table} → Agrees s t → (script h : ℕ) → Fit (arguments (fill script h))
     → perform (fill script h) s .answer ≡ 0 → Step (fill script h) s t
-step-fill {s} {t} a script h word fits e =
+step-fill {s} {t} a script h fits e =
     let p = fill-passes script h s e in
     let y = claiming (a .heads h (p .0)) (p .1) in
     let c = y .claim in
@@ -164,9 +164,9 @@ step-fill {s} {t} a script h word fits e =
     let x = targetOf (headAt (s .heads) h) in
     step-of (filling (geometryOf (reads (s .image))) (reads (s .image)) x) (s .pool) (withHead (s .heads) h (heads.Filled x))
     (retabled t (t .reels) h (filled (reelOf (tableHead t h)) (frameOf (tableHead t h)))) (a .shows) (fill-granted script h s) (fill-table script h t) (
-      left-old (a .shows) (framed-view v c word) (place-keeping (framed-place v c word) (framed-holds v c word)),
-      (left-old (a .shows) (view v c word) (place-keeping (place v c word) (holds v c word)), tt),
+      left-old (a .shows) (framed-view v c) (place-keeping (framed-place v c) (framed-holds v c)),
+      (left-old (a .shows) (view v c) (place-keeping (place v c) (holds v c)), tt),
     )
-    (agrees-new (a .shows) (view v c word) refl refl (filled-in (agrees-by a) (p .0) (y .about) (written v c word) (v .sound) (place v c word)
-    (λ slot f z. frames-to (λ w n p u. holds v c word slot w n p f u)) (both-filled (claim-stays v c word) (filled-there v c word))
-    (same-locate v c word) (same-set v c word)))
+    (agrees-new (a .shows) (view v c) refl refl (filled-in (agrees-by a) (p .0) (y .about) (written v c) (v .sound) (place v c)
+    (λ slot f z. frames-to (λ w n p u. holds v c slot w n p f u)) (both-filled (claim-stays v c) (filled-there v c))
+    (same-locate v c) (same-set v c)))

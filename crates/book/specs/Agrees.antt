@@ -3,7 +3,7 @@ use mathlib.Core.Path.{_≡_}
 use mathlib.Core.Bool.{Bool, true, false}
 use mathlib.Core.Logic.{_⊎_, _↔_}
 use mathlib.Core.List.{List, map, List·Memᴰ}
-use Prim.Native.Nat.{ℕ, _*_, _<_}
+use Prim.Native.Nat.{ℕ, _*_, _^_, _<_}
 use lib.ListN.{length}
 use Rattle.tree.specs.Memory.{Memory, reads, isSet, Fit}
 use Rattle.tree.specs.Test.{Says}
@@ -50,11 +50,12 @@ pub record Shows (image : List ℕ) (t : Table) : Type 0 where
       → reads image (reelAt s) ≡ r .number → EachOnce (listing (geometryOf (reads image)) (reads image) s) (r .frames)
 
 module _ (g : Geometry) (m : Memory) where
-  -- a claim: a place on its frame's path, below the node's size, located and not set; its frame is not held in the reel
+  -- a claim: of a frame below 2^64, a place on its path, below the node's size, located and not set; its frame is not held in the reel
   pub record Claims (t : Target) (reel f : ℕ) : Type 0 where
     pub open-slot : Filled g m (t .slot)
     pub of-reel : m (reelAt (t .slot)) ≡ reel
     pub of-frame : t .frame ≡ f
+    pub word : f < 2 ^ 64
     pub depth : ℕ
     pub on-path : Reaches g m (t .slot) (wayOf depth f) (t .node)
     pub place : t .place < m (sizeAt g (t .node))

@@ -11,3 +11,4 @@ pub mod ReelLists
 pub mod Reels
 pub mod Views
 pub mod Reading
+pub mod Claiming

@@ -8,53 +8,40 @@ use native.Mathlib.Omega.{arith}
 use native.Mathlib.Decide.{ℕ-discrete}
 use lib.ListN.{length}
 use Rattle.tree.specs.Memory.{Memory, reads, isSet}
-use Rattle.tree.specs.Layout.{Geometry, geometryOf, mapWords, locateAt}
+use Rattle.tree.specs.Layout.{Geometry, geometryOf, locateAt}
 use Rattle.tree.specs.Node.{held}
 use Rattle.tree.specs.Reach.{FrameOf}
-use Rattle.tree.specs.Pool.{used}
-use Rattle.tree.proofs.Cases.{true-not-false}
 use Rattle.book.specs.declared.Target.{Target}
 use Rattle.book.specs.declared.HeadState.{HeadState}
-use Rattle.book.specs.declared.HeadState.the-variants.{Idle, Claimed, Filled}
+use Rattle.book.specs.declared.HeadState.the-variants.{Claimed}
 use Rattle.book.specs.Heads.{headCount, headAt, withHead, isIdle}
 use Rattle.book.specs.State.{State}
 use Rattle.book.specs.Table.{Table, TableHead, claimed, tableHead, withTableHead}
-use Rattle.book.specs.Agrees.{Reached, Shows, Claims, Written, HeadAgrees, both-idle, both-claimed, both-filled, About, by-claim, by-fill, ClaimsPlace, Agrees}
+use Rattle.book.specs.Agrees.{Reached, Shows, Claims, HeadAgrees, both-claimed, About, by-claim, ClaimsPlace, Agrees}
 use Rattle.book.specs.Ways.{SlotHas}
-use Rattle.book.proofs.View.{View}
+use Rattle.book.proofs.Reading.{sizesOf}
+use Rattle.book.proofs.Claims.{SameClaim, head-on, agrees-of}
 use Rattle.book.proofs.Level31.{one-target}
 use Rattle.book.proofs.Heads.{length-with, head-written, head-stays, idle-nothing, table-head-written, table-head-stays, length-with-table}
 
 -- what the tests of a granted claim say
-pub record Asked (g : Geometry) (s : State) (t : Table) (h reel f slot : ℕ) : Type 0 where
+pub record Asked (s : State) (t : Table) (h reel f slot : ℕ) : Type 0 where
   pub agrees : Agrees s t
-  pub geometry : geometryOf (reads (s .image)) ≡ g
   pub low : h < headCount
   pub idle : isIdle (headAt (s .heads) h) ≡ true
-  pub has : SlotHas g (reads (s .image)) reel slot
+  pub has : SlotHas (sizesOf (s .image)) (reads (s .image)) reel slot
   pub not-busy : (k : ℕ) {x : Target} → k < headCount → About x (headAt (s .heads) k) → x .slot ≢ slot
-  pub absent : FrameOf g (reads (s .image)) slot f → ⊥
+  pub absent : FrameOf (sizesOf (s .image)) (reads (s .image)) slot f → ⊥
 
 abbrev pub targetAt : (slot node place f : ℕ) → Target
 targetAt slot n p f = record { slot = slot; node = n; place = p; frame = f }
 
--- claims and what is written in them are carried from a memory to another
-pub record Carries (g : Geometry) (m m' : Memory) : Type 0 where
-  pub claims : {x : Target} {reel f : ℕ} → Claims g m x reel f → Claims g m' x reel f
-  pub written : {x : Target} {reel f : ℕ} → Claims g m x reel f → Written g m x f → Written g m' x f
-
-carried : {g : Geometry} {m m' : Memory} {x : HeadState} {y : TableHead} → Carries g m m' → HeadAgrees g m x y → HeadAgrees g m' x y
-carried c both-idle = both-idle
-carried c (both-claimed k) = both-claimed (c .claims k)
-carried c (both-filled k w) = both-filled (c .claims k) (c .written k w)
-
--- the image and the map after it, and the place that it takes
-pub record Lands (g : Geometry) (s : State) (t : Table) (reel f slot : ℕ) (im' pool' : List ℕ) (n p : ℕ) : Type 0 where
+-- the image after it, and the place that it takes, where there is a clear one
+pub record Lands (g : Geometry) (s : State) (t : Table) (reel f slot : ℕ) (im' : List ℕ) (n p : ℕ) : Type 0 where
   pub shows : Shows im' t
   pub geometry : geometryOf (reads im') ≡ g
-  pub map-words : length pool' ≡ length (s .pool)
-  pub marks : (k : ℕ) → (used pool' k ≡ true) ↔ Reached g (reads im') k
-  pub carries : Carries g (reads (s .image)) (reads im')
+  pub reached : (k : ℕ) → Reached g (reads (s .image)) k ↔ Reached g (reads im') k
+  pub carries : (x : Target) (reel f : ℕ) → Claims g (reads (s .image)) x reel f → SameClaim g (reads (s .image)) (reads im') x
   pub claims : Claims g (reads im') (targetAt slot n p f) reel f
   -- no head claims the place, and locate has the place besides those held and those claimed
   pub unclaimed : (k : ℕ) → ClaimsPlace (s .heads) k n p → ⊥
@@ -75,8 +62,11 @@ shows-heads h x v = record {
   frames = v .frames;
 }
 
-module _ {g : Geometry} {s : State} {t : Table} {h reel f slot n p : ℕ} {im' pool' : List ℕ}
-    (a : Asked g s t h reel f slot) (l : Lands g s t reel f slot im' pool' n p) where
+module _ {s : State} {t : Table} {h reel f slot n p : ℕ} {im' : List ℕ}
+    (a : Asked s t h reel f slot) (l : Lands (sizesOf (s .image)) s t reel f slot im' n p) where
+  abbrev g : Geometry
+  g = sizesOf (s .image)
+
   abbrev new : HeadState
   new = Claimed (targetAt slot n p f)
 
@@ -99,7 +89,7 @@ module _ {g : Geometry} {s : State} {t : Table} {h reel f slot n p : ℕ} {im' p
   heads-agree : (k : ℕ) → k < headCount → HeadAgrees g (reads im') (headAt heads' k) (tableHead (withTableHead t h (claimed reel f)) k)
   heads-agree k b = elim (ℕ-discrete k h) [
     | yes q ↦ rw (q, this, table-head-written t h (claimed reel f) (omega (arith, a .low, a .agrees .table-heads))) (both-claimed (l .claims))
-    | no q ↦ rw (other k q, table-head-stays t h k (claimed reel f) q) (carried (l .carries) (rw (a .geometry) at (a .agrees .heads k b)))
+    | no q ↦ rw (other k q, table-head-stays t h k (claimed reel f) q) (head-on (λ x r f b c. l .carries x r f c) (a .agrees .heads k b))
   ]
 
   -- no other head meets the new one
@@ -155,14 +145,13 @@ module _ {g : Geometry} {s : State} {t : Table} {h reel f slot n p : ℕ} {im' p
         λ e. elim e [ inl y ↦ u .1 (inl (inl y)) | inr y ↦ elim (c .0 y) [ inl z ↦ u .1 (inl (inr z)) | inr z ↦ u .1 (inr z) ] ],
       )
 
-  pub landed : Agrees (record { image = im'; pool = pool'; heads = heads' }) (withTableHead t h (claimed reel f))
-  landed = record {
-    shows = shows-heads h (claimed reel f) (l .shows);
-    map-words = l .map-words ∙ a .agrees .map-words ∙ ap mapWords (a .geometry ∙ sym (l .geometry));
-    marks = λ k. rw (l .geometry) (l .marks k);
+  pub landed : Agrees (record { image = im'; pool = s .pool; heads = heads' }) (withTableHead t h (claimed reel f))
+  landed = agrees-of (l .geometry) (shows-heads h (claimed reel f) (l .shows)) (record {
+    map-words = a .agrees .map-words;
+    marks = λ k. let u = a .agrees .marks k in (λ e. l .reached k .0 (u .0 e), λ r. u .1 (l .reached k .1 r));
     head-words = length-with (s .heads) h new fits-head ∙ a .agrees .head-words;
     table-heads = length-with-table t h (claimed reel f) ∙ a .agrees .table-heads;
-    heads = λ k b. rw (l .geometry) (heads-agree k b);
+    heads = heads-agree;
     apart = heads-apart;
-    locates = λ k q r b. rw (l .geometry) (heads-located k q (rw (l .geometry) at r) b);
-  }
+    locates = heads-located;
+  })

@@ -10,5 +10,11 @@ pub mod Stored
 pub mod ReelLists
 pub mod Reels
 pub mod Views
+pub mod Sames
+pub mod Showing
 pub mod Reading
+pub mod Keeps
+pub mod Claims
+pub mod Crashed
 pub mod Claiming
+pub mod Still

@@ -18,3 +18,4 @@ pub mod Claims
 pub mod Crashed
 pub mod Claiming
 pub mod Still
+pub mod StepClear

@@ -19,3 +19,4 @@ pub mod Crashed
 pub mod Claiming
 pub mod Still
 pub mod StepClear
+pub mod Making

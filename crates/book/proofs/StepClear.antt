@@ -143,3 +143,20 @@ module _ {s : State} {t : Table} {h reel f slot n p : ℕ} (d : ℕ) (a : Asked 
 
   pub agrees-clear : Agrees (record { image = im'; pool = s .pool; heads = withHead (s .heads) h (Claimed (targetAt slot n p f)) }) (withTableHead t h (claimed reel f))
   agrees-clear = landed a lands
+
+-- the same in a given geometry: the bit of a clear place on a frame's path is put on
+pub record Placed (g : Geometry) (s : State) (t : Table) (h reel f slot n p : ℕ) : Type 0 where
+  pub still : Still g (t .reels) (s .image) (set (s .image) (locateAt g n) (withBit (reads (s .image) (locateAt g n)) p))
+  pub agrees : Agrees (record {
+    image = set (s .image) (locateAt g n) (withBit (reads (s .image) (locateAt g n)) p);
+    pool = s .pool;
+    heads = withHead (s .heads) h (Claimed (targetAt slot n p f));
+  }) (withTableHead t h (claimed reel f))
+
+pub placed : {g : Geometry} {s : State} {t : Table} {h reel f slot n p : ℕ} (d : ℕ) → sizesOf (s .image) ≡ g → Asked s t h reel f slot
+    → Reaches g (reads (s .image)) slot (wayOf d f) n → p < reads (s .image) (sizeAt g n) → isSet (reads (s .image) (locateAt g n)) p ≡ false
+    → Placed g s t h reel f slot n p
+placed {s = s} {n = n} {p = p} d e a x l c =
+    let l' : p < reads (s .image) (sizeAt (sizesOf (s .image)) n) = rw e l in
+    let c' : isSet (reads (s .image) (locateAt (sizesOf (s .image)) n)) p ≡ false = rw e c in
+    rw (← e) (record { still = still-clear d a (rw (← e) at x) l' c'; agrees = agrees-clear d a (rw (← e) at x) l' c' })

@@ -1,13 +1,13 @@
 -- Images that a crash leaves of a script's segments.
 use mathlib.Core.Path.{_≡_, refl, sym, _∙_, ap, ap₂}
 use mathlib.Core.Logic.{_⊎_, inl, inr, _≢_}
-use mathlib.Core.List.{List, [], _∷_, map, List·Memᴰ, List·Memᴰ·head, List·Memᴰ·tail, List·Memᴰ·eq-of-singleton, List·Memᴰ·not-nil}
+use mathlib.Core.List.{List, [], _∷_, map, List·Memᴰ, List·Memᴰ·head, List·Memᴰ·tail, List·Memᴰ·eq-of-singleton}
 use Prim.Native.Nat.{ℕ, _^_, _≤_, _<_}
 use native.Mathlib.Omega.{arith}
 use native.Mathlib.Decide.{ℕ-discrete, decLt}
 use lib.ListN.{length, set, length-set}
 use lib.Seq.{getD-set-same, getD-set-other, set-out, ext-getD}
-use Rattle.tree.specs.Memory.{Memory, reads, Fit, Store, stores, apply, Torn, FallsIn, after-all, here, later}
+use Rattle.tree.specs.Memory.{Memory, reads, Store, stores, apply, Torn, FallsIn, after-all, here, later}
 use Rattle.tree.specs.Layout.{Geometry, editionAt, slotsAt, nodesAt}
 use Rattle.book.specs.Table.{Reel}
 use Rattle.book.proofs.View.{Header, View}

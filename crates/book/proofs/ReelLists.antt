@@ -1,17 +1,16 @@
 -- Lists of reels and of frames as an operation changes them: members, and that each is listed once.
 use mathlib.Core.Path.{_≡_, refl, sym, _∙_, ap, subst}
-use mathlib.Core.Bool.{Bool, true, false, cond, not}
+use mathlib.Core.Bool.{true, not}
 use mathlib.Core.Logic.{_⊎_, inl, inr, _↔_, _≢_}
-use mathlib.Core.List.{List, [], _∷_, map, Memᴰ·map, Memᴰ·of-map, Memᴰ·cast}
+use mathlib.Core.List.{List, [], _∷_, Memᴰ·map, Memᴰ·of-map, Memᴰ·cast}
 use mathlib.Core.List.{List·Memᴰ, List·Memᴰ·head, List·Memᴰ·tail, List·Memᴰ·cases-cons, List·Memᴰ·not-nil}
 use Prim.Native.Nat.{ℕ}
-use native.Mathlib.Omega.{arith}
 use lib.Dec.{eqb}
 use borrow.Author.Tests.{eqb-true, eqb-false, eq-eqb, ne-eqb, not-true}
 use Rattle.tree.specs.Lists.{keep, hasKey, Distinct, empty, onto}
 use Rattle.tree.proofs.Cases.{test, true-not-false, or-true, or-left, or-right}
 use Rattle.tree.proofs.Lists.{kept, keeps}
-use Rattle.tree.proofs.Distinct.{distinct-keep, distinct-map}
+use Rattle.tree.proofs.Distinct.{distinct-keep}
 use Rattle.book.specs.Table.{Reel, changeReel, changeFrames, joined, without}
 use Rattle.book.proofs.View.{OnceListed}
 
@@ -93,7 +92,8 @@ module _ (reel : ℕ) (change : List ℕ → List ℕ) where
   numbers-change empty = empty
   numbers-change (onto {xs = rs} a d) = onto (λ y z q. let t = was-reel rs z in a (t .0) (t .1) (ap (λ r. r .number) (t .2) ∙ q)) (numbers-change d)
 
-  pub once-change : {rs : List Reel} → ((fs : List ℕ) → Distinct (λ x. x) fs → Distinct (λ x. x) (change fs)) → OnceListed rs → OnceListed (changeFrames reel change rs)
+  pub once-change : {rs : List Reel} → ((fs : List ℕ) → Distinct (λ x. x) fs → Distinct (λ x. x) (change fs)) → OnceListed rs
+      → OnceListed (changeFrames reel change rs)
   once-change {rs} h o = record {
     numbers = numbers-change (o .numbers);
     frames = λ r x.

@@ -1,34 +1,30 @@
 -- The reels that a memory shows, through the changes of what is reached or held.
-use mathlib.Core.Path.{_≡_, refl, sym, _∙_, ap, ap₂, subst}
-use mathlib.Core.Bool.{Bool, true, false, cond, not}
-use mathlib.Core.Logic.{_⊎_, inl, inr, _↔_, _≢_}
+use mathlib.Core.Path.{_≡_, refl, sym, _∙_, ap, subst}
+use mathlib.Core.Bool.{not}
+use mathlib.Core.Logic.{inl, inr, _↔_, _≢_}
 use mathlib.Core.List.{List, [], _∷_, List·Memᴰ, List·Memᴰ·head, List·Memᴰ·tail, List·Memᴰ·cases-cons, List·Memᴰ·not-nil}
 use Prim.Native.Nat.{ℕ, suc, _+_, _*_, _≤_, _<_}
 use native.Mathlib.Omega.{arith}
 use native.Mathlib.Decide.{ℕ-discrete}
-use lib.ListN.{length}
 use lib.Dec.{eqb}
-use borrow.Author.Tests.{eqb-true, eqb-false, eq-eqb, ne-eqb}
-use Rattle.tree.specs.Memory.{Memory, reads}
+use borrow.Author.Tests.{eq-eqb, ne-eqb}
+use Rattle.tree.specs.Memory.{Memory}
 use Rattle.tree.specs.Lists.{keep}
-use Rattle.tree.specs.Layout.{Geometry, reelAt, rootAt, nodeAt, nextAt, setAt}
-use Rattle.tree.specs.Fingerprint.{Rule, ruleOf}
-use Rattle.tree.specs.Node.{wellFormed, frame}
+use Rattle.tree.specs.Layout.{Geometry, reelAt, rootAt, nodeAt}
+use Rattle.tree.specs.Fingerprint.{Rule}
+use Rattle.tree.specs.Node.{frame}
 use Rattle.tree.specs.Slots.{Filled}
-use Rattle.tree.specs.Reach.{Reaches, Holds, FrameOf}
+use Rattle.tree.specs.Reach.{Holds, FrameOf}
 use Rattle.tree.specs.Sound.{Sound}
-use Rattle.tree.specs.Same.{Same, Stores}
-use Rattle.tree.specs.Changes.{Opens, NewRoot, Links, Grown, Retired, Commits, Removes}
-use Rattle.tree.proofs.Cases.{test}
-use Rattle.tree.proofs.Reach.{slot-filled, one-node}
-use Rattle.tree.proofs.Same.{filled-on, filled-back}
-use Rattle.tree.proofs.Laws.{same-laws, change-laws}
+use Rattle.tree.specs.Same.{Stores}
+use Rattle.tree.specs.Changes.{Opens, NewRoot, Grown, Retired}
+use Rattle.tree.proofs.Reach.{slot-filled}
+use Rattle.tree.proofs.Laws.{change-laws}
 use Rattle.tree.proofs.Words.{beside-slots}
-use Rattle.book.specs.Table.{Reel, changeReel, changeFrames, joined, without}
+use Rattle.book.specs.Table.{Reel, changeReel, changeFrames}
 use Rattle.book.specs.Ways.{SlotHas}
-use Rattle.book.proofs.View.{Header, OnceListed, SameReels, View}
-use Rattle.book.proofs.Stored.{same-rule}
-use Rattle.book.proofs.ReelLists.{joined-members, joined-once, without-members, without-once, once-more, others-members, once-others, was-reel, is-reel, once-change}
+use Rattle.book.proofs.View.{SameReels}
+use Rattle.book.proofs.ReelLists.{others-members, was-reel, is-reel}
 
 -- ---- slots and frames, from what is held
 
@@ -38,7 +34,8 @@ pub record SameSlots (g : Geometry) (m m' : Memory) : Type 0 where
   pub reels : {s : ℕ} → Filled g m s → m (reelAt s) ≡ m' (reelAt s)
 
 -- what is held in the one is held in the other
-pub frames-to : {g : Geometry} {m m' : Memory} {s f : ℕ} → ((w : List ℕ) (n p : ℕ) → Holds g m s w n p f → Holds g m' s w n p f) → FrameOf g m s f → FrameOf g m' s f
+pub frames-to : {g : Geometry} {m m' : Memory} {s f : ℕ} → ((w : List ℕ) (n p : ℕ) → Holds g m s w n p f → Holds g m' s w n p f)
+    → FrameOf g m s f → FrameOf g m' s f
 frames-to h x = record { way = x .way; node = x .node; place = x .place; holds = h (x .way) (x .node) (x .place) (x .holds) }
 
 -- an empty slot has no frame
@@ -148,10 +145,13 @@ module _ {r : Rule} {g : Geometry} {m m' : Memory} {rs : List Reel} (d : Sound r
     where
       c : Grown r g m m' (NewRoot s n)
       c = change-laws m' d .opened a t
+
       back : (s' f : ℕ) → FrameOf g m' s' f → FrameOf g m s' f
       back s' f = frames-to (λ w n p h. c .holds .0 h)
+
       filled-now : Filled g m' s
       filled-now = record { inside = a .inside; linked = omega (arith, t .new) }
+
       this-slot : (s' : ℕ) → Filled g m' s' → m (reelAt s') ≡ m (reelAt s) → s' ≡ s
       this-slot s' b q = elim (ℕ-discrete s' s) [ yes e ↦ e | no e ↦ absurd (a .new-reel (other-back s t e b) q) ]
 
@@ -161,7 +161,8 @@ module _ {r : Rule} {g : Geometry} {m m' : Memory} {rs : List Reel} (d : Sound r
       λ x.
           let b = x .1 .open-slot in let o = other (x .0) b in
           let y = v .present reel .0 (x .0, record { open-slot = other-back s t o b; number = root-reel s t (x .0) ∙ x .1 .number }) in
-          (y .0, others-members (m (reelAt s)) rs .1 (y .1, λ q. o (d .reels (other-back s t o b) a (root-reel s t (x .0) ∙ x .1 .number ∙ sym (y .2) ∙ q))), y .2),
+          let ne : y .0 .number ≢ m (reelAt s) = λ q. o (d .reels (other-back s t o b) a (root-reel s t (x .0) ∙ x .1 .number ∙ sym (y .2) ∙ q)) in
+          (y .0, others-members (m (reelAt s)) rs .1 (y .1, ne), y .2),
       λ x.
           let z = others-members (m (reelAt s)) rs .0 (x .1) in
           let y = v .present reel .1 (x .0, z .0, x .2) in
@@ -176,5 +177,6 @@ module _ {r : Rule} {g : Geometry} {m m' : Memory} {rs : List Reel} (d : Sound r
     where
       c : Retired r g m m' s
       c = change-laws m' d .retired a t
+
       other : (s' : ℕ) → Filled g m' s' → s' ≢ s
       other s' b e = omega (arith, b .linked, t .new, ap (λ x. m' (rootAt x)) e)

@@ -1,22 +1,23 @@
 -- An image's view through the stores that change nothing of what is reached or held.
-use mathlib.Core.Path.{_≡_, refl, sym, _∙_, ap, subst}
-use mathlib.Core.Bool.{Bool, true, false}
-use mathlib.Core.Logic.{_⊎_, inl, inr, _↔_, _≢_}
+use mathlib.Core.Path.{_≡_, refl, sym, _∙_, ap}
+use mathlib.Core.Bool.{true, false}
+use mathlib.Core.Logic.{_⊎_, inl, inr, _≢_}
 use mathlib.Core.List.{List, []}
 use Prim.Native.Nat.{ℕ, _+_, _*_, _/_, _%_, _^_, _≤_, _<_}
 use native.Mathlib.Omega.{arith}
 use native.Mathlib.Decide.{ℕ-discrete}
 use lib.ListN.{length, set}
 use lib.Pow.{pow-mono}
-use Rattle.tree.specs.Memory.{Memory, reads, byte}
+use Rattle.tree.specs.Memory.{Memory, reads, byte, withByte}
 use Rattle.tree.specs.Layout.{Geometry, reelAt, rootAt, nodeAt, nextAt, locateAt, setAt, levelAt, sizeAt, fingerprintsAt, frameAt}
 use Rattle.tree.specs.Fingerprint.{Rule}
 use Rattle.tree.specs.Node.{formed, wellFormed, held}
 use Rattle.tree.specs.Slots.{Filled}
 use Rattle.tree.specs.Reach.{Reaches}
 use Rattle.tree.specs.Sound.{Sound}
-use Rattle.tree.specs.Same.{Same, SameLinks, SameFrames, SameWords, Stores}
+use Rattle.tree.specs.Same.{Same, SameFrames, SameWords, Stores}
 use Rattle.tree.specs.Laws.{WellFormed}
+use Rattle.tree.proofs.Memory.{byte-laws}
 use Rattle.tree.proofs.Cases.{true-not-false}
 use Rattle.tree.proofs.Nodes.{wellFormed-facts}
 use Rattle.tree.proofs.Words.{same-next, same-formed, same-frames, beside-node, beside-slots}
@@ -70,11 +71,14 @@ module _ (g : Geometry) {m m' : Memory} {i v : ℕ} (n k : ℕ) (high : k < 80) 
 
 module _ {g : Geometry} {im : List ℕ} {rs : List Reel} {s n : ℕ} {w : List ℕ} (v : View g im rs) (x : Reaches g (reads im) s w n) where
   -- a reached node is well formed, and its words are inside the image
-  node-formed : WellFormed g (reads im) (length w) n
+  pub node-formed : WellFormed g (reads im) (length w) n
   node-formed = wellFormed-facts g (reads im) (length w) n .0 (v .sound .well-formed x)
 
-  inside : (k : ℕ) → k < 80 → nodeAt g n + k < length im
-  inside k h = node-inside n k (v .header) (node-formed .inside) h
+  pub reached-inside : (k : ℕ) → k < 80 → nodeAt g n + k < length im
+  reached-inside k h = node-inside n k (v .header) (node-formed .inside) h
+
+  size-most : reads im (sizeAt g n) ≤ 64
+  size-most = elim (node-formed .size) [ inl q ↦ omega arith | inr q ↦ elim (q .1) [ inl e ↦ omega arith | inr e ↦ omega arith ] ]
 
   other-place : (j p : ℕ) → held g (reads im) n j ≡ true → held g (reads im) n p ≡ false → j ≢ p
   other-place j p z c q = true-not-false (rw q at z) c
@@ -83,21 +87,23 @@ module _ {g : Geometry} {im : List ℕ} {rs : List Reel} {s n : ℕ} {w : List �
       → (Stores (reads im) i u (reads (set im i u)) → SameFrames g (reads im) (reads (set im i u)) n × WellFormed g (reads (set im i u)) (length w) n)
       → View g (set im i u) rs
   view-set i k u e low high l f =
-      let h : i < length im = omega (arith, inside k high) in
+      let h : i < length im = omega (arith, reached-inside k high) in
       let t = stores-set im i u h in
       view-same v (header-set i u (v .header) (omega arith) h l) (same-but (v .sound) x low high e t (f t .0)) (formed-but (v .sound) x low high e t (f t .1))
 
-  pub view-locate : (u : ℕ) → u < 2 ^ reads im (sizeAt g n) → u < 2 ^ 64 → View g (set im (locateAt g n) u) rs
-  view-locate u h l = view-set (locateAt g n) 1 u refl (omega arith) (omega arith) l (λ t. (frames-kept g n 1 (omega arith) refl t (omega arith) (omega arith),
-      let size = t .old (sizeAt g n) (λ q. omega arith) in
-      record {
-        inside = node-formed .inside;
-        level = sym (t .old (levelAt g n) (λ q. omega arith)) ∙ node-formed .level;
-        size = rw (← size) (node-formed .size);
-        locate = rw (← size, t .new) h;
-        set = rw (← size, ← t .old (setAt g n) (λ q. omega arith)) (node-formed .set);
-        next = rw (← size, ← t .old (nextAt g n) (λ q. omega arith)) (node-formed .next);
-      }))
+  pub view-locate : (u : ℕ) → u < 2 ^ reads im (sizeAt g n) → View g (set im (locateAt g n) u) rs
+  view-locate u h = view-set (locateAt g n) 1 u refl (omega arith) (omega arith) (omega (arith, pow-mono size-most)) (λ t. (
+    frames-kept g n 1 (omega arith) refl t (omega arith) (omega arith),
+    let size = t .old (sizeAt g n) (λ q. omega arith) in
+        record {
+          inside = node-formed .inside;
+          level = sym (t .old (levelAt g n) (λ q. omega arith)) ∙ node-formed .level;
+          size = rw (← size) (node-formed .size);
+          locate = rw (← size, t .new) h;
+          set = rw (← size, ← t .old (setAt g n) (λ q. omega arith)) (node-formed .set);
+          next = rw (← size, ← t .old (nextAt g n) (λ q. omega arith)) (node-formed .next);
+        },
+  ))
 
   -- a place that is not held: its frame, and its fingerprint's byte
   pub view-frame : (p u : ℕ) → p < 64 → held g (reads im) n p ≡ false → u < 2 ^ 64 → View g (set im (frameAt g n p) u) rs
@@ -110,19 +116,22 @@ module _ {g : Geometry} {im : List ℕ} {rs : List Reel} {s n : ℕ} {w : List �
     formed-kept g n (16 + p) (omega arith) (omega arith) t (omega arith) node-formed,
   ))
 
-  pub view-fingerprint : (p u : ℕ) → p < 64 → held g (reads im) n p ≡ false → u < 2 ^ 64
-      → ((j : ℕ) → j ≢ p % 8 → byte u j ≡ byte (reads im (fingerprintsAt g n p)) j) → View g (set im (fingerprintsAt g n p) u) rs
-  view-fingerprint p u h c l same = view-set (fingerprintsAt g n p) (8 + p / 8) u (omega arith) (omega arith) (omega arith) l (λ t. (
-    record {
-      set = t .old (setAt g n) (λ q. omega arith);
-      frames = λ j k z. t .old (frameAt g n j) (λ q. omega arith);
-      fingerprints = λ j k z. elim (ℕ-discrete (j / 8) (p / 8)) [
-        | yes e ↦ rw (e, t .new) (sym (same (j % 8) (λ q. other-place j p z c (omega arith))))
-        | no e ↦ ap (λ w. byte w (j % 8)) (t .old (fingerprintsAt g n j) (λ q. e (omega arith)))
-      ];
-    },
-    formed-kept g n (8 + p / 8) (omega arith) (omega arith) t (omega arith) node-formed,
-  ))
+  pub view-fingerprint : (p b : ℕ) → p < 64 → held g (reads im) n p ≡ false → b < 256
+      → View g (set im (fingerprintsAt g n p) (withByte (reads im (fingerprintsAt g n p)) (p % 8) b)) rs
+  view-fingerprint p b h c l =
+      let i = fingerprintsAt g n p in
+      let fits = byte-laws .with-fits (reads im i) (p % 8) b 64 l (omega arith) (v .header .fits i) in
+      view-set i (8 + p / 8) _ (omega arith) (omega arith) (omega arith) fits (λ t. (
+        record {
+          set = t .old (setAt g n) (λ q. omega arith);
+          frames = λ j k z. t .old (frameAt g n j) (λ q. omega arith);
+          fingerprints = λ j k z. elim (ℕ-discrete (j / 8) (p / 8)) [
+            | yes e ↦ rw (e, t .new) (sym (byte-laws .with-keeps (reads im i) (p % 8) b (j % 8) l (λ q. other-place j p z c (omega arith))))
+            | no e ↦ ap (λ w. byte w (j % 8)) (t .old (fingerprintsAt g n j) (λ q. e (omega arith)))
+          ];
+        },
+        formed-kept g n (8 + p / 8) (omega arith) (omega arith) t (omega arith) node-formed,
+      ))
 
 -- a root that is scaled up
 scaled : {g : Geometry} {m m' : Memory} {n : ℕ} → WellFormed g m 0 n → m (nextAt g n) ≡ 0 → m (sizeAt g n) < 64

@@ -7,14 +7,14 @@ use Rattle.tree.specs.Memory.{Memory, reads}
 use Rattle.tree.specs.Lists.{Distinct, empty, onto}
 use Rattle.tree.specs.Layout.{Geometry, geometryOf, reelAt}
 use Rattle.tree.specs.Fingerprint.{Rule, ruleOf}
-use Rattle.tree.specs.Slots.{Filled, filledSlots, reelsPresent}
+use Rattle.tree.specs.Slots.{filledSlots, reelsPresent}
 use Rattle.tree.specs.Sound.{Sound}
 use Rattle.tree.proofs.Distinct.{distinct-by, distinct-map}
 use Rattle.tree.proofs.Laws.{slot-laws, tree-laws}
 use Rattle.book.specs.Table.{Table, Reel}
 use Rattle.book.specs.Agrees.{Shows}
 use Rattle.book.specs.Ways.{SlotHas}
-use Rattle.book.proofs.View.{Header, View}
+use Rattle.book.proofs.View.{View}
 
 -- ---- lists of numbers made from others
 

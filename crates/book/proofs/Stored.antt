@@ -1,5 +1,5 @@
 -- Images after a store: what is read of them, and their headers.
-use mathlib.Core.Path.{_≡_, refl, sym, _∙_, ap₂}
+use mathlib.Core.Path.{_≡_, refl, sym, _∙_}
 use mathlib.Core.List.{List}
 use Prim.Native.Nat.{ℕ, _+_, _^_, _≤_, _<_}
 use native.Mathlib.Omega.{arith}
@@ -7,7 +7,7 @@ use native.Mathlib.Decide.{ℕ-discrete}
 use lib.ListN.{length, set, length-set}
 use lib.Seq.{getD-set-same, getD-set-other}
 use Rattle.tree.specs.Memory.{Memory, reads, Fit}
-use Rattle.tree.specs.Layout.{Geometry, editionAt, slotsAt, nodesAt, geometryOf, nodeAt}
+use Rattle.tree.specs.Layout.{Geometry, editionAt, slotsAt, nodesAt, geometryOf, rootAt, nodeAt}
 use Rattle.tree.specs.Fingerprint.{ruleOf}
 use Rattle.tree.specs.Same.{Stores}
 use Rattle.book.proofs.View.{Header}
@@ -51,3 +51,6 @@ header-set {im = im} i v h l k f =
 -- the words of the slots and of the pool's nodes are inside the image
 pub node-inside : {g : Geometry} {im : List ℕ} (n k : ℕ) → Header g im → n < g .nodes → k < 80 → nodeAt g n + k < length im
 node-inside n k h l t = omega (arith, h .words)
+
+pub slot-inside : {g : Geometry} {im : List ℕ} (s : ℕ) → Header g im → s < g .slots → rootAt s < length im
+slot-inside s h l = omega (arith, h .words)

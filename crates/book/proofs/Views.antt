@@ -1,34 +1,29 @@
 -- An image's view through the stores that change what is reached or held.
-use mathlib.Core.Path.{_≡_, refl, sym, _∙_, ap, ap₂, subst}
-use mathlib.Core.Bool.{Bool, true, false, cond, not}
-use mathlib.Core.Logic.{_⊎_, inl, inr, _↔_, _≢_}
-use mathlib.Core.List.{List, [], _∷_, List·Memᴰ, List·Memᴰ·head, List·Memᴰ·tail, List·Memᴰ·cases-cons, List·Memᴰ·not-nil}
-use Prim.Native.Nat.{ℕ, suc, _+_, _*_, _≤_, _<_}
+use mathlib.Core.Path.{_≡_, refl, sym, _∙_, ap₂}
+use mathlib.Core.Bool.{true, not}
+use mathlib.Core.Logic.{inl, inr}
+use mathlib.Core.List.{List, [], _∷_}
+use Prim.Native.Nat.{ℕ, suc}
 use native.Mathlib.Omega.{arith}
-use native.Mathlib.Decide.{ℕ-discrete}
 use lib.ListN.{length}
 use lib.Dec.{eqb}
-use borrow.Author.Tests.{eqb-true, eqb-false, eq-eqb, ne-eqb}
-use Rattle.tree.specs.Memory.{Memory, reads}
+use Rattle.tree.specs.Memory.{reads}
 use Rattle.tree.specs.Lists.{keep}
-use Rattle.tree.specs.Layout.{Geometry, reelAt, rootAt, nodeAt, nextAt, setAt}
-use Rattle.tree.specs.Fingerprint.{Rule, ruleOf}
+use Rattle.tree.specs.Layout.{Geometry, reelAt, rootAt, nextAt, setAt}
+use Rattle.tree.specs.Fingerprint.{ruleOf}
 use Rattle.tree.specs.Node.{wellFormed, frame}
 use Rattle.tree.specs.Slots.{Filled}
 use Rattle.tree.specs.Reach.{Reaches, Holds, FrameOf}
 use Rattle.tree.specs.Sound.{Sound}
 use Rattle.tree.specs.Same.{Same, Stores}
-use Rattle.tree.specs.Changes.{Opens, NewRoot, Links, Grown, Retired, Commits, Removes}
-use Rattle.tree.proofs.Cases.{test}
+use Rattle.tree.specs.Changes.{Opens, Links, Commits, Removes}
 use Rattle.tree.proofs.Reach.{slot-filled, one-node}
 use Rattle.tree.proofs.Same.{filled-on, filled-back}
 use Rattle.tree.proofs.Laws.{same-laws, change-laws}
-use Rattle.tree.proofs.Words.{beside-slots}
-use Rattle.book.specs.Table.{Reel, changeReel, changeFrames, joined, without}
-use Rattle.book.specs.Ways.{SlotHas}
+use Rattle.book.specs.Table.{Reel, changeFrames, joined, without}
 use Rattle.book.proofs.View.{Header, OnceListed, SameReels, View}
 use Rattle.book.proofs.Stored.{same-rule}
-use Rattle.book.proofs.ReelLists.{joined-members, joined-once, without-members, without-once, once-more, others-members, once-others, was-reel, is-reel, once-change}
+use Rattle.book.proofs.ReelLists.{joined-members, joined-once, without-members, without-once, once-more, once-others, once-change}
 use Rattle.book.proofs.Reels.{SameSlots, frames-to, reels-same, reels-changed, node-slots, new-number, reels-opened, reels-retired}
 
 module _ {g : Geometry} {im im' : List ℕ} {rs : List Reel} (v : View g im rs) (h : Header g im') where
@@ -70,8 +65,8 @@ module _ {g : Geometry} {im im' : List ℕ} {rs : List Reel} (v : View g im rs) 
         ],
       )) (v .same))
 
-  pub view-removed : {s : ℕ} {w : List ℕ} {n p f x : ℕ} → Holds g (reads im) s w n p f → Removes g (reads im) s w n p x → Stores (reads im) (setAt g n) x (reads im')
-      → View g im' (changeFrames (reads im (reelAt s)) (without f) rs)
+  pub view-removed : {s : ℕ} {w : List ℕ} {n p f x : ℕ} → Holds g (reads im) s w n p f → Removes g (reads im) s w n p x
+      → Stores (reads im) (setAt g n) x (reads im') → View g im' (changeFrames (reads im (reelAt s)) (without f) rs)
   view-removed {s} {w} {n} {p} {f} b a t =
       let c = change-laws (reads im') (v .sound) .removed a t in
       view-of (c .sound) (once-change (reads im (reelAt s)) (without f) (without-once f) (v .once))
@@ -83,9 +78,12 @@ module _ {g : Geometry} {im im' : List ℕ} {rs : List Reel} (v : View g im rs) 
       (λ fs f' u. (
         λ x.
             let y = c .holds .0 (x .holds) in
-            without-members f fs .1 (u .0 (record { way = x .way; node = x .node; place = x .place; holds = y .0 }), λ q.
-            let o = v .sound .frame-once (rw q at (y .0)) b in
-            y .1 (one-node (rw (o .0) at (y .0 .there)) (b .there), o .1)),
+            without-members f fs .1 (
+              u .0 (record { way = x .way; node = x .node; place = x .place; holds = y .0 }),
+              λ q.
+                  let o = v .sound .frame-once (rw q at (y .0)) b in
+                  y .1 (one-node (rw (o .0) at (y .0 .there)) (b .there), o .1),
+            ),
         λ x.
             let z = without-members f fs .0 x in
             frames-to (λ w' n' p' y. c .holds .1 (y, λ e. z .1 (sym (y .is) ∙ ap₂ (λ n p. frame g (reads im) n p) (e .0) (e .1) ∙ b .is))) (u .1 (z .0)),

@@ -20,3 +20,4 @@ pub mod Claiming
 pub mod Still
 pub mod StepClear
 pub mod Making
+pub mod StepScale

@@ -72,8 +72,7 @@ module _ {s : State} {t : Table} {h reel f slot n p : ℕ} (d : ℕ) (a : Asked 
 
   pub still-clear : Still g (t .reels) (s .image) im'
   still-clear = record {
-    view = view-locate old-view x new (bit-laws .with-fits (m (locateAt g n)) p (m (sizeAt g n)) low (formed .locate))
-        (bit-laws .with-fits (m (locateAt g n)) p 64 low-64 (old-view .header .fits (locateAt g n)));
+    view = view-locate old-view x new (bit-laws .with-fits (m (locateAt g n)) p (m (sizeAt g n)) low (formed .locate));
     within = within-same same;
   }
 

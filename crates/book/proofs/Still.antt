@@ -76,3 +76,6 @@ still-self {g} {im = im} v = record { view = v; within = within-self g (reads im
 
 pub still-keeps : {g : Geometry} {rs : List Reel} {im im' : List ℕ} → View g im rs → Still g rs im im' → Keeps im im'
 still-keeps v a = keeps-of v (a .view .header) (record { reels = λ b b'. a .within .reels b'; held = λ x. inl (a .within .holds x) })
+
+pub still-on : {g : Geometry} {rs : List Reel} {im im' im'' : List ℕ} → Still g rs im im' → Still g rs im' im'' → Still g rs im im''
+still-on a b = record { view = b .view; within = within-on (a .within) (b .within) }

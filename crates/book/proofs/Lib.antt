@@ -21,3 +21,4 @@ pub mod Still
 pub mod StepClear
 pub mod Making
 pub mod StepScale
+pub mod NewNodes

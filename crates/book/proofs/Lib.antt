@@ -22,3 +22,4 @@ pub mod StepClear
 pub mod Making
 pub mod StepScale
 pub mod NewNodes
+pub mod StepBranch

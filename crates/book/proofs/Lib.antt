@@ -23,3 +23,4 @@ pub mod Making
 pub mod StepScale
 pub mod NewNodes
 pub mod StepBranch
+pub mod StepClaim

@@ -248,11 +248,11 @@ module _ {s : State} {t : Table} {h reel f slot d start : ℕ} (a : Asked s t h 
   locate-new : m2 (locateAt g node) ≡ 0
   locate-new = made2 (child d f) (child-laws .below d f deep) .0
 
-  pub path-branched : Reaches g m2 slot (wayOf (suc d) f) node
-  path-branched = rw (way-more d f) (new-there (child d f) (child-laws .below d f deep))
+  child-there : Reaches g m2 slot (wayOf (suc d) f) node
+  child-there = rw (way-more d f) (new-there (child d f) (child-laws .below d f deep))
 
   placed-there : Placed g (record { image = im2; pool = markAll (s .pool) ns; heads = s .heads }) t h reel f slot node 0
-  placed-there = placed (suc d) (still2 .view .header .geometry) (asked-made a makes) path-branched
+  placed-there = placed (suc d) (still2 .view .header .geometry) (asked-made a makes) child-there
       (omega (arith, made2 (child d f) (child-laws .below d f deep) .2)) (rw locate-new (no-bit 0))
 
   abbrev im3 : List ℕ
@@ -263,6 +263,9 @@ module _ {s : State} {t : Table} {h reel f slot d start : ℕ} (a : Asked s t h 
 
   still3 : Still g (t .reels) (s .image) im3
   still3 = still-on still2 (rw locate-new at (placed-there .still))
+
+  pub path-branched : Reaches g (reads im3) slot (wayOf (suc d) f) node
+  path-branched = let r = placed-there .ways child-there in rw locate-new at r
 
   pub through-branched : Through (Still g (t .reels) (s .image)) (s .image)
       (newNodes g (suc d) 64 ns ∷ map (λ z. z ∷ []) ((nextAt g parent, start + 1) ∷ (locateAt g node, withBit 0 0) ∷ []))

@@ -17,7 +17,7 @@ use Rattle.tree.specs.Laws.{WellFormed}
 use Rattle.tree.proofs.Cases.{true-not-false, not-false}
 use Rattle.tree.proofs.Memory.{bit-laws}
 use Rattle.tree.proofs.Same.{filled-on}
-use Rattle.tree.proofs.Laws.{node-laws, same-laws}
+use Rattle.tree.proofs.Laws.{same-laws}
 use Rattle.book.specs.declared.Target.{Target}
 use Rattle.book.specs.declared.HeadState.the-variants.{Claimed}
 use Rattle.book.specs.Heads.{withHead}
@@ -25,8 +25,8 @@ use Rattle.book.specs.State.{State}
 use Rattle.book.specs.Table.{Table, claimed, withTableHead}
 use Rattle.book.specs.Agrees.{Reached, Claims, ClaimsPlace, Agrees}
 use Rattle.book.proofs.View.{View}
-use Rattle.book.proofs.Stored.{stores-set, node-inside}
-use Rattle.book.proofs.Sames.{view-locate}
+use Rattle.book.proofs.Stored.{stores-set}
+use Rattle.book.proofs.Sames.{node-formed, reached-inside, view-locate}
 use Rattle.book.proofs.Showing.{shows-view, view-shows}
 use Rattle.book.proofs.Reading.{sizesOf, claim-inside}
 use Rattle.book.proofs.Claims.{SameClaim}
@@ -59,13 +59,13 @@ module _ {s : State} {t : Table} {h reel f slot n p : ℕ} (d : ℕ) (a : Asked 
   old-view = shows-view (a .agrees .shows)
 
   formed : WellFormed g m (length (wayOf d f)) n
-  formed = node-laws g m .facts (length (wayOf d f)) n .0 (old-view .sound .well-formed x)
+  formed = node-formed old-view x
 
   low-64 : p < 64
   low-64 = omega (arith, size-64 formed)
 
   stored : Stores m (locateAt g n) new m'
-  stored = stores-set (s .image) (locateAt g n) new (node-inside n 1 (old-view .header) (formed .inside) (omega arith))
+  stored = stores-set (s .image) (locateAt g n) new (reached-inside old-view x 1 (omega arith))
 
   same : Same g m m'
   same = same-word n 1 stored refl (omega arith) (omega arith) (omega arith)
@@ -140,12 +140,17 @@ module _ {s : State} {t : Table} {h reel f slot n p : ℕ} (d : ℕ) (a : Asked 
         );
   }
 
+  pub ways-clear : {i : ℕ} {w : List ℕ} {k : ℕ} → Reaches g m i w k → Reaches g m' i w k
+  ways-clear y = same-laws same .reaches .0 y
+
   pub agrees-clear : Agrees (record { image = im'; pool = s .pool; heads = withHead (s .heads) h (Claimed (targetAt slot n p f)) }) (withTableHead t h (claimed reel f))
   agrees-clear = landed a lands
 
 -- the same in a given geometry: the bit of a clear place on a frame's path is put on
 pub record Placed (g : Geometry) (s : State) (t : Table) (h reel f slot n p : ℕ) : Type 0 where
   pub still : Still g (t .reels) (s .image) (set (s .image) (locateAt g n) (withBit (reads (s .image) (locateAt g n)) p))
+  pub ways : {i : ℕ} {w : List ℕ} {k : ℕ} → Reaches g (reads (s .image)) i w k
+      → Reaches g (reads (set (s .image) (locateAt g n) (withBit (reads (s .image) (locateAt g n)) p))) i w k
   pub agrees : Agrees (record {
     image = set (s .image) (locateAt g n) (withBit (reads (s .image) (locateAt g n)) p);
     pool = s .pool;
@@ -158,4 +163,5 @@ pub placed : {g : Geometry} {s : State} {t : Table} {h reel f slot n p : ℕ} (d
 placed {s = s} {n = n} {p = p} d e a x l c =
     let l' : p < reads (s .image) (sizeAt (sizesOf (s .image)) n) = rw e l in
     let c' : isSet (reads (s .image) (locateAt (sizesOf (s .image)) n)) p ≡ false = rw e c in
-    rw (← e) (record { still = still-clear d a (rw (← e) at x) l' c'; agrees = agrees-clear d a (rw (← e) at x) l' c' })
+    let x' = rw (← e) at x in
+    rw (← e) (record { still = still-clear d a x' l' c'; ways = ways-clear d a x' l' c'; agrees = agrees-clear d a x' l' c' })

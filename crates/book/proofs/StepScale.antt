@@ -14,7 +14,7 @@ use Rattle.tree.specs.Reach.{Reaches}
 use Rattle.tree.specs.Same.{Same, Stores}
 use Rattle.tree.specs.Laws.{WellFormed}
 use Rattle.tree.proofs.Memory.{bit-laws}
-use Rattle.tree.proofs.Laws.{node-laws, same-laws}
+use Rattle.tree.proofs.Laws.{same-laws}
 use Rattle.book.specs.declared.Target.{Target}
 use Rattle.book.specs.declared.HeadState.the-variants.{Claimed}
 use Rattle.book.specs.Heads.{withHead}
@@ -23,7 +23,7 @@ use Rattle.book.specs.Table.{Table, claimed, withTableHead}
 use Rattle.book.specs.Agrees.{Reached, Claims, Agrees}
 use Rattle.book.proofs.View.{View}
 use Rattle.book.proofs.Stored.{stores-set, node-inside}
-use Rattle.book.proofs.Sames.{view-size}
+use Rattle.book.proofs.Sames.{node-formed, reached-inside, view-size}
 use Rattle.book.proofs.Showing.{shows-view}
 use Rattle.book.proofs.Crashed.{AfterEach}
 use Rattle.book.proofs.Reading.{sizesOf, claim-inside}
@@ -59,10 +59,10 @@ module _ {s : State} {t : Table} {h reel f slot n : ℕ} (a : Asked s t h reel f
   old-view = shows-view (a .agrees .shows)
 
   formed : WellFormed g m 0 n
-  formed = node-laws g m .facts 0 n .0 (old-view .sound .well-formed x)
+  formed = node-formed old-view x
 
   stored : Stores m (sizeAt g n) (2 * size) m'
-  stored = stores-set (s .image) (sizeAt g n) (2 * size) (node-inside n 4 (old-view .header) (formed .inside) (omega arith))
+  stored = stores-set (s .image) (sizeAt g n) (2 * size) (reached-inside old-view x 4 (omega arith))
 
   same : Same g m m'
   same = same-word n 4 stored refl (omega arith) (omega arith) (omega arith)

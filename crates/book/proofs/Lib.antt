@@ -24,3 +24,4 @@ pub mod StepScale
 pub mod NewNodes
 pub mod StepBranch
 pub mod StepClaim
+pub mod ClaimPlaced

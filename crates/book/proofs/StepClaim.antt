@@ -130,17 +130,17 @@ mark-none pool = refl
 
 -- ---- by the room
 
-abbrev workOf : State → (h f slot : ℕ) → Room → ℕ → Work
+abbrev pub workOf : State → (h f slot : ℕ) → Room → ℕ → Work
 workOf s h f slot r start = writing (claimScript (sizesOf (s .image)) (reads (s .image)) r start f) (record {
   image = s .image;
   pool = markAll (s .pool) (taken r start);
   heads = withHead (s .heads) h (Claimed (targetAt slot (placeIn r start f .node) (placeIn r start f .place) f));
 })
 
-record ClaimStep (s : State) (t : Table) (h reel f slot : ℕ) (r : Room) (start : ℕ) : Type 0 where
-  final : Agrees (carriedOut (workOf s h f slot r start)) (withTableHead t h (claimed reel f))
-  through : Through (Still (sizesOf (s .image)) (t .reels) (s .image)) (s .image) (claimScript (sizesOf (s .image)) (reads (s .image)) r start f)
-  takes : Takes (sizesOf (s .image)) (reads (s .image)) (reads (carriedOut (workOf s h f slot r start) .image)) slot f
+pub record ClaimStep (s : State) (t : Table) (h reel f slot : ℕ) (r : Room) (start : ℕ) : Type 0 where
+  pub final : Agrees (carriedOut (workOf s h f slot r start)) (withTableHead t h (claimed reel f))
+  pub through : Through (Still (sizesOf (s .image)) (t .reels) (s .image)) (s .image) (claimScript (sizesOf (s .image)) (reads (s .image)) r start f)
+  pub takes : Takes (sizesOf (s .image)) (reads (s .image)) (reads (carriedOut (workOf s h f slot r start) .image)) slot f
       (placeIn r start f .node) (placeIn r start f .place)
 
 module _ {s : State} {t : Table} {h reel f slot : ℕ} (a : Asked s t h reel f slot) where
@@ -191,7 +191,7 @@ module _ {s : State} {t : Table} {h reel f slot : ℕ} (a : Asked s t h reel f s
 -- ---- the step
 
 module _ {s : State} {t : Table} (a : Agrees s t) (words script h reel f : ℕ) (answered : perform (claim words script h reel f) s .answer ≡ 0) where
-  work-is : granted (claim words script h reel f) s ≡ workOf s h f (slotIn s reel) (roomIn s reel f) (startIn s (roomIn s reel f))
+  pub work-is : granted (claim words script h reel f) s ≡ workOf s h f (slotIn s reel) (roomIn s reel f) (startIn s (roomIn s reel f))
   unfolding granted
   work-is = refl
 
@@ -202,7 +202,7 @@ module _ {s : State} {t : Table} (a : Agrees s t) (words script h reel f : ℕ) 
   pub asked-now : Asked s t h reel f (slotIn s reel)
   asked-now = asked a (tests-passed s words script h reel f answered)
 
-  claim-step : ClaimStep s t h reel f (slotIn s reel) (roomIn s reel f) (startIn s (roomIn s reel f))
+  pub claim-step : ClaimStep s t h reel f (slotIn s reel) (roomIn s reel f) (startIn s (roomIn s reel f))
   claim-step =
       let b = asked-now .has .open-slot in
       let p = path-there (a .shows) b f in

@@ -1,12 +1,12 @@
 -- Where an answered claim's frame sits.
-use mathlib.Core.Path.{_≡_, refl, _∙_, ap}
-use mathlib.Core.List.{List, [], _∷_}
+use mathlib.Core.Path.{_≡_, refl, _∙_}
+use mathlib.Core.List.{[], _∷_}
 use Prim.Native.Nat.{ℕ, _+_, _*_, _≤_}
 use native.Mathlib.Omega.{arith}
 use lib.ListN.{length}
 use Rattle.tree.specs.Memory.{Fit}
 use Rattle.book.specs.declared.HeadState.the-variants.{Claimed}
-use Rattle.book.specs.State.{State, Work, claim}
+use Rattle.book.specs.State.{State, claim}
 use Rattle.book.specs.Perform.{placeIn, perform}
 use Rattle.book.specs.Table.{Table}
 use Rattle.book.specs.Agrees.{Agrees}
@@ -24,7 +24,7 @@ claim-placed {s} a words script h reel f fits answered =
     let target = targetAt (slotIn s reel) (place .node) (place .place) f in
     let b = asked-now a words script h reel f answered in
     let is : perform (claim words script h reel f) s .work ≡ workOf s h f (slotIn s reel) r (startIn s r) =
-        work-granted (claim words script h reel f) s answered ∙ work-is a words script h reel f answered in
+        work-granted (claim words script h reel f) s answered ∙ work-is s words script h reel f in
     let inside : 5 * h + 5 ≤ length (s .heads) = omega (arith, b .low, a .head-words) in
     record {
       target = target;

@@ -1,13 +1,13 @@
 -- A claim that is granted: what it asks of the book, and what makes the book agree with the table after it.
-use mathlib.Core.Path.{_≡_, refl, sym, _∙_, ap}
-use mathlib.Core.Bool.{true, false}
+use mathlib.Core.Path.{_≡_, sym, _∙_, ap}
+use mathlib.Core.Bool.{true}
 use mathlib.Core.Logic.{_⊎_, inl, inr, _↔_, _≢_}
 use mathlib.Core.List.{List}
 use Prim.Native.Nat.{ℕ, _+_, _*_, _≤_, _<_}
 use native.Mathlib.Omega.{arith}
 use native.Mathlib.Decide.{ℕ-discrete}
 use lib.ListN.{length}
-use Rattle.tree.specs.Memory.{Memory, reads, isSet}
+use Rattle.tree.specs.Memory.{reads, isSet}
 use Rattle.tree.specs.Layout.{Geometry, geometryOf, locateAt}
 use Rattle.tree.specs.Node.{held}
 use Rattle.tree.specs.Reach.{FrameOf}

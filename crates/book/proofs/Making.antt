@@ -1,11 +1,11 @@
 -- Room made for a claim, by a scale-up or a branch-out: the book agrees with the same table.
-use mathlib.Core.Path.{_≡_, refl, sym, _∙_, ap}
+use mathlib.Core.Path.{_≡_, refl, sym, _∙_}
 use mathlib.Core.Bool.{true}
 use mathlib.Core.Logic.{_⊎_, _↔_}
 use mathlib.Core.List.{List}
 use Prim.Native.Nat.{ℕ, _<_}
 use lib.ListN.{length}
-use Rattle.tree.specs.Memory.{Memory, reads, isSet}
+use Rattle.tree.specs.Memory.{reads, isSet}
 use Rattle.tree.specs.Layout.{Geometry, locateAt}
 use Rattle.tree.specs.Node.{held}
 use Rattle.tree.specs.Slots.{Filled}

@@ -1,8 +1,8 @@
 -- Nodes made anew, by one segment of stores to nodes that nothing reaches: what it leaves, torn and whole.
 use mathlib.Core.Path.{_≡_, refl, sym, _∙_, ap}
-use mathlib.Core.Logic.{_⊎_, inl, inr, _↔_}
+use mathlib.Core.Logic.{_⊎_, inl, inr}
 use mathlib.Core.List.{List, [], _∷_, flatMap, List·Memᴰ, List·Memᴰ·head, List·Memᴰ·tail, List·Memᴰ·cases-cons, List·Memᴰ·not-nil}
-use Prim.Native.Nat.{ℕ, zero, suc, _+_, _*_, _^_, _≤_, _<_}
+use Prim.Native.Nat.{ℕ, zero, suc, _+_, _^_, _≤_, _<_}
 use native.Mathlib.Omega.{arith}
 use native.Mathlib.Decide.{ℕ-discrete}
 use lib.ListN.{length, getD, set, length-set}
@@ -19,7 +19,7 @@ use Rattle.book.specs.Agrees.{Reached}
 use Rattle.book.proofs.View.{Header, View}
 use Rattle.book.proofs.Stored.{node-inside}
 use Rattle.book.proofs.Sames.{of-node}
-use Rattle.book.proofs.Crashed.{torn-whole, view-torn}
+use Rattle.book.proofs.Crashed.{view-torn}
 use Rattle.book.proofs.Still.{Still, same-words, within-same}
 
 -- the numbers of a range

@@ -3,15 +3,15 @@ use mathlib.Core.Path.{_≡_, refl, sym, _∙_, ap, subst}
 use mathlib.Core.Bool.{true, false}
 use mathlib.Core.Logic.{_⊎_, inl, inr, _↔_}
 use mathlib.Core.List.{List, [], _∷_, map, List·Memᴰ, Memᴰ·cast}
-use Prim.Native.Nat.{ℕ, suc, _+_, _-_, _*_, _%_, _^_, _≤_, _<_}
+use Prim.Native.Nat.{ℕ, suc, _+_, _-_, _%_, _^_, _≤_, _<_}
 use native.Mathlib.Omega.{arith}
 use lib.ListN.{length, set}
-use Rattle.tree.specs.Memory.{Memory, reads, isSet, withBit, byte, Store, stores, apply}
+use Rattle.tree.specs.Memory.{Memory, reads, isSet, withBit, byte, stores, apply}
 use Rattle.tree.specs.Test.{Says}
-use Rattle.tree.specs.Layout.{Geometry, inRange, nodeAt, nextAt, locateAt, setAt, levelAt, sizeAt, fingerprintsAt, frameAt}
+use Rattle.tree.specs.Layout.{Geometry, inRange, nodeAt, nextAt, locateAt, setAt, sizeAt, fingerprintsAt, frameAt}
 use Rattle.tree.specs.Path.{fanout, child, wayOf}
 use Rattle.tree.specs.Fingerprint.{ruleOf}
-use Rattle.tree.specs.Node.{wellFormed, held}
+use Rattle.tree.specs.Node.{held}
 use Rattle.tree.specs.Reach.{Reaches}
 use Rattle.tree.specs.Same.{Same, SameWords, Stores}
 use Rattle.tree.specs.Changes.{Fresh, Links, NewChild, Grown}
@@ -37,7 +37,7 @@ use Rattle.book.proofs.Showing.{shows-view}
 use Rattle.book.proofs.Crashed.{Through, through-each, torn-whole}
 use Rattle.book.proofs.Reading.{sizesOf, claim-inside}
 use Rattle.book.proofs.Claims.{SameClaim, about-claim}
-use Rattle.book.proofs.Still.{Within, within-on, within-frames, Still, still-on}
+use Rattle.book.proofs.Still.{within-frames, Still, still-on}
 use Rattle.book.proofs.Claiming.{Asked, targetAt}
 use Rattle.book.proofs.Making.{Makes, asked-made}
 use Rattle.book.proofs.StepClear.{Placed, placed}

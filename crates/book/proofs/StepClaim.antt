@@ -1,16 +1,16 @@
 -- The step of Claim.
-use mathlib.Core.Path.{_≡_, refl, sym, _∙_, ap, subst}
-use mathlib.Core.Bool.{true, false, not}
-use mathlib.Core.Logic.{_⊎_, inl, inr, _≢_}
+use mathlib.Core.Path.{_≡_, refl, sym, _∙_}
+use mathlib.Core.Bool.{true, false}
+use mathlib.Core.Logic.{_⊎_, inl, inr}
 use mathlib.Core.Option.{some}
 use mathlib.Core.List.{List, [], _∷_, map}
 use Prim.Native.Nat.{ℕ, suc, _+_, _*_, _≤_, _<_}
 use native.Mathlib.Omega.{arith}
-use lib.ListN.{length, set}
+use lib.ListN.{set}
 use borrow.Author.Tests as tests
-use Rattle.tree.specs.Memory.{Memory, reads, withBit, Store, Entry, stores, segmented, apply, isSome, Fit, CrashImage}
+use Rattle.tree.specs.Memory.{Memory, reads, withBit, Store, stores, segmented, apply, isSome, Fit, CrashImage}
 use Rattle.tree.specs.Layout.{Geometry, nextAt, locateAt, sizeAt}
-use Rattle.tree.specs.Path.{fanout, child, wayOf}
+use Rattle.tree.specs.Path.{fanout, child}
 use Rattle.tree.specs.Fingerprint.{ruleOf}
 use Rattle.tree.specs.Slots.{slotOf}
 use Rattle.tree.specs.Lookup.{Spot, pathFrom, find, freeRun}
@@ -28,7 +28,7 @@ use Rattle.book.specs.Table.{Table, claimed, withTableHead, tableWork}
 use Rattle.book.specs.Agrees.{Agrees}
 use Rattle.book.specs.Histories.{carriedOut}
 use Rattle.book.specs.Ways.{FullPath, LowestRun, Takes, first-clear, scaled-up, branched-out}
-use Rattle.book.proofs.Refusals.{Named, passes}
+use Rattle.book.proofs.Refusals.{passes}
 use Rattle.book.proofs.Performed.{answer-is}
 use Rattle.book.proofs.Heads.{names-about, busy-names}
 use Rattle.book.proofs.Reading.{sizesOf, path-there}
@@ -38,7 +38,7 @@ use Rattle.book.proofs.Showing.{shows-view, view-shows}
 use Rattle.book.proofs.Crashed.{Through, AfterEach, through-each, falls-through}
 use Rattle.book.proofs.Still.{Still, still-self, still-keeps}
 use Rattle.book.proofs.Step.{Step}
-use Rattle.book.proofs.Claiming.{Asked, targetAt, shows-heads}
+use Rattle.book.proofs.Claiming.{Asked, targetAt}
 use Rattle.book.proofs.NewNodes.{newNodes}
 use Rattle.book.proofs.StepClear.{agrees-clear, still-clear}
 use Rattle.book.proofs.StepScale.{agrees-scaled, each-scaled, size-scaled}
@@ -190,15 +190,16 @@ module _ {s : State} {t : Table} {h reel f slot : ℕ} (a : Asked s t h reel f s
 
 -- ---- the step
 
+pub work-is : (s : State) (words script h reel f : ℕ)
+    → granted (claim words script h reel f) s ≡ workOf s h f (slotIn s reel) (roomIn s reel f) (startIn s (roomIn s reel f))
+unfolding granted
+work-is s words script h reel f = refl
+
+table-is : (t : Table) (words script h reel f : ℕ) → tableWork (claim words script h reel f) t .after ≡ withTableHead t h (claimed reel f)
+unfolding tableWork
+table-is t words script h reel f = refl
+
 module _ {s : State} {t : Table} (a : Agrees s t) (words script h reel f : ℕ) (answered : perform (claim words script h reel f) s .answer ≡ 0) where
-  pub work-is : granted (claim words script h reel f) s ≡ workOf s h f (slotIn s reel) (roomIn s reel f) (startIn s (roomIn s reel f))
-  unfolding granted
-  work-is = refl
-
-  table-is : tableWork (claim words script h reel f) t .after ≡ withTableHead t h (claimed reel f)
-  unfolding tableWork
-  table-is = refl
-
   pub asked-now : Asked s t h reel f (slotIn s reel)
   asked-now = asked a (tests-passed s words script h reel f answered)
 

@@ -1,14 +1,14 @@
 -- A claim of a clear place: its locate bit is put on, and the head's record is written.
 use mathlib.Core.Path.{_≡_, refl, sym, _∙_, ap}
 use mathlib.Core.Bool.{true, false}
-use mathlib.Core.Logic.{_⊎_, inl, inr, _↔_, _≢_}
+use mathlib.Core.Logic.{_⊎_, inl, inr, _↔_}
 use mathlib.Core.List.{List}
-use Prim.Native.Nat.{ℕ, _+_, _*_, _%_, _^_, _≤_, _<_}
+use Prim.Native.Nat.{ℕ, _≤_, _<_}
 use native.Mathlib.Omega.{arith}
 use native.Mathlib.Decide.{ℕ-discrete}
 use lib.ListN.{length, set}
-use Rattle.tree.specs.Memory.{Memory, reads, isSet, withBit, byte}
-use Rattle.tree.specs.Layout.{Geometry, locateAt, setAt, sizeAt, fingerprintsAt, frameAt}
+use Rattle.tree.specs.Memory.{Memory, reads, isSet, withBit}
+use Rattle.tree.specs.Layout.{Geometry, locateAt, setAt, sizeAt}
 use Rattle.tree.specs.Path.{wayOf}
 use Rattle.tree.specs.Node.{held}
 use Rattle.tree.specs.Reach.{Reaches}
@@ -23,14 +23,14 @@ use Rattle.book.specs.declared.HeadState.the-variants.{Claimed}
 use Rattle.book.specs.Heads.{withHead}
 use Rattle.book.specs.State.{State}
 use Rattle.book.specs.Table.{Table, claimed, withTableHead}
-use Rattle.book.specs.Agrees.{Reached, Claims, ClaimsPlace, Agrees}
+use Rattle.book.specs.Agrees.{Reached, Claims, Agrees}
 use Rattle.book.proofs.View.{View}
 use Rattle.book.proofs.Stored.{stores-set}
 use Rattle.book.proofs.Sames.{node-formed, reached-inside, view-locate}
 use Rattle.book.proofs.Showing.{shows-view, view-shows}
 use Rattle.book.proofs.Reading.{sizesOf, claim-inside}
 use Rattle.book.proofs.Claims.{SameClaim}
-use Rattle.book.proofs.Still.{Still, within-same, within-frames, same-word}
+use Rattle.book.proofs.Still.{Still, within-same, within-frames, same-reached, same-word, claim-beside}
 use Rattle.book.proofs.Claiming.{Asked, Lands, targetAt, landed}
 
 -- the places of a node are below 64
@@ -96,16 +96,9 @@ module _ {s : State} {t : Table} {h reel f slot n p : ℕ} (d : ℕ) (a : Asked 
   here = record { slot = slot; way = wayOf d f; there = x }
 
   carries : (y : Target) (r f' : ℕ) → Claims g m y r f' → SameClaim g m m' y
-  carries y r f' c = record {
-    reel = same .reels (c .open-slot);
-    ways = λ z. same-laws same .reaches .0 z;
-    size = omega (arith, size-same (y .node));
-    locate = c .located ∙ sym (bits (y .node) (y .place) .1 (inl (c .located)));
-    set = held-same (y .node) (y .place);
-    frame = stored .old (frameAt g (y .node) (y .place)) (λ z. omega (arith, claim-inside (a .agrees .shows) c .1));
-    fingerprint = ap (λ w. byte w (y .place % 8)) (stored .old (fingerprintsAt g (y .node) (y .place)) (λ z. omega (arith, claim-inside (a .agrees .shows) c .1)));
-    frames = within-frames (within-same same);
-  }
+  carries y r f' c =
+      claim-beside n 1 stored refl (omega arith) (omega arith) (omega arith) (claim-inside (a .agrees .shows) c .1) (omega (arith, size-same (y .node)))
+      (c .located ∙ sym (bits (y .node) (y .place) .1 (inl (c .located)))) c
 
   claims : Claims g m' (targetAt slot n p f) reel f
   claims = record {
@@ -124,15 +117,12 @@ module _ {s : State} {t : Table} {h reel f slot n p : ℕ} (d : ℕ) (a : Asked 
   lands = record {
     shows = view-shows (still-clear .view) (a .agrees .shows .slots) (a .agrees .shows .nodes);
     geometry = still-clear .view .header .geometry;
-    reached = λ k. (
-      λ r. record { slot = r .slot; way = r .way; there = same-laws same .reaches .0 (r .there) },
-      λ r. record { slot = r .slot; way = r .way; there = same-laws same .reaches .1 (r .there) },
-    );
+    reached = same-reached same;
     carries = carries;
     claims = claims;
     unclaimed = λ k c. true-not-false (a .agrees .locates n p here low-64 .1 (inr (k, c))) clear;
     locates = λ k q r b.
-        let u = a .agrees .locates k q (record { slot = r .slot; way = r .way; there = same-laws same .reaches .1 (r .there) }) b in
+        let u = a .agrees .locates k q (same-reached same k .1 r) b in
         let e = bits k q in
         rw (← held-same k q) (
           λ z. elim (e .0 z) [ inl y ↦ inl (u .0 y) | inr y ↦ inr y ],

@@ -1,14 +1,12 @@
 -- A claim in a full root below size 64: the root is scaled up, then the old size is the place.
 use mathlib.Core.Path.{_≡_, refl, sym, _∙_, ap}
-use mathlib.Core.Bool.{true, false}
-use mathlib.Core.Logic.{_⊎_, inl, inr, _↔_}
 use mathlib.Core.List.{List, [], _∷_}
-use Prim.Native.Nat.{ℕ, _+_, _*_, _%_, _≤_, _<_}
+use Prim.Native.Nat.{ℕ, _*_, _≤_, _<_}
 use native.Mathlib.Omega.{arith}
 use native.Mathlib.Decide.{ℕ-discrete}
 use lib.ListN.{length, set}
-use Rattle.tree.specs.Memory.{Memory, reads, isSet, withBit, byte}
-use Rattle.tree.specs.Layout.{Geometry, nextAt, locateAt, setAt, sizeAt, fingerprintsAt, frameAt}
+use Rattle.tree.specs.Memory.{Memory, reads, isSet, withBit}
+use Rattle.tree.specs.Layout.{Geometry, nextAt, locateAt, setAt, sizeAt}
 use Rattle.tree.specs.Path.{wayOf}
 use Rattle.tree.specs.Reach.{Reaches}
 use Rattle.tree.specs.Same.{Same, Stores}
@@ -20,7 +18,7 @@ use Rattle.book.specs.declared.HeadState.the-variants.{Claimed}
 use Rattle.book.specs.Heads.{withHead}
 use Rattle.book.specs.State.{State}
 use Rattle.book.specs.Table.{Table, claimed, withTableHead}
-use Rattle.book.specs.Agrees.{Reached, Claims, Agrees}
+use Rattle.book.specs.Agrees.{Claims, Agrees}
 use Rattle.book.proofs.View.{View}
 use Rattle.book.proofs.Stored.{stores-set, node-inside}
 use Rattle.book.proofs.Sames.{node-formed, reached-inside, view-size}
@@ -28,7 +26,7 @@ use Rattle.book.proofs.Showing.{shows-view}
 use Rattle.book.proofs.Crashed.{AfterEach}
 use Rattle.book.proofs.Reading.{sizesOf, claim-inside}
 use Rattle.book.proofs.Claims.{SameClaim}
-use Rattle.book.proofs.Still.{Still, still-on, within-same, within-frames, same-word}
+use Rattle.book.proofs.Still.{Still, still-on, within-same, same-reached, same-word, claim-beside}
 use Rattle.book.proofs.Claiming.{Asked, targetAt}
 use Rattle.book.proofs.Making.{Makes, asked-made}
 use Rattle.book.proofs.StepClear.{Placed, placed}
@@ -74,32 +72,19 @@ module _ {s : State} {t : Table} {h reel f slot n : ℕ} (a : Asked s t h reel f
   ]
 
   carries : (y : Target) (r f' : ℕ) → Claims g m y r f' → SameClaim g m m' y
-  carries y r f' c = record {
-    reel = same .reels (c .open-slot);
-    ways = λ z. same-laws same .reaches .0 z;
-    size = larger (y .node);
-    locate = ap (λ w. isSet w (y .place)) (stored .old (locateAt g (y .node)) (λ z. omega arith));
-    set = ap (λ w. isSet w (y .place)) (stored .old (setAt g (y .node)) (λ z. omega arith));
-    frame = stored .old (frameAt g (y .node) (y .place)) (λ z. omega (arith, claim-inside (a .agrees .shows) c .1));
-    fingerprint = ap (λ w. byte w (y .place % 8)) (stored .old (fingerprintsAt g (y .node) (y .place)) (λ z. omega (arith, claim-inside (a .agrees .shows) c .1)));
-    frames = within-frames (within-same same);
-  }
-
-  reached : (k : ℕ) → Reached g m k ↔ Reached g m' k
-  reached k = (
-    λ r. record { slot = r .slot; way = r .way; there = same-laws same .reaches .0 (r .there) },
-    λ r. record { slot = r .slot; way = r .way; there = same-laws same .reaches .1 (r .there) },
-  )
+  carries y r f' c =
+      claim-beside n 4 stored refl (omega arith) (omega arith) (omega arith) (claim-inside (a .agrees .shows) c .1) (larger (y .node))
+      (ap (λ w. isSet w (y .place)) (stored .old (locateAt g (y .node)) (λ z. omega arith))) c
 
   makes : Makes g s t im' (s .pool)
   makes = record {
     still = record { view = view-size old-view x ends small; within = within-same same };
     map-words = refl;
-    marks = λ k. let u = a .agrees .marks k in (λ e. reached k .0 (u .0 e), λ r. u .1 (reached k .1 r));
+    marks = λ k. let u = a .agrees .marks k in (λ e. same-reached same k .0 (u .0 e), λ r. u .1 (same-reached same k .1 r));
     ways = λ z. same-laws same .reaches .0 z;
     carries = carries;
     locates = λ k q r b.
-        rw (← stored .old (locateAt g k) (λ z. omega arith), ← stored .old (setAt g k) (λ z. omega arith)) (a .agrees .locates k q (reached k .1 r) b);
+        rw (← stored .old (locateAt g k) (λ z. omega arith), ← stored .old (setAt g k) (λ z. omega arith)) (a .agrees .locates k q (same-reached same k .1 r) b);
   }
 
   locate-same : m (locateAt g n) ≡ m' (locateAt g n)

@@ -1,22 +1,25 @@
 -- Images that hold only what another one holds, in the same places, and show the same reels.
-use mathlib.Core.Path.{_≡_, refl, sym, _∙_, ap}
-use mathlib.Core.Logic.{inl, _≢_}
+use mathlib.Core.Path.{_≡_, refl, _∙_, ap}
+use mathlib.Core.Logic.{inl, _↔_, _≢_}
 use mathlib.Core.List.{List}
-use Prim.Native.Nat.{ℕ, _+_, _*_, _%_, _<_}
+use Prim.Native.Nat.{ℕ, _+_, _*_, _%_, _≤_, _<_}
 use native.Mathlib.Omega.{arith}
-use Rattle.tree.specs.Memory.{Memory, reads, byte}
-use Rattle.tree.specs.Layout.{Geometry, reelAt, rootAt, nodeAt, nextAt, setAt, fingerprintsAt, frameAt}
+use Rattle.tree.specs.Memory.{Memory, reads, isSet, byte}
+use Rattle.tree.specs.Layout.{Geometry, reelAt, rootAt, nodeAt, nextAt, locateAt, setAt, sizeAt, fingerprintsAt, frameAt}
 use Rattle.tree.specs.Slots.{Filled}
 use Rattle.tree.specs.Reach.{Reaches, Holds, FrameOf}
-use Rattle.tree.specs.Same.{Same, SameFrames, SameWords, Stores}
+use Rattle.tree.specs.Same.{Same, SameWords, Stores}
 use Rattle.tree.proofs.Same.{filled-back}
 use Rattle.tree.proofs.Words.{same-next, same-frames}
 use Rattle.tree.proofs.Laws.{same-laws}
+use Rattle.book.specs.declared.Target.{Target}
 use Rattle.book.specs.Table.{Reel}
+use Rattle.book.specs.Agrees.{Reached, Claims}
 use Rattle.book.proofs.View.{View}
 use Rattle.book.proofs.Reels.{frames-to}
 use Rattle.book.proofs.Step.{Keeps}
-use Rattle.book.proofs.Keeps.{Keeping, keeps-of}
+use Rattle.book.proofs.Claims.{SameClaim}
+use Rattle.book.proofs.Keeps.{keeps-of}
 
 -- ---- memories
 
@@ -42,6 +45,12 @@ within-on a b = record {
 pub within-frames : {g : Geometry} {m m' : Memory} {s f : ℕ} → Within g m m' → FrameOf g m' s f → FrameOf g m s f
 within-frames a = frames-to (λ w n p x. a .holds x)
 
+pub same-reached : {g : Geometry} {m m' : Memory} → Same g m m' → (n : ℕ) → Reached g m n ↔ Reached g m' n
+same-reached a n = (
+  λ r. record { slot = r .slot; way = r .way; there = same-laws a .reaches .0 (r .there) },
+  λ r. record { slot = r .slot; way = r .way; there = same-laws a .reaches .1 (r .there) },
+)
+
 -- ---- words that decide nothing of it
 
 -- a word of a node below its fingerprints, neither next nor set
@@ -54,6 +63,21 @@ same-word {g} n k t e l h d = record {
     frames = λ p b z. t .old (frameAt g j p) (λ q. omega arith);
     fingerprints = λ p b z. ap (λ w. byte w (p % 8)) (t .old (fingerprintsAt g j p) (λ q. omega arith));
   };
+}
+
+-- a claim through such a store, but for its node's size and its place's locate bit
+pub claim-beside : {g : Geometry} {m m' : Memory} {i v reel f : ℕ} {x : Target} (n k : ℕ) → Stores m i v m' → i ≡ nodeAt g n + k → 0 < k → k < 8 → k ≢ 2
+    → x .place < 64 → m (sizeAt g (x .node)) ≤ m' (sizeAt g (x .node))
+    → isSet (m (locateAt g (x .node))) (x .place) ≡ isSet (m' (locateAt g (x .node))) (x .place) → Claims g m x reel f → SameClaim g m m' x
+claim-beside {g} {x = x} n k t e l h d b size locate c = let a = same-word {g = g} n k t e l h d in record {
+  reel = a .reels (c .open-slot);
+  ways = λ r. same-laws a .reaches .0 r;
+  size = size;
+  locate = locate;
+  set = ap (λ w. isSet w (x .place)) (t .old (setAt g (x .node)) (λ q. d (omega arith)));
+  frame = t .old (frameAt g (x .node) (x .place)) (λ q. omega arith);
+  fingerprint = ap (λ w. byte w (x .place % 8)) (t .old (fingerprintsAt g (x .node) (x .place)) (λ q. omega arith));
+  frames = within-frames (within-same a);
 }
 
 -- the words of slots and of reached nodes alike

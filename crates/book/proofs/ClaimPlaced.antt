@@ -24,7 +24,7 @@ claim-placed {s} a words script h reel f fits answered =
     let target = targetAt (slotIn s reel) (place .node) (place .place) f in
     let b = asked-now a words script h reel f answered in
     let is : perform (claim words script h reel f) s .work ≡ workOf s h f (slotIn s reel) r (startIn s r) =
-        work-granted (claim words script h reel f) s answered ∙ work-is s words script h reel f in
+    work-granted (claim words script h reel f) s answered ∙ work-is s words script h reel f in
     let inside : 5 * h + 5 ≤ length (s .heads) = omega (arith, b .low, a .head-words) in
     record {
       target = target;

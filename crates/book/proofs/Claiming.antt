@@ -130,6 +130,7 @@ module _ {s : State} {t : Table} {h reel f slot n p : ℕ} {im' : List ℕ}
         | yes e ↦ let z = about-new (rw e at (c .about)) in inr (sym (c .node) ∙ ap (λ x. x .node) z, sym (c .place) ∙ ap (λ x. x .place) z)
         | no e ↦ inl (i, record { target = c .target; low = c .low; about = rw (other i e) at (c .about); node = c .node; place = c .place })
       ]
+
       back : ((i : ℕ) × ClaimsPlace (s .heads) i k q) ⊎ ((k ≡ n) × (q ≡ p)) → (i : ℕ) × ClaimsPlace heads' i k q
       back (inl (i, c)) =
           let e : i ≢ h = λ e. idle-nothing (a .idle) (rw e at (c .about)) in

@@ -22,6 +22,7 @@ pub mod StepClear
 pub mod Making
 pub mod StepScale
 pub mod NewNodes
+pub mod Branching
 pub mod StepBranch
 pub mod StepClaim
 pub mod ClaimPlaced

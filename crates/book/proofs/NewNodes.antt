@@ -132,8 +132,9 @@ module _ (g : Geometry) (level size : ℕ) where
     still-torn = record {
       view = view-torn v t (λ i u x.
           let y = within (λ n. newNode g n level size) ns x in
-          let o = word-of (y .inside) in
-          (of-node (y .from) (omega (arith, o .index, o .low)) (omega (arith, o .index, o .low)) (free (y .from) (y .member)),
-          rw (o .value) (value-fits (o .number) (o .low))));
+          let o = word-of (y .inside) in (
+            of-node (y .from) (omega (arith, o .index, o .low)) (omega (arith, o .index, o .low)) (free (y .from) (y .member)),
+            rw (o .value) (value-fits (o .number) (o .low)),
+          ));
       within = within-same same-torn;
     }

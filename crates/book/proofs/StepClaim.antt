@@ -85,8 +85,12 @@ asked {s} {t} {h} {reel} {f} a u =
       low = u .low;
       idle = u .idle;
       has = record { open-slot = b .0; number = b .1 };
-      not-busy = λ k {x} l c e. true-not-false (busy-names (s .heads) (slotIn s reel) .1 (k, l, names-about (slotIn s reel) (headAt (s .heads) k) .1 (x, c, e))) (u .not-busy);
-      absent = λ x. true-not-false (lookup-rule (ruleOf (reads (s .image))) (sizesOf (s .image)) (reads (s .image)) (a .shows .sound) (b .0) .yes f .1 x) (u .absent);
+      not-busy = λ k {x} l c e.
+          let names = names-about (slotIn s reel) (headAt (s .heads) k) .1 (x, c, e) in
+          true-not-false (busy-names (s .heads) (slotIn s reel) .1 (k, l, names)) (u .not-busy);
+      absent = λ x.
+          let rule = lookup-rule (ruleOf (reads (s .image))) (sizesOf (s .image)) (reads (s .image)) (a .shows .sound) (b .0) in
+          true-not-false (rule .yes f .1 x) (u .absent);
     }
 
 -- ---- scripts
@@ -212,7 +216,8 @@ module _ {s : State} {t : Table} (a : Agrees s t) (words script h reel f : ℕ) 
   -- whatever a crash leaves shows and holds what was there before
   crashed : (k : ℕ) (im' : List ℕ) → CrashImage (s .image) (segmented (granted (claim words script h reel f) s .script)) k im'
       → Still (sizesOf (s .image)) (t .reels) (s .image) im'
-  crashed k im' c = falls-through (Still (sizesOf (s .image)) (t .reels) (s .image)) (crash-laws .falls-in (s .image) _ k im' c) (rw work-is (claim-step .through))
+  crashed k im' c =
+      falls-through (Still (sizesOf (s .image)) (t .reels) (s .image)) (crash-laws .falls-in (s .image) _ k im' c) (rw work-is (claim-step .through))
 
   step : Step (claim words script h reel f) s t
   step = record {
@@ -221,6 +226,6 @@ module _ {s : State} {t : Table} (a : Agrees s t) (words script h reel f : ℕ) 
     keeps = λ k im' c. still-keeps (shows-view (a .shows)) (crashed k im' c);
   }
 
-pub step-claim : {s : State} {t : Table} → Agrees s t → (words script h reel f : ℕ) → Fit (h ∷ reel ∷ f ∷ []) → perform (claim words script h reel f) s .answer ≡ 0
-    → Step (claim words script h reel f) s t
+pub step-claim : {s : State} {t : Table} → Agrees s t → (words script h reel f : ℕ) → Fit (h ∷ reel ∷ f ∷ [])
+    → perform (claim words script h reel f) s .answer ≡ 0 → Step (claim words script h reel f) s t
 step-claim a words script h reel f fits answered = step a words script h reel f answered

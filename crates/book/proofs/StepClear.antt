@@ -133,7 +133,8 @@ module _ {s : State} {t : Table} {h reel f slot n p : ℕ} (d : ℕ) (a : Asked 
   pub ways-clear : {i : ℕ} {w : List ℕ} {k : ℕ} → Reaches g m i w k → Reaches g m' i w k
   ways-clear y = same-laws same .reaches .0 y
 
-  pub agrees-clear : Agrees (record { image = im'; pool = s .pool; heads = withHead (s .heads) h (Claimed (targetAt slot n p f)) }) (withTableHead t h (claimed reel f))
+  pub agrees-clear : Agrees (record { image = im'; pool = s .pool; heads = withHead (s .heads) h (Claimed (targetAt slot n p f)) })
+      (withTableHead t h (claimed reel f))
   agrees-clear = landed a lands
 
 -- the same in a given geometry: the bit of a clear place on a frame's path is put on

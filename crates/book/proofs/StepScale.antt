@@ -84,20 +84,23 @@ module _ {s : State} {t : Table} {h reel f slot n : ℕ} (a : Asked s t h reel f
     ways = λ z. same-laws same .reaches .0 z;
     carries = carries;
     locates = λ k q r b.
-        rw (← stored .old (locateAt g k) (λ z. omega arith), ← stored .old (setAt g k) (λ z. omega arith)) (a .agrees .locates k q (same-reached same k .1 r) b);
+        rw (← stored .old (locateAt g k) (λ z. omega arith), ← stored .old (setAt g k) (λ z. omega arith))
+        (a .agrees .locates k q (same-reached same k .1 r) b);
   }
 
   locate-same : m (locateAt g n) ≡ m' (locateAt g n)
   locate-same = stored .old (locateAt g n) (λ z. omega arith)
 
   placed-there : Placed g (record { image = im'; pool = s .pool; heads = s .heads }) t h reel f slot n size
-  placed-there = placed 0 (makes .still .view .header .geometry) (asked-made a makes) (rw (top-way f) (same-laws same .reaches .0 x)) (omega (arith, stored .new))
+  placed-there =
+      placed 0 (makes .still .view .header .geometry) (asked-made a makes) (rw (top-way f) (same-laws same .reaches .0 x)) (omega (arith, stored .new))
       (rw (← locate-same) (bit-laws .none-above (m (locateAt g n)) size size (formed .locate) (omega arith)))
 
   abbrev last : List ℕ
   last = set im' (locateAt g n) (withBit (m (locateAt g n)) size)
 
-  pub agrees-scaled : Agrees (record { image = last; pool = s .pool; heads = withHead (s .heads) h (Claimed (targetAt slot n size f)) }) (withTableHead t h (claimed reel f))
+  pub agrees-scaled : Agrees (record { image = last; pool = s .pool; heads = withHead (s .heads) h (Claimed (targetAt slot n size f)) })
+      (withTableHead t h (claimed reel f))
   agrees-scaled = rw locate-same (placed-there .agrees)
 
   pub each-scaled : AfterEach (Still g (t .reels) (s .image)) (s .image) ((sizeAt g n, 2 * size) ∷ (locateAt g n, withBit (m (locateAt g n)) size) ∷ [])

@@ -43,3 +43,14 @@ pub mod StepRead
 pub mod Placed
 pub mod StepFill
 pub mod StepRemove
+pub mod Claiming
+pub mod Still
+pub mod StepClear
+pub mod Making
+pub mod StepScale
+pub mod NewNodes
+pub mod Branching
+pub mod StepBranch
+pub mod StepClaim
+pub mod ClaimPlaced
+pub mod Demands

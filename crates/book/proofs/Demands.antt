@@ -1,0 +1,46 @@
+-- The demands, proved: a proof for each statement of specs/Demands.antt.
+use Rattle.book.specs.Demands.{Demand2, Demand3, Placed}
+pub use Rattle.book.proofs.Demand1.{demand1}
+pub use Rattle.book.proofs.MemoryLaws.{scripts}
+use Rattle.book.proofs.Assembly.{Scripted, opens, claims, fills, commits, abandons, removes, asks, lists, retires, Steps, demand2-from, demand3-from}
+use Rattle.book.proofs.StepOpen.{step-open}
+use Rattle.book.proofs.StepClaim.{step-claim}
+use Rattle.book.proofs.StepFill.{step-fill}
+use Rattle.book.proofs.StepCommit.{step-commit}
+use Rattle.book.proofs.StepAbandon.{step-abandon}
+use Rattle.book.proofs.StepRemove.{step-remove}
+use Rattle.book.proofs.StepRead.{step-has, step-list}
+use Rattle.book.proofs.StepRetire.{step-retire}
+use Rattle.book.proofs.ClaimPlaced.{claim-placed}
+use Rattle.book.proofs.Placed.{placed-from}
+use Prim.Native.Nat.{ℕ}
+use mathlib.Core.Path.{_≡_}
+use Rattle.tree.specs.Memory.{Fit}
+use Rattle.book.specs.State.{State, Operation, arguments}
+use Rattle.book.specs.Perform.{perform}
+use Rattle.book.specs.Table.{Table}
+use Rattle.book.specs.Agrees.{Agrees}
+use Rattle.book.proofs.Step.{Step}
+
+step : {s : State} {t : Table} {op : Operation} → Agrees s t → Scripted op → Fit (arguments op) → perform op s .answer ≡ 0 → Step op s t
+step a (opens {words} {script} {reel}) fit answered = step-open a words script reel fit answered
+step a (claims {words} {script} {h} {reel} {f}) fit answered = step-claim a words script h reel f fit answered
+step a (fills {script} {h}) fit answered = step-fill a script h fit answered
+step a (commits {script} {h}) fit answered = step-commit a script h fit answered
+step a (abandons {script} {h}) fit answered = step-abandon a script h fit answered
+step a (removes {script} {reel} {f}) fit answered = step-remove a script reel f fit answered
+step a (asks {reel} {f}) fit answered = step-has a reel f
+step a (lists {scratch} {room} {reel}) fit answered = step-list a scratch room reel
+step a (retires {words} {scratch} {script} {reel}) fit answered = step-retire a words scratch script reel fit answered
+
+steps : Steps
+steps = record { step = step }
+
+pub demand2 : Demand2
+demand2 = demand2-from steps
+
+pub demand3 : Demand3
+demand3 = demand3-from steps
+
+pub placed : Placed
+placed = placed-from steps (record { placed = claim-placed })

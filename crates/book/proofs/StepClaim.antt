@@ -1,0 +1,232 @@
+-- The step of Claim.
+use mathlib.Core.Path.{_≡_, refl, sym, _∙_}
+use mathlib.Core.Bool.{true, false}
+use mathlib.Core.Logic.{_⊎_, inl, inr}
+use mathlib.Core.Option.{some}
+use mathlib.Core.List.{List, [], _∷_, map}
+use Prim.Native.Nat.{ℕ, suc, _+_, _*_, _^_, _≤_, _<_}
+use native.Mathlib.Omega.{arith}
+use lib.ListN.{set}
+use borrow.Author.Tests as tests
+use Rattle.tree.specs.Memory.{Memory, reads, withBit, Store, stores, segmented, apply, isSome, Fit, CrashImage}
+use Rattle.tree.specs.Layout.{Geometry, nextAt, locateAt, sizeAt}
+use Rattle.tree.specs.Path.{fanout, child}
+use Rattle.tree.specs.Fingerprint.{ruleOf}
+use Rattle.tree.specs.Slots.{slotOf}
+use Rattle.tree.specs.Lookup.{Spot, pathFrom, find, freeRun}
+use Rattle.tree.specs.Pool.{markAll}
+use Rattle.tree.proofs.Cases.{true-not-false}
+use Rattle.tree.proofs.Memory.{apply-laws, crash-laws}
+use Rattle.tree.proofs.Laws.{slot-laws, lookup-rule, child-laws}
+use Rattle.book.specs.declared.HeadState.the-variants.{Claimed}
+use Rattle.book.specs.Heads.{headCount, headAt, isIdle, busy, withHead}
+use Rattle.book.specs.State.{State, Work, claim}
+use Rattle.book.specs.Room.{Room, clear, scaleUp, branchOut, roomOn, needs}
+use Rattle.book.specs.Checks.{refusals}
+use Rattle.book.specs.Perform.{placeIn, roomScript, claimScript, taken, group, writing, granted, perform}
+use Rattle.book.specs.Table.{Table, claimed, withTableHead, tableWork}
+use Rattle.book.specs.Agrees.{Agrees}
+use Rattle.book.specs.Histories.{carriedOut}
+use Rattle.book.specs.Ways.{FullPath, LowestRun, Takes, first-clear, scaled-up, branched-out}
+use Rattle.book.proofs.Refusals.{passes}
+use Rattle.book.proofs.Performed.{answer-is}
+use Rattle.book.proofs.Heads.{names-about, busy-names}
+use Rattle.book.proofs.Reading.{sizesOf, path-there}
+use Rattle.book.proofs.Rooms.{ScaleRoom, RoomIs, room-is}
+use Rattle.book.proofs.Level31.{full-above-31, lowest-run}
+use Rattle.book.proofs.Showing.{shows-view, view-shows}
+use Rattle.book.proofs.Crashed.{Through, AfterEach, through-each, falls-through}
+use Rattle.book.proofs.Still.{Still, still-self, still-keeps}
+use Rattle.book.proofs.Step.{Step}
+use Rattle.book.proofs.Claiming.{Asked, targetAt}
+use Rattle.book.proofs.NewNodes.{newNodes}
+use Rattle.book.proofs.StepClear.{agrees-clear, still-clear}
+use Rattle.book.proofs.StepScale.{agrees-scaled, each-scaled, size-scaled}
+use Rattle.book.proofs.StepBranch.{agrees-branched, through-branched, path-branched}
+
+-- ---- what the tests say
+
+abbrev pub slotIn : State → ℕ → ℕ
+slotIn s reel = slotOf (sizesOf (s .image)) (reads (s .image)) reel
+
+abbrev pub roomIn : State → (reel f : ℕ) → Room
+roomIn s reel f = roomOn (sizesOf (s .image)) (reads (s .image)) (pathFrom (sizesOf (s .image)) (reads (s .image)) (slotIn s reel) f)
+
+-- the first node that a room takes from the pool
+abbrev pub startIn : State → Room → ℕ
+startIn s r = freeRun (sizesOf (s .image)) (reads (s .pool)) (needs r)
+
+record Tests (s : State) (h reel f : ℕ) : Type 0 where
+  low : h < headCount
+  idle : isIdle (headAt (s .heads) h) ≡ true
+  slot : slotIn s reel < sizesOf (s .image) .slots
+  not-busy : busy (s .heads) (slotIn s reel) ≡ false
+  absent : isSome (find (ruleOf (reads (s .image))) (sizesOf (s .image)) (reads (s .image)) (slotIn s reel) f) ≡ false
+  run : (needs (roomIn s reel f) ≤ 0) ⊎ (startIn s (roomIn s reel f) < sizesOf (s .image) .nodes)
+
+tests-passed : (s : State) (words script h reel f : ℕ) → perform (claim words script h reel f) s .answer ≡ 0 → Tests s h reel f
+unfolding refusals
+tests-passed s words script h reel f e =
+    let p = passes (refusals (claim words script h reel f) s) (omega arith) (sym (answer-is (claim words script h reel f) s) ∙ e) .1 .1 .1 in
+    record {
+      low = p .0;
+      idle = tests.not-false _ (p .1 .0);
+      slot = p .1 .1 .0;
+      not-busy = p .1 .1 .1 .0;
+      absent = p .1 .1 .1 .1 .1 .0;
+      run = p .1 .1 .1 .1 .1 .1 .0;
+    }
+
+asked : {s : State} {t : Table} {h reel f : ℕ} → Agrees s t → f < 2 ^ 64 → Tests s h reel f → Asked s t h reel f (slotIn s reel)
+asked {s} {t} {h} {reel} {f} a fit u =
+    let b = slot-laws (sizesOf (s .image)) (reads (s .image)) .reel reel (u .slot) in
+    record {
+      agrees = a;
+      low = u .low;
+      idle = u .idle;
+      has = record { open-slot = b .0; number = b .1 };
+      not-busy = λ k {x} l c e.
+          let names = names-about (slotIn s reel) (headAt (s .heads) k) .1 (x, c, e) in
+          true-not-false (busy-names (s .heads) (slotIn s reel) .1 (k, l, names)) (u .not-busy);
+      word = fit;
+      absent = λ x.
+          let rule = lookup-rule (ruleOf (reads (s .image))) (sizesOf (s .image)) (reads (s .image)) (a .shows .sound) (b .0) in
+          true-not-false (rule .yes f .1 x) (u .absent);
+    }
+
+-- ---- scripts
+
+-- an image with stores carried out in turn
+abbrev setAll : List ℕ → List Store → List ℕ
+setAll im [] = im
+setAll im (z ∷ zs) = setAll (set im (z .0) (z .1)) zs
+
+abbrev single : List Store → List (List Store)
+single zs = map (λ z. z ∷ []) zs
+
+apply-single : (im : List ℕ) (zs : List Store) → apply im (segmented (single zs)) ≡ setAll im zs
+unfolding apply segmented stores
+apply-single im [] = refl
+apply-single im (z ∷ zs) = apply-single (set im (z .0) (z .1)) zs
+
+apply-first : (im : List ℕ) (seg : List Store) (segs : List (List Store))
+    → apply im (segmented (seg ∷ segs)) ≡ apply (apply im (stores seg)) (segmented segs)
+unfolding apply segmented
+apply-first im seg segs = apply-laws .in-turn im (stores seg) _
+
+module _ (g : Geometry) (m : Memory) (start f : ℕ) where
+  script-clear : (t : Spot) → claimScript g m (clear t) start f ≡ single ((locateAt g (t .node), withBit (m (locateAt g (t .node))) (t .place)) ∷ [])
+  unfolding claimScript roomScript
+  script-clear t = refl
+
+  script-scale : (n size : ℕ) → claimScript g m (scaleUp n size) start f
+      ≡ single ((sizeAt g n, 2 * size) ∷ (locateAt g n, withBit (m (locateAt g n)) size) ∷ [])
+  unfolding claimScript roomScript
+  script-scale n size = refl
+
+  script-branch : (parent d : ℕ) → claimScript g m (branchOut parent d) start f
+      ≡ newNodes g (suc d) 64 (group start d) ∷ single ((nextAt g parent, start + 1) ∷ (locateAt g (start + child d f), withBit 0 0) ∷ [])
+  unfolding claimScript roomScript
+  script-branch parent d = refl
+
+mark-none : (pool : List ℕ) → markAll pool [] ≡ pool
+unfolding markAll
+mark-none pool = refl
+
+-- ---- by the room
+
+abbrev pub workOf : State → (h f slot : ℕ) → Room → ℕ → Work
+workOf s h f slot r start = writing (claimScript (sizesOf (s .image)) (reads (s .image)) r start f) (record {
+  image = s .image;
+  pool = markAll (s .pool) (taken r start);
+  heads = withHead (s .heads) h (Claimed (targetAt slot (placeIn r start f .node) (placeIn r start f .place) f));
+})
+
+pub record ClaimStep (s : State) (t : Table) (h reel f slot : ℕ) (r : Room) (start : ℕ) : Type 0 where
+  pub final : Agrees (carriedOut (workOf s h f slot r start)) (withTableHead t h (claimed reel f))
+  pub through : Through (Still (sizesOf (s .image)) (t .reels) (s .image)) (s .image) (claimScript (sizesOf (s .image)) (reads (s .image)) r start f)
+  pub takes : Takes (sizesOf (s .image)) (reads (s .image)) (reads (carriedOut (workOf s h f slot r start) .image)) slot f
+      (placeIn r start f .node) (placeIn r start f .place)
+
+module _ {s : State} {t : Table} {h reel f slot : ℕ} (a : Asked s t h reel f slot) where
+  abbrev g : Geometry
+  g = sizesOf (s .image)
+
+  abbrev m : Memory
+  m = reads (s .image)
+
+  start-view : Still g (t .reels) (s .image) (s .image)
+  start-view = still-self (shows-view (a .agrees .shows))
+
+  each : (zs : List Store) → AfterEach (Still g (t .reels) (s .image)) (s .image) zs → Through (Still g (t .reels) (s .image)) (s .image) (single zs)
+  each zs b = through-each (Still g (t .reels) (s .image)) (s .image) zs start-view b
+
+  scaled : {n : ℕ} (start : ℕ) → ScaleRoom g m slot f n (m (sizeAt g n)) → ClaimStep s t h reel f slot (scaleUp n (m (sizeAt g n))) start
+  scaled {n} start c =
+      let some : 0 < m (sizeAt g n) = elim (c .small) [ inl e ↦ omega arith | inr e ↦ omega arith ] in
+      let small : m (sizeAt g n) < 64 = elim (c .small) [ inl e ↦ omega arith | inr e ↦ omega arith ] in
+      record {
+        final = rw (script-scale, apply-single, mark-none) (agrees-scaled a (c .there) (c .ends) some small);
+        through = rw script-scale (each ((sizeAt g n, 2 * m (sizeAt g n)) ∷ (locateAt g n, withBit (m (locateAt g n)) (m (sizeAt g n))) ∷ [])
+            (each-scaled a (c .there) (c .ends) some small));
+        takes = scaled-up (c .there) (c .ends) small (c .full) (rw (script-scale, apply-single) (size-scaled a (c .there) (c .ends) some small));
+      }
+
+  branched : {d start : ℕ} (x : FullPath g m slot f d) → d < 31 → LowestRun g m (fanout d) start → ClaimStep s t h reel f slot (branchOut (x .last) d) start
+  branched {d} {start} x deep l = record {
+    final = rw (script-branch, apply-first, apply-single) (agrees-branched a x deep (l .run));
+    through = rw script-branch (through-branched a x deep (l .run));
+    takes = branched-out x l (rw (script-branch, apply-first, apply-single) (path-branched a x deep (l .run)));
+  }
+
+  by-room : (r : Room) → RoomIs g m slot f r → (needs r ≤ 0) ⊎ (startIn s r < g .nodes) → ClaimStep s t h reel f slot r (startIn s r)
+  by-room (clear u) c l = record {
+    final = rw (script-clear, apply-single, mark-none) (agrees-clear (c .depth) a (c .there) (c .place) (c .clear-bit));
+    through = rw script-clear (each ((locateAt g (u .node), withBit (m (locateAt g (u .node))) (u .place)) ∷ [])
+        (still-clear (c .depth) a (c .there) (c .place) (c .clear-bit), tt));
+    takes = first-clear (c .there) (c .above) (c .place) (c .clear-bit) (c .lower);
+  }
+  by-room (scaleUp n size) c l = rw (c .is) (scaled _ (rw (c .is) at c))
+  by-room (branchOut parent d) c l =
+      let deep = full-above-31 (a .agrees) (c .path) in
+      let some : 0 < fanout d = omega (arith, child-laws .below d f deep) in
+      let inside : startIn s (branchOut parent d) < g .nodes = elim l [ inl k ↦ absurd (omega arith) | inr k ↦ k ] in
+      rw (← c .is) (branched (c .path) deep (lowest-run (a .agrees) (fanout d) some inside))
+
+-- ---- the step
+
+pub work-is : (s : State) (words script h reel f : ℕ)
+    → granted (claim words script h reel f) s ≡ workOf s h f (slotIn s reel) (roomIn s reel f) (startIn s (roomIn s reel f))
+unfolding granted
+work-is s words script h reel f = refl
+
+table-is : (t : Table) (words script h reel f : ℕ) → tableWork (claim words script h reel f) t .after ≡ withTableHead t h (claimed reel f)
+unfolding tableWork
+table-is t words script h reel f = refl
+
+module _ {s : State} {t : Table} (a : Agrees s t) (words script h reel f : ℕ) (fit : f < 2 ^ 64) (answered : perform (claim words script h reel f) s .answer ≡ 0) where
+  pub asked-now : Asked s t h reel f (slotIn s reel)
+  asked-now = asked a fit (tests-passed s words script h reel f answered)
+
+  pub claim-step : ClaimStep s t h reel f (slotIn s reel) (roomIn s reel f) (startIn s (roomIn s reel f))
+  claim-step =
+      let b = asked-now .has .open-slot in
+      let p = path-there (a .shows) b f in
+      by-room asked-now (roomIn s reel f) (rw (p .1) (room-is f (p .0) b (p .1))) (tests-passed s words script h reel f answered .run)
+
+  -- whatever a crash leaves shows and holds what was there before
+  crashed : (k : ℕ) (im' : List ℕ) → CrashImage (s .image) (segmented (granted (claim words script h reel f) s .script)) k im'
+      → Still (sizesOf (s .image)) (t .reels) (s .image) im'
+  crashed k im' c =
+      falls-through (Still (sizesOf (s .image)) (t .reels) (s .image)) (crash-laws .falls-in (s .image) _ k im' c) (rw work-is (claim-step .through))
+
+  step : Step (claim words script h reel f) s t
+  step = record {
+    final = rw (work-is, table-is) (claim-step .final);
+    crash = λ k im' c. inl (view-shows (crashed k im' c .view) (a .shows .slots) (a .shows .nodes));
+    keeps = λ k im' c. still-keeps (shows-view (a .shows)) (crashed k im' c);
+  }
+
+pub step-claim : {s : State} {t : Table} → Agrees s t → (words script h reel f : ℕ) → Fit (h ∷ reel ∷ f ∷ [])
+    → perform (claim words script h reel f) s .answer ≡ 0 → Step (claim words script h reel f) s t
+step-claim a words script h reel f fits answered = step a words script h reel f (fits 2) answered

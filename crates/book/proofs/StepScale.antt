@@ -1,0 +1,113 @@
+-- A claim in a full root below size 64: the root is scaled up, then the old size is the place.
+use mathlib.Core.Path.{_≡_, refl, sym, _∙_, ap}
+use mathlib.Core.List.{List, [], _∷_}
+use Prim.Native.Nat.{ℕ, _*_, _≤_, _<_}
+use native.Mathlib.Omega.{arith}
+use native.Mathlib.Decide.{ℕ-discrete}
+use lib.ListN.{length, set}
+use Rattle.tree.specs.Memory.{Memory, reads, isSet, withBit}
+use Rattle.tree.specs.Layout.{Geometry, nextAt, locateAt, setAt, sizeAt}
+use Rattle.tree.specs.Path.{wayOf}
+use Rattle.tree.specs.Reach.{Reaches}
+use Rattle.tree.specs.Same.{Same, Stores}
+use Rattle.tree.specs.Laws.{WellFormed}
+use Rattle.tree.proofs.Memory.{bit-laws}
+use Rattle.tree.proofs.Laws.{same-laws}
+use Rattle.book.specs.declared.Target.{Target}
+use Rattle.book.specs.declared.HeadState.the-variants.{Claimed}
+use Rattle.book.specs.Heads.{withHead}
+use Rattle.book.specs.State.{State}
+use Rattle.book.specs.Table.{Table, claimed, withTableHead}
+use Rattle.book.specs.Agrees.{Claims, Agrees}
+use Rattle.book.proofs.View.{View}
+use Rattle.book.proofs.Stored.{stores-set, node-inside}
+use Rattle.book.proofs.Sames.{node-formed, reached-inside, view-size}
+use Rattle.book.proofs.Showing.{shows-view}
+use Rattle.book.proofs.Crashed.{AfterEach}
+use Rattle.book.proofs.Reading.{sizesOf, claim-inside}
+use Rattle.book.proofs.Claims.{SameClaim}
+use Rattle.book.proofs.Still.{Still, still-on, within-same, same-reached, same-word, claim-beside}
+use Rattle.book.proofs.Claiming.{Asked, targetAt}
+use Rattle.book.proofs.Making.{Makes, asked-made}
+use Rattle.book.proofs.StepClear.{Placed, placed}
+
+pub top-way : (f : ℕ) → wayOf 0 f ≡ []
+unfolding wayOf
+top-way f = refl
+
+module _ {s : State} {t : Table} {h reel f slot n : ℕ} (a : Asked s t h reel f slot) (x : Reaches (sizesOf (s .image)) (reads (s .image)) slot [] n)
+    (ends : reads (s .image) (nextAt (sizesOf (s .image)) n) ≡ 0) (some : 0 < reads (s .image) (sizeAt (sizesOf (s .image)) n))
+    (small : reads (s .image) (sizeAt (sizesOf (s .image)) n) < 64) where
+  abbrev g : Geometry
+  g = sizesOf (s .image)
+
+  abbrev m : Memory
+  m = reads (s .image)
+
+  abbrev size : ℕ
+  size = m (sizeAt g n)
+
+  abbrev im' : List ℕ
+  im' = set (s .image) (sizeAt g n) (2 * size)
+
+  abbrev m' : Memory
+  m' = reads im'
+
+  old-view : View g (s .image) (t .reels)
+  old-view = shows-view (a .agrees .shows)
+
+  formed : WellFormed g m 0 n
+  formed = node-formed old-view x
+
+  stored : Stores m (sizeAt g n) (2 * size) m'
+  stored = stores-set (s .image) (sizeAt g n) (2 * size) (reached-inside old-view x 4 (omega arith))
+
+  same : Same g m m'
+  same = same-word n 4 stored refl (omega arith) (omega arith) (omega arith)
+
+  larger : (k : ℕ) → m (sizeAt g k) ≤ m' (sizeAt g k)
+  larger k = elim (ℕ-discrete k n) [
+    | yes e ↦ rw (e, stored .new) (omega arith)
+    | no e ↦ omega (arith, stored .old (sizeAt g k) (λ q. e (omega arith)))
+  ]
+
+  carries : (y : Target) (r f' : ℕ) → Claims g m y r f' → SameClaim g m m' y
+  carries y r f' c =
+      claim-beside n 4 stored refl (omega arith) (omega arith) (omega arith) (claim-inside (a .agrees .shows) c .1) (larger (y .node))
+      (ap (λ w. isSet w (y .place)) (stored .old (locateAt g (y .node)) (λ z. omega arith))) c
+
+  makes : Makes g s t im' (s .pool)
+  makes = record {
+    still = record { view = view-size old-view x ends small; within = within-same same };
+    map-words = refl;
+    marks = λ k. let u = a .agrees .marks k in (λ e. same-reached same k .0 (u .0 e), λ r. u .1 (same-reached same k .1 r));
+    ways = λ z. same-laws same .reaches .0 z;
+    carries = carries;
+    locates = λ k q r b.
+        rw (← stored .old (locateAt g k) (λ z. omega arith), ← stored .old (setAt g k) (λ z. omega arith))
+        (a .agrees .locates k q (same-reached same k .1 r) b);
+  }
+
+  locate-same : m (locateAt g n) ≡ m' (locateAt g n)
+  locate-same = stored .old (locateAt g n) (λ z. omega arith)
+
+  placed-there : Placed g (record { image = im'; pool = s .pool; heads = s .heads }) t h reel f slot n size
+  placed-there =
+      placed 0 (makes .still .view .header .geometry) (asked-made a makes) (rw (top-way f) (same-laws same .reaches .0 x)) (omega (arith, stored .new))
+      (rw (← locate-same) (bit-laws .none-above (m (locateAt g n)) size size (formed .locate) (omega arith)))
+
+  abbrev last : List ℕ
+  last = set im' (locateAt g n) (withBit (m (locateAt g n)) size)
+
+  pub agrees-scaled : Agrees (record { image = last; pool = s .pool; heads = withHead (s .heads) h (Claimed (targetAt slot n size f)) })
+      (withTableHead t h (claimed reel f))
+  agrees-scaled = rw locate-same (placed-there .agrees)
+
+  pub each-scaled : AfterEach (Still g (t .reels) (s .image)) (s .image) ((sizeAt g n, 2 * size) ∷ (locateAt g n, withBit (m (locateAt g n)) size) ∷ [])
+  each-scaled = (makes .still, (still-on (makes .still) (rw locate-same (placed-there .still)), tt))
+
+  -- the root's size is doubled
+  pub size-scaled : reads last (sizeAt g n) ≡ 2 * size
+  size-scaled =
+      let i : locateAt g n < length im' = node-inside n 1 (makes .still .view .header) (formed .inside) (omega arith) in
+      sym (stores-set im' (locateAt g n) (withBit (m (locateAt g n)) size) i .old (sizeAt g n) (λ q. omega arith)) ∙ stored .new

@@ -22,3 +22,5 @@ pub mod MemoryLaws
 pub mod Paired
 pub mod Alike
 pub mod Crashed
+pub mod Sample
+pub mod Witnesses

@@ -25,4 +25,5 @@ pub mod Pigeon
 pub mod Level
 pub mod Pool
 pub mod Memory
+pub mod FirstSegment
 pub mod Laws

@@ -1,13 +1,12 @@
 -- Crashes in the first segment of a script: every mixture of its stores kept and lost is possible, and a barrier is left to pass.
-use mathlib.Core.Path.{_≡_, refl, sym, _∙_}
-use mathlib.Core.Bool.{true, false, or-true}
+use mathlib.Core.Path.{_≡_, _∙_, ap}
+use mathlib.Core.Bool.{or-true}
 use mathlib.Core.Logic.{inl, inr}
 use mathlib.Core.List.{List, [], _∷_, List·Memᴰ, Memᴰ·map}
-use Prim.Native.Nat.{ℕ}
+use Prim.Native.Nat.{ℕ, _≤_}
 use native.Mathlib.Omega.{arith}
-use lib.ListN.{length, length-map}
-use lib.Seq.{take-all}
-use Rattle.memory.specs.Words.{reads}
+use lib.ListN.{length, drop, length-map}
+use lib.Seq.{take-all, drop-append-le}
 use Rattle.memory.specs.Script.{store, barrier, Store, stores, segmented}
 use Rattle.memory.specs.Crash.{apply, hasBarrier, fenced, unfenced, CrashImage, passed}
 use Rattle.memory.specs.Laws.{Torn}
@@ -37,6 +36,10 @@ torn-possible m seg segs m' t =
       each = λ i. rw (take-all (length seg) (stores seg) (omega arith), f .up-to, f .after) (elim (t .each i) [ inl q ↦ inl q | inr x ↦ inr (stored-as seg i x) ]);
     })
 
-pub left-to-pass : (seg : List Store) (segs : List (List Store)) → passed (segmented (seg ∷ segs)) 0 → ⊥
+pub left-to-pass : (k : ℕ) (seg : List Store) (segs : List (List Store)) → k ≤ length seg → passed (segmented (seg ∷ segs)) k → ⊥
 unfolding segmented hasBarrier
-left-to-pass seg segs h = true-not-false (barrier-append (stores seg) (barrier ∷ segmented segs) ∙ or-true (hasBarrier (stores seg))) h
+left-to-pass k seg segs l h =
+    let n = length-stores seg in
+    let rest = barrier ∷ segmented segs in
+    let q = drop-append-le k (stores seg) rest (omega arith) in
+    true-not-false (ap hasBarrier q ∙ barrier-append (drop k (stores seg)) rest ∙ or-true (hasBarrier (drop k (stores seg)))) h

@@ -13,6 +13,8 @@ use Rattle.book.proofs.StepRead.{step-has, step-list}
 use Rattle.book.proofs.StepRetire.{step-retire}
 use Rattle.book.proofs.ClaimPlaced.{claim-placed}
 use Rattle.book.proofs.Placed.{placed-from}
+use Rattle.book.proofs.Witnesses.{witnesses-from}
+use Rattle.book.specs.Witnesses.{Witnesses}
 use Prim.Native.Nat.{ℕ}
 use mathlib.Core.Path.{_≡_}
 use Rattle.tree.specs.Memory.{Fit}
@@ -44,3 +46,6 @@ demand3 = demand3-from steps
 
 pub placed : Placed
 placed = placed-from steps (record { placed = claim-placed })
+
+pub witnesses : Witnesses
+witnesses = witnesses-from demand3

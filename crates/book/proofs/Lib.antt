@@ -54,3 +54,5 @@ pub mod StepBranch
 pub mod StepClaim
 pub mod ClaimPlaced
 pub mod Demands
+pub mod Sample
+pub mod Witnesses

@@ -9,7 +9,7 @@ use Rattle.memory.specs.Laws.{CrashLaws}
 use Rattle.memory.proofs.Fences.{passed-means, passed-at-end}
 use Rattle.memory.proofs.Possible.{last-barrier, only-chosen, possible, outside}
 use Rattle.memory.proofs.Crash.{as-carried-out, none-yet, all-done, fits, unreached, same-value}
-use Rattle.memory.proofs.Segments.{falls-in, all-passed}
+use Rattle.memory.proofs.Segments.{falls-in, torn-possible, left-to-pass, all-passed}
 
 pub crash-laws : CrashLaws
 crash-laws = record {
@@ -26,6 +26,8 @@ crash-laws = record {
   passed-at-end = passed-at-end;
   outside = outside;
   falls-in = falls-in;
+  torn-possible = torn-possible;
+  left-to-pass = left-to-pass;
   fits = fits;
   unreached = unreached;
   same-value = same-value;

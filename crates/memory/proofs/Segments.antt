@@ -1,17 +1,20 @@
 -- Scripts in segments, each of stores alone with a barrier after it: where a crash falls, and when all is carried out.
-use mathlib.Core.Path.{_≡_, refl, sym, _∙_}
+use mathlib.Core.Path.{_≡_, refl, sym, _∙_, ap}
+use mathlib.Core.Bool.{or-true}
 use mathlib.Core.Logic.{inl, inr}
-use mathlib.Core.List.{List, [], _∷_, List·Memᴰ, Memᴰ·cast, Memᴰ·of-map, append-eq-nil-iff}
-use Prim.Native.Nat.{ℕ}
+use mathlib.Core.List.{List, [], _∷_, List·Memᴰ, Memᴰ·cast, Memᴰ·map, Memᴰ·of-map, append-eq-nil-iff}
+use Prim.Native.Nat.{ℕ, _≤_}
 use native.Mathlib.Omega.{arith}
-use lib.ListN.{take, drop, take-append-drop}
+use lib.ListN.{length, take, drop, take-append-drop, length-map}
+use lib.Seq.{take-all, drop-append-le}
 use Rattle.memory.specs.Words.{reads}
 use Rattle.memory.specs.Script.{store, barrier, Store, stores, segmented}
 use Rattle.memory.specs.Crash.{apply, hasBarrier, fenced, unfenced, CrashImage, passed}
 use Rattle.memory.specs.Laws.{Torn, FallsIn, after-all, here, later}
+use Rattle.memory.proofs.Cases.{clash}
 use Rattle.memory.proofs.Lists.{mem-take}
-use Rattle.memory.proofs.Fences.{Fenced, no-barrier, barrier-later, none-later}
-use Rattle.memory.proofs.Crash.{none-yet, settled, crash-split}
+use Rattle.memory.proofs.Fences.{Fenced, barrier-append, no-barrier, barrier-later, none-later}
+use Rattle.memory.proofs.Crash.{none-yet, settled, unreached, crash-split}
 
 -- ---- stores alone
 
@@ -55,3 +58,35 @@ all-passed m segs k m' h c =
     let es = segmented segs in let a = all-fenced segs in
     let f = rw take-append-drop at (none-later (take k es) (drop k es) h) in
     settled m es k m' (record { up-to = sym (f .up-to) ∙ a .up-to; after = append-eq-nil-iff .0 (sym (f .after) ∙ a .after) .0 }) (c .within) .0 c
+
+-- ---- the first segment
+
+length-stores : (seg : List Store) → length (stores seg) ≡ length seg
+unfolding stores
+length-stores seg = length-map seg _
+
+stored-as : (seg : List Store) (i : ℕ) {v : ℕ} → List·Memᴰ (i, v) seg → List·Memᴰ (store i v) (stores seg)
+unfolding stores
+stored-as seg i x = Memᴰ·map (λ (s : Store). store (s .0) (s .1)) x
+
+-- the converse of the crash lemma there
+pub torn-possible : (m : List ℕ) (seg : List Store) (segs : List (List Store)) (m' : List ℕ) → Torn m seg m'
+    → CrashImage m (segmented (seg ∷ segs)) (length seg) m'
+unfolding segmented apply fenced unfenced
+torn-possible m seg segs m' t =
+    let n = length-stores seg in
+    let f = none-later [] (stores seg) (no-barrier (stores seg) (no-barrier-stores seg)) in
+    unreached m (stores seg) (barrier ∷ segmented segs) (length seg) m' (omega arith) .1 (record {
+      within = omega arith;
+      same-length = t .same-length;
+      each = λ i. rw (take-all (length seg) (stores seg) (omega arith), f .up-to, f .after)
+          (elim (t .each i) [ inl q ↦ inl q | inr x ↦ inr (stored-as seg i x) ]);
+    })
+
+pub left-to-pass : (k : ℕ) (seg : List Store) (segs : List (List Store)) → k ≤ length seg → passed (segmented (seg ∷ segs)) k → ⊥
+unfolding segmented hasBarrier
+left-to-pass k seg segs l h =
+    let n = length-stores seg in
+    let rest = barrier ∷ segmented segs in
+    let q = drop-append-le k (stores seg) rest (omega arith) in
+    clash _ (ap hasBarrier q ∙ barrier-append (drop k (stores seg)) rest ∙ or-true (hasBarrier (drop k (stores seg)))) h

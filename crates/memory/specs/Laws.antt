@@ -149,6 +149,10 @@ pub record CrashLaws : Type 0 where
       → Avoids i (drop b (take k es)) → reads m' i ≡ reads (apply m (take b es)) i
   -- the crash lemma
   pub falls-in : (m : List ℕ) (segs : List (List Store)) (k : ℕ) (m' : List ℕ) → CrashImage m (segmented segs) k m' → FallsIn m' m segs
+  -- in the first segment every mixture of its stores kept and lost is possible, and a barrier is left to pass
+  pub torn-possible : (m : List ℕ) (seg : List Store) (segs : List (List Store)) (m' : List ℕ) → Torn m seg m'
+      → CrashImage m (segmented (seg ∷ segs)) (length seg) m'
+  pub left-to-pass : (k : ℕ) (seg : List Store) (segs : List (List Store)) → k ≤ length seg → passed (segmented (seg ∷ segs)) k → ⊥
   pub fits : (m : List ℕ) (es : List Entry) (k : ℕ) (m' : List ℕ) → Fit m → FitStores es → CrashImage m es k m' → Fit m'
   -- entries that are not reached change no possibility
   pub unreached : (m : List ℕ) (es fs : List Entry) (k : ℕ) (m' : List ℕ) → k ≤ length es

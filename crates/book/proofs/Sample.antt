@@ -1,0 +1,161 @@
+-- Books computed from a format on, and that histories come to them.
+use mathlib.Core.Path.{_≡_, refl, sym, _∙_, ap}
+use mathlib.Core.Logic.{inl, inr, _≢_}
+use mathlib.Core.List.{List, [], _∷_, flatMap}
+use Prim.Native.Nat.{ℕ, zero, suc, _+_, _*_, _^_, _<_}
+use native.Mathlib.Omega.{arith}
+use lib.ListN.{replicate}
+use lib.Dec.{eqb}
+use Rattle.tree.specs.Memory.{field, withField, bit, isSet, withBit, byte, withByte, marked, first, stores, segmented, apply, reads, Fit}
+use Rattle.tree.specs.Layout.{locateAt, geometryOf}
+use Rattle.tree.specs.Lists.{upTo, range, keep, every, hasKey, distinct}
+use Rattle.tree.specs.Fingerprint.{fingerprint, editionOne, folded, tableEntry, ruleOf}
+use Rattle.tree.specs.Node.{formed, wellFormed, sizeAllowed}
+use Rattle.tree.specs.Slots.{filled, filledSlots, slotOf, emptySlot}
+use Rattle.tree.specs.Lookup.{firstSpot, path, pathFrom, clearAt, clearSpot, matches, foundAt, lookup, find, isFreeRun, freeRun}
+use Rattle.tree.specs.Pool.{mark}
+use Rattle.tree.specs.Subtree.{children, subtree, tree, allTrees, heldPlaces}
+use Rattle.tree.specs.Check.{walkable, inPlace, isSound}
+use Rattle.tree.proofs.Cases.{test}
+use Rattle.book.specs.Heads.{stateOf, headAt, wordsOf, withHead, busy}
+use Rattle.book.specs.Refusals.{refusal}
+use Rattle.book.specs.Room.{roomOn}
+use Rattle.book.specs.State.{State, Operation, format, recover, openReel, claim, fill, commit, has, arguments}
+use Rattle.book.specs.Checks.{badImage, refusals}
+use Rattle.book.specs.Perform.{formatStores, openScript, roomScript, claimScript, fillScript, recoverStores, granted, leaves, clears, perform}
+use Rattle.book.specs.Table.{Table, Fed, nothing, fed, isPresent, framesOf, isHeld, tableRefusals, tableWork, reply, emptyTable, allIdle}
+use Rattle.book.specs.Agrees.{Agrees}
+use Rattle.book.specs.Histories.{done, replied, Follows, formatted, performed}
+use Rattle.book.specs.Starred as starred
+use Rattle.book.specs.Starred.{run}
+use Rattle.book.specs.Demands.{Demand3}
+use Rattle.book.specs.Witnesses.{sample}
+use Rattle.book.proofs.Entries.{Each}
+use Rattle.book.proofs.Alike.{alike}
+
+-- ---- numbers that are words
+
+abbrev pub Words : List ℕ → Type 0
+Words = Each (λ n. n < 2 ^ 64)
+
+pub words-fit : (ns : List ℕ) → Words ns → Fit ns
+words-fit [] w i = omega arith
+words-fit (n ∷ ns) w zero = w .0
+words-fit (n ∷ ns) w (suc i) = words-fit ns (w .1) i
+
+zeros-fit : (n : ℕ) → Fit (replicate n 0)
+zeros-fit zero i = omega arith
+zeros-fit (suc n) zero = omega arith
+zeros-fit (suc n) (suc i) = zeros-fit n i
+
+-- ---- histories without a crash
+
+-- an image of zeros, just before a format
+abbrev zeros : (slots nodes : ℕ) → State
+zeros slots nodes = record { image = replicate (64 + 2 * slots + 80 * nodes) 0; pool = []; heads = replicate 10 0 }
+
+format-follows : (slots nodes : ℕ) → perform (format 1 slots nodes) (zeros slots nodes) .answer ≡ 0
+    → Follows (starred.formatted slots nodes) (emptyTable slots nodes)
+unfolding starred.formatted
+format-follows slots nodes h = formatted 1 slots nodes (zeros slots nodes) (zeros-fit (64 + 2 * slots + 80 * nodes)) h
+
+run-follows : (ops : List Operation) → Each (λ op. Words (arguments op)) ops → {s : State} {t : Table} → Follows s t
+    → (t' : Table) × Follows (run ops s) t'
+unfolding run
+run-follows [] w {t = t} f = (t, f)
+run-follows (op ∷ ops) w f = run-follows ops (w .1) (performed f op (words-fit (arguments op) (w .0)))
+
+-- ---- the computed answers
+
+format-answers : (perform (format 1 1 1) (zeros 1 1) .answer ≡ 0) × (perform (format 1 41 1) (zeros 41 1) .answer ≡ 0)
+    × (perform (format 1 2 2) (zeros 2 2) .answer ≡ 0)
+unfolding perform refusals badImage refusal
+format-answers = (refl, refl, refl)
+
+again : replied (format 1 1 2) (starred.formatted 41 1) (emptyTable 41 1) .work .after ≡ emptyTable 1 2
+unfolding reply tableRefusals tableWork refusal badImage emptyTable
+again = refl
+
+pub sampled : (t : Table) × Follows sample t
+unfolding sample
+sampled = run-follows (openReel 1 50 7 ∷ claim 1 50 0 7 12 ∷ fill 50 0 ∷ []) (omega arith) (format-follows 1 1 (format-answers .0))
+
+pub other-geometry : Follows (done (format 1 1 2) (starred.formatted 41 1)) (emptyTable 1 2)
+other-geometry =
+    let f : Follows (done (format 1 1 2) (starred.formatted 41 1)) (replied (format 1 1 2) (starred.formatted 41 1) (emptyTable 41 1) .work .after) =
+    performed (format-follows 41 1 (format-answers .1)) (format 1 1 2) (words-fit (1 ∷ 2 ∷ []) (omega arith)) in
+    rw again at f
+
+-- two heads have claimed, each in a reel of its own, and the locate words of nodes 0 and 1
+unfoldable pub claimed-twice : State
+claimed-twice = run (openReel 1 50 7 ∷ openReel 1 50 8 ∷ claim 1 50 0 7 12 ∷ claim 1 50 1 8 12 ∷ []) (starred.formatted 2 2)
+
+pub twice-follows : (t : Table) × Follows claimed-twice t
+unfolding claimed-twice
+twice-follows =
+    run-follows (openReel 1 50 7 ∷ openReel 1 50 8 ∷ claim 1 50 0 7 12 ∷ claim 1 50 1 8 12 ∷ []) (omega arith) (format-follows 2 2 (format-answers .2))
+
+abbrev pub locateWords : State → List ℕ
+locateWords s = let m = reads (s .image) in m (locateAt (geometryOf m) 0) ∷ m (locateAt (geometryOf m) 1) ∷ []
+
+pub record Computed : Type 0 where
+  pub answered : perform (commit 50 0) sample .answer ≡ 0
+  -- Has of frame 12 of reel 7 hands back 0 before the commit, 1 after it
+  pub absent : perform (has 7 12) sample .work .value ≡ 0
+  pub present : perform (has 7 12) (done (commit 50 0) sample) .work .value ≡ 1
+  -- a recovery makes both locate words new, so one that is cut may leave either of them old
+  pub recovered : perform (recover 1) claimed-twice .answer ≡ 0
+  pub both-old : locateWords claimed-twice ≡ 1 ∷ 1 ∷ []
+  pub both-new : locateWords (perform (recover 1) claimed-twice .work .after) ≡ 0 ∷ 0 ∷ []
+
+pub computed : Computed
+unfolding sample claimed-twice run starred.formatted range upTo keep perform granted refusals badImage refusal geometryOf formatStores openScript roomScript claimScript fillScript apply segmented stores first marked isSet withBit byte withByte field withField bit slotOf emptySlot filled freeRun isFreeRun mark headAt stateOf wordsOf withHead busy pathFrom path wellFormed formed sizeAllowed clearSpot clearAt firstSpot roomOn find lookup foundAt matches fingerprint editionOne folded tableEntry ruleOf children subtree tree allTrees filledSlots walkable inPlace isSound heldPlaces distinct hasKey every recoverStores flatMap
+computed = record { answered = refl; absent = refl; present = refl; recovered = refl; both-old = refl; both-new = refl }
+
+pub answered : perform (commit 50 0) sample .answer ≡ 0
+answered = computed .answered
+
+-- a format to another geometry of the same image length, in mid-history: it is answered, and the table is the new one
+pub format-over : Follows (starred.formatted 41 1) (emptyTable 41 1) × (perform (format 1 1 2) (starred.formatted 41 1) .answer ≡ 0)
+    × (replied (format 1 1 2) (starred.formatted 41 1) (emptyTable 41 1) .work .after ≡ emptyTable 1 2)
+unfolding starred.formatted perform refusals badImage refusal granted leaves clears apply stores segmented formatStores range upTo geometryOf
+format-over = (format-follows 41 1 (format-answers .1), refl, again)
+
+-- ---- frame 12 of reel 7, before the commit and after it
+
+-- what a table says of it
+abbrev said : Table → ℕ
+said t = reply (has 7 12) nothing t .work .value
+
+-- whatever it is fed, and the same with every head idle
+said-fed : (x : Fed) (t : Table) → reply (has 7 12) x t .work .value ≡ said t
+unfolding reply tableRefusals
+said-fed x t = refl
+
+said-idle : (t : Table) → said (allIdle t) ≡ said t
+unfolding reply tableRefusals tableWork isPresent isHeld framesOf allIdle
+said-idle t = elim (test (eqb (refusal (tableRefusals (has 7 12) nothing t)) 0)) [ inl e ↦ rw (e, said) | inr e ↦ rw (e, said) ]
+
+-- a book that agrees with it says the same
+said-alike : {s : State} {t : Table} → Agrees s t → perform (has 7 12) s .work .value ≡ said t
+said-alike {s} {t} a = alike a (has 7 12) (words-fit (7 ∷ 12 ∷ []) (omega arith)) .value ∙ said-fed (fed (perform (has 7 12) s .answer)) t
+
+module _ (kept : Demand3) (t : Table) (f : Follows sample t) where
+  abbrev then : Table
+  then = replied (commit 50 0) sample t .work .after
+
+  said-before : said t ≡ 0
+  said-before = sym (said-alike (kept sample t f .agrees)) ∙ computed .absent
+
+  said-after : said then ≡ 1
+  said-after =
+      let g : Follows (done (commit 50 0) sample) then = performed f (commit 50 0) (words-fit (0 ∷ []) (omega arith)) in
+      sym (said-alike (kept (done (commit 50 0) sample) then g .agrees)) ∙ computed .present
+
+  pub told-apart : then ≢ t
+  told-apart q = omega (arith, said-before, said-after, ap said q)
+
+  -- no recovered book agrees with both
+  pub one-of-two : (s' : State) → Agrees s' (allIdle t) → Agrees s' (allIdle then) → ⊥
+  one-of-two s' a b =
+      omega (arith, said-before, said-after, said-alike a ∙ said-idle t, said-alike b ∙ said-idle then)

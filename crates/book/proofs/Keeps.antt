@@ -16,16 +16,19 @@ use Rattle.book.specs.Perform.{granted, writing}
 use Rattle.book.specs.Table.{Table, Reel, tableWork}
 use Rattle.book.specs.Agrees.{Shows, Agrees}
 use Rattle.book.specs.Histories.{carriedOut}
+use Rattle.book.specs.Demands.{FilledBy}
 use Rattle.book.proofs.View.{Header, View}
 use Rattle.book.proofs.Crashed.{Through, falls-through}
 use Rattle.book.proofs.Step.{Keeps, Step}
 
--- slots filled in both have the same reels, and what m' holds m holds in the same place, or it is a frame new to its slot
-pub record Keeping (g : Geometry) (m m' : Memory) : Type 0 where
+-- slots filled in both have the same reels, and what m' holds m holds in the same place, or it is a frame new to its slot, in a place
+-- that a head had filled with it
+pub record Keeping (ws : List ℕ) (g : Geometry) (m m' : Memory) : Type 0 where
   pub reels : {s : ℕ} → Filled g m s → Filled g m' s → m (reelAt s) ≡ m' (reelAt s)
-  pub held : {s : ℕ} {w : List ℕ} {n p f : ℕ} → Holds g m' s w n p f → Holds g m s w n p f ⊎ (Filled g m s × (FrameOf g m s f → ⊥))
+  pub held : {s : ℕ} {w : List ℕ} {n p f : ℕ} → Holds g m' s w n p f
+      → Holds g m s w n p f ⊎ (Filled g m s × (FrameOf g m s f → ⊥) × FilledBy ws s n p f)
 
-module _ {r : Rule} {g : Geometry} {m m' : Memory} (d : Sound r g m) (a : Keeping g m m') where
+module _ {ws : List ℕ} {r : Rule} {g : Geometry} {m m' : Memory} (d : Sound r g m) (a : Keeping ws g m m') where
   one-slot : {slot slot' : ℕ} → Filled g m slot → Filled g m slot' → Filled g m' slot' → m (reelAt slot) ≡ m' (reelAt slot') → slot ≡ slot'
   one-slot b c c' q = d .reels b c (q ∙ sym (a .reels c c'))
 
@@ -45,21 +48,25 @@ module _ {r : Rule} {g : Geometry} {m m' : Memory} (d : Sound r g m) (a : Keepin
             absurd (z .1 (record { way = w; node = n; place = p; holds = rw e at x }))
       ]
 
-pub keeps-of : {g : Geometry} {im im' : List ℕ} {rs : List Reel} → View g im rs → Header g im' → Keeping g (reads im) (reads im') → Keeps im im'
-keeps-of v h a = record { same-place = rw (v .header .geometry, h .geometry) (λ x y q. keeping-place (v .sound) a x y q) }
+pub keeps-of : {ws : List ℕ} {g : Geometry} {im im' : List ℕ} {rs : List Reel} → View g im rs → Header g im' → Keeping ws g (reads im) (reads im')
+    → Keeps ws im im'
+keeps-of v h a = record {
+  same-place = rw (v .header .geometry, h .geometry) (λ x y q. keeping-place (v .sound) a x y q);
+  came-from = rw (v .header .geometry, h .geometry) (λ x. elim (a .held x) [ inl y ↦ inl y | inr y ↦ inr (y .2) ]);
+}
 
-pub keeps-itself : {g : Geometry} {im : List ℕ} {rs : List Reel} → View g im rs → Keeps im im
+pub keeps-itself : {ws : List ℕ} {g : Geometry} {im : List ℕ} {rs : List Reel} → View g im rs → Keeps ws im im
 keeps-itself v = keeps-of v (v .header) (record { reels = λ x y. refl; held = λ x. inl x })
 
 -- ---- a step from its parts: the script, the state after it and the table after it, and each image that a crash can leave
 
 pub step-of : {op : Operation} {s s' : State} {t t' : Table} {segs : List (List Store)} → granted op s ≡ writing segs s' → tableWork op t .after ≡ t'
-    → Agrees (carriedOut (writing segs s')) t' → Through (λ im. (Shows im t ⊎ Shows im t') × Keeps (s .image) im) (s .image) segs → Step op s t
+    → Agrees (carriedOut (writing segs s')) t' → Through (λ im. (Shows im t ⊎ Shows im t') × Keeps (s .heads) (s .image) im) (s .image) segs → Step op s t
 step-of {op} {s} {s'} {t} {t'} {segs} p q a h = record {
   final = rw (p, q) a;
   crash = rw (p, q) (λ k im c. through k im c .0);
   keeps = rw p (λ k im c. through k im c .1);
 }
   where
-    through : (k : ℕ) (im : List ℕ) → CrashImage (s .image) (segmented segs) k im → (Shows im t ⊎ Shows im t') × Keeps (s .image) im
-    through k im c = falls-through (λ im. (Shows im t ⊎ Shows im t') × Keeps (s .image) im) (crash-laws .falls-in (s .image) segs k im c) h
+    through : (k : ℕ) (im : List ℕ) → CrashImage (s .image) (segmented segs) k im → (Shows im t ⊎ Shows im t') × Keeps (s .heads) (s .image) im
+    through k im c = falls-through (λ im. (Shows im t ⊎ Shows im t') × Keeps (s .heads) (s .image) im) (crash-laws .falls-in (s .image) segs k im c) h

@@ -46,7 +46,7 @@ one-after-other a b = record {
 }
 
 -- frames keep their places
-pub place-keeping : {g : Geometry} {m m' : Memory} {n p : ℕ} → OnePlace g m m' n p → HoldsBack g m m' → Keeping g m m'
+pub place-keeping : {ws : List ℕ} {g : Geometry} {m m' : Memory} {n p : ℕ} → OnePlace g m m' n p → HoldsBack g m m' → Keeping ws g m m'
 place-keeping o h = record { reels = λ b b'. o .reels b; held = λ {s} {w} {n} {p} {f} y. inl (h s w n p f y) }
 
 -- ---- a store to word k of node n, not its next

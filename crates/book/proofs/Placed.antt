@@ -1,4 +1,4 @@
--- Where frames sit: a frame that a reel held, and holds still, is where it was.
+-- Where frames sit: a frame that a reel held, and holds still, is where it was, and one that is new is where a head had put it.
 use mathlib.Core.Path.{_≡_, refl, sym, _∙_, ap}
 use mathlib.Core.Bool.{not}
 use mathlib.Core.Logic.{inl, inr, _≢_}
@@ -12,7 +12,7 @@ use lib.Seq.{take-length, ext-getD}
 use Rattle.tree.specs.Memory.{Memory, reads, byte, Store, stores, segmented, apply, CrashImage, Fit}
 use Rattle.tree.specs.Lists.{keep}
 use Rattle.tree.specs.Layout.{Geometry, slotsAt, nodesAt, geometryOf, reelAt, rootAt, nextAt, locateAt, setAt, fingerprintsAt, frameAt}
-use Rattle.tree.specs.Reach.{Holds}
+use Rattle.tree.specs.Reach.{Reaches, Holds}
 use Rattle.tree.specs.Same.{Same}
 use Rattle.tree.specs.Subtree.{Visit, allTrees}
 use Rattle.tree.proofs.Memory.{crash-laws}
@@ -35,6 +35,7 @@ use Rattle.book.proofs.Crashed.{torn-whole}
 use Rattle.book.proofs.Step.{Keeps}
 use Rattle.book.proofs.Keeps.{keeps-itself}
 use Rattle.book.proofs.Formatted.{format-agrees}
+use Rattle.book.proofs.Targets.{next-targets}
 use Rattle.book.proofs.Assembly.{Scripted, opens, claims, fills, commits, abandons, removes, asks, lists, retires, Steps, agreed}
 
 -- ---- images that hold no more than another, at its places
@@ -50,8 +51,11 @@ held-same q = rw q (record { held = λ x. (x, refl) })
 held-on : {im im' im'' : List ℕ} → Held im im' → Held im' im'' → Held im im''
 held-on a b = record { held = λ x. let y = b .held x in let z = a .held (y .0) in (z .0, z .1 ∙ y .1) }
 
-keeps-held : {im im' im'' : List ℕ} → Keeps im im' → Held im' im'' → Keeps im im''
-keeps-held a b = record { same-place = λ x y q. let z = b .held y in a .same-place x (z .0) (q ∙ sym (z .1)) }
+keeps-held : {ws im im' im'' : List ℕ} → Keeps ws im im' → Held im' im'' → Keeps ws im im''
+keeps-held a b = record {
+  same-place = λ x y q. let z = b .held y in a .same-place x (z .0) (q ∙ sym (z .1));
+  came-from = λ y. a .came-from (b .held y .0);
+}
 
 -- ---- recovery, answered, refused or interrupted
 
@@ -129,10 +133,11 @@ ended-held c = rw (c .is) (held-on (attempts-held (c .attempts)) (held-on (held-
 -- ---- an operation done or interrupted
 
 -- an image without reels holds nothing
-keeps-none : {im im' : List ℕ} → View (geometryOf (reads im')) im' [] → Keeps im im'
-keeps-none v = record {
-  same-place = λ x y q. absurd (List·Memᴰ·not-nil (v .same .present _ .0 (_, record { open-slot = slot-filled (y .there); number = refl }) .1));
-}
+keeps-none : {ws im im' : List ℕ} → View (geometryOf (reads im')) im' [] → Keeps ws im im'
+keeps-none {im' = im'} v = record { same-place = λ x y q. absurd (none (y .there)); came-from = λ y. absurd (none (y .there)) }
+  where
+    none : {s n : ℕ} {w : List ℕ} → Reaches (geometryOf (reads im')) (reads im') s w n → ⊥
+    none r = List·Memᴰ·not-nil (v .same .present _ .0 (_, record { open-slot = slot-filled r; number = refl }) .1)
 
 no-reels : (slots nodes : ℕ) → emptyTable slots nodes .reels ≡ []
 unfolding emptyTable
@@ -167,7 +172,7 @@ script-alone {op} {s} {k} {m} c q =
 
 module _ (steps : Steps) where
   answered-keeps : {s : State} {t : Table} {op : Operation} → Agrees s t → Fit (arguments op) → Kind s op → perform op s .answer ≡ 0
-      → Keeps (s .image) (done op s .image)
+      → Keeps (s .heads) (s .image) (done op s .image)
   answered-keeps {s} a fit (formats {words} {slots} {nodes}) h =
       keeps-none (rw (no-reels slots nodes) at (shows-view (format-agrees words slots nodes s (a .shows .fits) h .shows)))
   answered-keeps {s} a fit (recovers {words}) h = keeps-held (keeps-itself (shows-view (a .shows))) (recovered-held words s)
@@ -177,14 +182,14 @@ module _ (steps : Steps) where
       let whole = crash-laws .as-carried-out (s .image) es (length es) (omega arith) in
       rw end (steps .step a x fit h .keeps (length es) (apply (s .image) es) (rw take-length at whole))
 
-  done-keeps : {s : State} {t : Table} → Agrees s t → (op : Operation) → Fit (arguments op) → Keeps (s .image) (done op s .image)
+  done-keeps : {s : State} {t : Table} → Agrees s t → (op : Operation) → Fit (arguments op) → Keeps (s .heads) (s .image) (done op s .image)
   done-keeps {s} a op fit = elim (ℕ-discrete (perform op s .answer) 0) [
     | yes h ↦ answered-keeps a fit (kind s op) h
     | no h ↦ rw (done-image op s h) (keeps-itself (shows-view (a .shows)))
   ]
 
   answered-crash : {s : State} {t : Table} {op : Operation} {k : ℕ} {m : List ℕ} → Agrees s t → Fit (arguments op) → Kind s op
-      → perform op s .answer ≡ 0 → Interrupted op s k m → Keeps (s .image) m
+      → perform op s .answer ≡ 0 → Interrupted op s k m → Keeps (s .heads) (s .image) m
   answered-crash a fit formats h c = absurd (c .unsteady (rw h answered-format))
   answered-crash {s} {k = k} {m = m} a fit (recovers {words}) h c = keeps-held (keeps-itself (shows-view (a .shows))) (interrupted-held words s k m c)
   answered-crash {s} {op = op} {k = k} {m = m} a fit (scripted x e) h c =
@@ -192,13 +197,13 @@ module _ (steps : Steps) where
       steps .step a x fit h .keeps k m (rw w at (script-alone c (ap (λ y. y .after .image) w ∙ e)))
 
   crash-keeps : {s : State} {t : Table} {k : ℕ} {m : List ℕ} → Agrees s t → (op : Operation) → Fit (arguments op) → Interrupted op s k m
-      → Keeps (s .image) m
+      → Keeps (s .heads) (s .image) m
   crash-keeps {s} {k = k} {m = m} a op fit c = elim (ℕ-discrete (perform op s .answer) 0) [
     | yes h ↦ answered-crash a fit (kind s op) h c
     | no h ↦ rw (crash-none (s .image) k m (rw (demand1 .refused op s h .no-store) at (script-alone c (refused-image op s h)))) (keeps-itself (shows-view (a .shows)))
   ]
 
-  next-keeps : {s s' : State} {t : Table} → Agrees s t → Next s s' → Keeps (s .image) (s' .image)
+  next-keeps : {s s' : State} {t : Table} → Agrees s t → Next s s' → Keeps (s .heads) (s .image) (s' .image)
   next-keeps a (performed op fit) = done-keeps a op fit
   next-keeps a (crashed op fit k c r) = keeps-held (crash-keeps a op fit c) (ended-held r)
 
@@ -212,5 +217,5 @@ pub record ClaimsPlaced : Type 0 where
 pub placed-from : Steps → ClaimsPlaced → Placed
 placed-from steps claimed s t f = let a = agreed steps f in record {
   claim = claimed .placed a;
-  stays = λ s' n. record { same-place = next-keeps steps a n .same-place };
+  stays = λ s' n. let k = next-keeps steps a n in record { same-place = k .same-place; came-from = k .came-from; targets = next-targets a n };
 }

@@ -79,7 +79,7 @@ module _ {s : State} {t : Table} {slot n reel : ℕ} (a : Agrees s t) (o : Openi
     torn-shows : Shows im t
     torn-shows = view-shows torn-view (a .shows .slots) (a .shows .nodes)
 
-    torn-keeps : Keeps (s .image) im
+    torn-keeps : Keeps (s .heads) (s .image) im
     torn-keeps = keeps-of v (torn-view .header) (record { reels = λ b c. unread-reel differ b; held = λ x. inl (torn-same .holds .1 x) })
 
   -- ---- the image once it is carried out
@@ -158,7 +158,7 @@ module _ {s : State} {t : Table} {slot n reel : ℕ} (a : Agrees s t) (o : Openi
   reel-kept : {s' : ℕ} → Filled g m s' → m (reelAt s') ≡ reads rooted (reelAt s')
   reel-kept {s'} b = unread-reel (differ whole) b ∙ stored .old (reelAt s') (λ q. omega arith)
 
-  keeps-rooted : Keeps (s .image) rooted
+  keeps-rooted : Keeps (s .heads) (s .image) rooted
   keeps-rooted = keeps-of v header (record { reels = λ b c. reel-kept b; held = λ x. inl (torn-same whole .holds .1 (change .holds .0 x)) })
 
   -- what is reached: what was, and the new node
@@ -233,8 +233,8 @@ module _ {s : State} {t : Table} {slot n reel : ℕ} (a : Agrees s t) (o : Openi
   })
 
   -- every image that a crash leaves
-  through : Through (λ im. (Shows im t ⊎ Shows im (withReels t (record { number = reel; frames = [] } ∷ t .reels))) × Keeps (s .image) im) (s .image)
-      (openScript g slot n reel)
+  through : Through (λ im. (Shows im t ⊎ Shows im (withReels t (record { number = reel; frames = [] } ∷ t .reels))) × Keeps (s .heads) (s .image) im)
+      (s .image) (openScript g slot n reel)
   unfolding openScript
   through = (
     λ im y. (inl (torn-shows y), torn-keeps y),

@@ -98,7 +98,7 @@ pub record Still (g : Geometry) (rs : List Reel) (im im' : List ℕ) : Type 0 wh
 pub still-self : {g : Geometry} {rs : List Reel} {im : List ℕ} → View g im rs → Still g rs im im
 still-self {g} {im = im} v = record { view = v; within = within-self g (reads im) }
 
-pub still-keeps : {g : Geometry} {rs : List Reel} {im im' : List ℕ} → View g im rs → Still g rs im im' → Keeps im im'
+pub still-keeps : {ws : List ℕ} {g : Geometry} {rs : List Reel} {im im' : List ℕ} → View g im rs → Still g rs im im' → Keeps ws im im'
 still-keeps v a = keeps-of v (a .view .header) (record { reels = λ b b'. a .within .reels b'; held = λ x. inl (a .within .holds x) })
 
 pub still-on : {g : Geometry} {rs : List Reel} {im im' im'' : List ℕ} → Still g rs im im' → Still g rs im' im'' → Still g rs im im''

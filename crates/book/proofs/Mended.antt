@@ -54,7 +54,7 @@ module _ {g : Geometry} {m m' : Memory} (a : Mended g m m') where
         next = rw (← size, ← next) (f .next);
       })
 
-  mended-same : Same g m m'
+  pub mended-same : Same g m m'
   mended-same = record {
     links = record { roots = λ s h. kept (rootAt s) (λ k. omega arith); next = λ {s} {w} {n} r. kept (nextAt g n) (λ k. omega arith) };
     reels = λ {s} b. kept (reelAt s) (λ k. omega (arith, b .inside));

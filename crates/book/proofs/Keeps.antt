@@ -9,8 +9,11 @@ use Rattle.tree.specs.Fingerprint.{Rule}
 use Rattle.tree.specs.Slots.{Filled}
 use Rattle.tree.specs.Reach.{Holds, FrameOf}
 use Rattle.tree.specs.Sound.{Sound}
+use Rattle.tree.specs.Same.{Same}
 use Rattle.tree.proofs.Memory.{crash-laws}
 use Rattle.tree.proofs.Reach.{slot-filled, one-node}
+use Rattle.tree.proofs.Same.{filled-back}
+use Rattle.tree.proofs.Laws.{same-laws}
 use Rattle.book.specs.State.{State, Operation}
 use Rattle.book.specs.Perform.{granted, writing}
 use Rattle.book.specs.Table.{Table, Reel, tableWork}
@@ -18,6 +21,7 @@ use Rattle.book.specs.Agrees.{Shows, Agrees}
 use Rattle.book.specs.Histories.{carriedOut}
 use Rattle.book.specs.Demands.{FilledBy}
 use Rattle.book.proofs.View.{Header, View}
+use Rattle.book.proofs.Reels.{frames-to}
 use Rattle.book.proofs.Crashed.{Through, falls-through}
 use Rattle.book.proofs.Step.{Keeps, Step}
 
@@ -27,6 +31,31 @@ pub record Keeping (ws : List ℕ) (g : Geometry) (m m' : Memory) : Type 0 where
   pub reels : {s : ℕ} → Filled g m s → Filled g m' s → m (reelAt s) ≡ m' (reelAt s)
   pub held : {s : ℕ} {w : List ℕ} {n p f : ℕ} → Holds g m' s w n p f
       → Holds g m s w n p f ⊎ (Filled g m s × (FrameOf g m s f → ⊥) × FilledBy ws s n p f)
+
+-- m' holds no more than m holds
+pub record Within (g : Geometry) (m m' : Memory) : Type 0 where
+  pub filled : {s : ℕ} → Filled g m' s → Filled g m s
+  pub reels : {s : ℕ} → Filled g m' s → m (reelAt s) ≡ m' (reelAt s)
+  pub holds : {s : ℕ} {w : List ℕ} {n p f : ℕ} → Holds g m' s w n p f → Holds g m s w n p f
+
+pub within-self : (g : Geometry) (m : Memory) → Within g m m
+within-self g m = record { filled = λ b. b; reels = λ b. refl; holds = λ x. x }
+
+pub within-same : {g : Geometry} {m m' : Memory} → Same g m m' → Within g m m'
+within-same a = record { filled = filled-back (a .links); reels = λ b. a .reels (filled-back (a .links) b); holds = same-laws a .holds .1 }
+
+pub within-on : {g : Geometry} {m m' m'' : Memory} → Within g m m' → Within g m' m'' → Within g m m''
+within-on a b = record {
+  filled = λ x. a .filled (b .filled x);
+  reels = λ x. a .reels (b .filled x) ∙ b .reels x;
+  holds = λ x. a .holds (b .holds x);
+}
+
+pub within-frames : {g : Geometry} {m m' : Memory} {s f : ℕ} → Within g m m' → FrameOf g m' s f → FrameOf g m s f
+within-frames a = frames-to (λ w n p x. a .holds x)
+
+pub within-keeping : {ws : List ℕ} {g : Geometry} {m m' : Memory} → Within g m m' → Keeping ws g m m'
+within-keeping a = record { reels = λ b b'. a .reels b'; held = λ x. inl (a .holds x) }
 
 module _ {ws : List ℕ} {r : Rule} {g : Geometry} {m m' : Memory} (d : Sound r g m) (a : Keeping ws g m m') where
   one-slot : {slot slot' : ℕ} → Filled g m slot → Filled g m slot' → Filled g m' slot' → m (reelAt slot) ≡ m' (reelAt slot') → slot ≡ slot'
@@ -56,7 +85,7 @@ keeps-of v h a = record {
 }
 
 pub keeps-itself : {ws : List ℕ} {g : Geometry} {im : List ℕ} {rs : List Reel} → View g im rs → Keeps ws im im
-keeps-itself v = keeps-of v (v .header) (record { reels = λ x y. refl; held = λ x. inl x })
+keeps-itself {g = g} {im = im} v = keeps-of v (v .header) (within-keeping (within-self g (reads im)))
 
 -- ---- a step from its parts: the script, the state after it and the table after it, and each image that a crash can leave
 

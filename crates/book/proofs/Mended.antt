@@ -10,11 +10,12 @@ use Rattle.tree.specs.Memory.{Memory, reads, byte, Fit}
 use Rattle.tree.specs.Layout.{Geometry, editionAt, slotsAt, nodesAt, reelAt, rootAt, nextAt, locateAt, setAt, levelAt, sizeAt, fingerprintsAt, frameAt}
 use Rattle.tree.specs.Node.{wellFormed}
 use Rattle.tree.specs.Same.{Same}
-use Rattle.tree.proofs.Laws.{node-laws, same-laws}
+use Rattle.tree.proofs.Laws.{node-laws}
 use Rattle.book.specs.Table.{Reel}
 use Rattle.book.specs.Agrees.{Reached}
 use Rattle.book.proofs.View.{View}
 use Rattle.book.proofs.Stored.{header-same}
+use Rattle.book.proofs.Reels.{same-reached}
 use Rattle.book.proofs.Views.{view-same}
 
 -- word i, with the value v, is the locate word of a reached node, and v its set word
@@ -66,10 +67,7 @@ module _ {g : Geometry} {m m' : Memory} (a : Mended g m m') where
   }
 
   pub mended-reached : {n : ℕ} → Reached g m n ↔ Reached g m' n
-  mended-reached = (
-    λ r. record { slot = r .slot; way = r .way; there = same-laws mended-same .reaches .0 (r .there) },
-    λ r. record { slot = r .slot; way = r .way; there = same-laws mended-same .reaches .1 (r .there) },
-  )
+  mended-reached = same-reached (mended-same .links)
 
 pub mended-view : {g : Geometry} {im im' : List ℕ} {rs : List Reel} → View g im rs → length im' ≡ length im
     → Mended g (reads im) (reads im') → View g im' rs

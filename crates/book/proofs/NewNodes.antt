@@ -20,7 +20,8 @@ use Rattle.book.proofs.View.{Header, View}
 use Rattle.book.proofs.Stored.{node-inside}
 use Rattle.book.proofs.Sames.{of-node}
 use Rattle.book.proofs.Crashed.{view-torn}
-use Rattle.book.proofs.Still.{Still, same-words, within-same}
+use Rattle.book.proofs.Keeps.{within-same}
+use Rattle.book.proofs.Still.{Still, same-words}
 
 -- the numbers of a range
 pub range-has : (start k c : ℕ) → c < k → List·Memᴰ (start + c) (range start k)

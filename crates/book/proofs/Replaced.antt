@@ -25,8 +25,9 @@ use Rattle.book.specs.Heads.{headCount, headAt, withHead}
 use Rattle.book.specs.State.{State}
 use Rattle.book.specs.Table.{Table, TableHead, Reel, idle, tableHead}
 use Rattle.book.specs.Agrees.{Reached, Claims, HeadAgrees, both-idle, About, by-claim, by-fill, ClaimsPlace}
-use Rattle.book.proofs.Heads.{length-with, head-written, head-stays, idle-nothing, table-head-written, table-head-stays, length-with-table}
+use Rattle.book.proofs.Heads.{length-with, head-written, head-stays, one-target, idle-nothing, table-head-written, table-head-stays, length-with-table}
 use Rattle.book.proofs.Claims.{SameClaim, head-on, AgreesBy}
+use Rattle.book.proofs.Reels.{same-reached}
 use Rattle.book.proofs.OnePlace.{OnePlace}
 
 -- ---- claims, where one place changes
@@ -56,12 +57,6 @@ beside-claim {b = b} d o c e frames = let u = o .beside (claim-low d c) e in rec
   frames = frames;
 }
 
-pub same-reached : {g : Geometry} {m m' : Memory} {n : ℕ} → SameLinks g m m' → Reached g m n ↔ Reached g m' n
-same-reached a = (
-  λ c. record { slot = c .slot; way = c .way; there = reaches-on a (c .there) },
-  λ c. record { slot = c .slot; way = c .way; there = reaches-back a (c .there) },
-)
-
 -- a place is located exactly if it is held or claimed
 abbrev pub Located : Geometry → Memory → (heads : List ℕ) → (n p : ℕ) → Type 0
 Located g m ws n p = (isSet (m (locateAt g n)) p ≡ true) ↔ ((held g m n p ≡ true) ⊎ ((h : ℕ) × ClaimsPlace ws h n p))
@@ -90,11 +85,6 @@ retabled t rs h z = record { slots = t .slots; nodes = t .nodes; reels = rs; hea
 
 abbrev pub restated : State → List ℕ → ℕ → HeadState → State
 restated s im h y = record { image = im; pool = s .pool; heads = withHead (s .heads) h y }
-
--- a head is about one place
-one-target : {a b : Target} {x : HeadState} → About a x → About b x → a ≡ b
-one-target by-claim by-claim = refl
-one-target by-fill by-fill = refl
 
 own-place : {ws : List ℕ} (h : ℕ) {x : Target} → About x (headAt ws h) → (k n p : ℕ) → k ≡ h → ClaimsPlace ws k n p → (n ≡ x .node) × (p ≡ x .place)
 own-place {ws} h about k n p e c =

@@ -28,7 +28,8 @@ use Rattle.book.proofs.Showing.{shows-view}
 use Rattle.book.proofs.Crashed.{Through, through-each}
 use Rattle.book.proofs.Reading.{sizesOf, claim-inside}
 use Rattle.book.proofs.Claims.{SameClaim, about-claim}
-use Rattle.book.proofs.Still.{within-frames, Still, still-on}
+use Rattle.book.proofs.Keeps.{within-frames}
+use Rattle.book.proofs.Still.{Still, still-on}
 use Rattle.book.proofs.Claiming.{Asked, targetAt}
 use Rattle.book.proofs.Making.{Makes, asked-made}
 use Rattle.book.proofs.StepClear.{Placed, placed}

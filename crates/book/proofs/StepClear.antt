@@ -30,7 +30,9 @@ use Rattle.book.proofs.Sames.{node-formed, reached-inside, view-locate}
 use Rattle.book.proofs.Showing.{shows-view, view-shows}
 use Rattle.book.proofs.Reading.{sizesOf, claim-inside}
 use Rattle.book.proofs.Claims.{SameClaim}
-use Rattle.book.proofs.Still.{Still, within-same, within-frames, same-reached, same-word, claim-beside}
+use Rattle.book.proofs.Keeps.{within-same, within-frames}
+use Rattle.book.proofs.Reels.{same-reached}
+use Rattle.book.proofs.Still.{Still, same-word, claim-beside}
 use Rattle.book.proofs.Claiming.{Asked, Lands, targetAt, landed}
 
 -- the places of a node are below 64
@@ -118,12 +120,12 @@ module _ {s : State} {t : Table} {h reel f slot n p : ℕ} (d : ℕ) (a : Asked 
   lands = record {
     shows = view-shows (still-clear .view) (a .agrees .shows .slots) (a .agrees .shows .nodes);
     geometry = still-clear .view .header .geometry;
-    reached = same-reached same;
+    reached = λ k. same-reached (same .links);
     carries = carries;
     claims = claims;
     unclaimed = λ k c. true-not-false (a .agrees .locates n p here low-64 .1 (inr (k, c))) clear;
     locates = λ k q r b.
-        let u = a .agrees .locates k q (same-reached same k .1 r) b in
+        let u = a .agrees .locates k q (same-reached (same .links) .1 r) b in
         let e = bits k q in
         rw (← held-same k q) (
           λ z. elim (e .0 z) [ inl y ↦ inl (u .0 y) | inr y ↦ inr y ],

@@ -26,7 +26,9 @@ use Rattle.book.proofs.Showing.{shows-view}
 use Rattle.book.proofs.Crashed.{AfterEach}
 use Rattle.book.proofs.Reading.{sizesOf, claim-inside}
 use Rattle.book.proofs.Claims.{SameClaim}
-use Rattle.book.proofs.Still.{Still, still-on, within-same, same-reached, same-word, claim-beside}
+use Rattle.book.proofs.Keeps.{within-same}
+use Rattle.book.proofs.Reels.{same-reached}
+use Rattle.book.proofs.Still.{Still, still-on, same-word, claim-beside}
 use Rattle.book.proofs.Claiming.{Asked, targetAt}
 use Rattle.book.proofs.Making.{Makes, asked-made}
 use Rattle.book.proofs.StepClear.{Placed, placed}
@@ -80,12 +82,12 @@ module _ {s : State} {t : Table} {h reel f slot n : ℕ} (a : Asked s t h reel f
   makes = record {
     still = record { view = view-size old-view x ends small; within = within-same same };
     map-words = refl;
-    marks = λ k. let u = a .agrees .marks k in (λ e. same-reached same k .0 (u .0 e), λ r. u .1 (same-reached same k .1 r));
+    marks = λ k. let u = a .agrees .marks k in (λ e. same-reached (same .links) .0 (u .0 e), λ r. u .1 (same-reached (same .links) .1 r));
     ways = λ z. same-laws same .reaches .0 z;
     carries = carries;
     locates = λ k q r b.
         rw (← stored .old (locateAt g k) (λ z. omega arith), ← stored .old (setAt g k) (λ z. omega arith))
-        (a .agrees .locates k q (same-reached same k .1 r) b);
+        (a .agrees .locates k q (same-reached (same .links) .1 r) b);
   }
 
   locate-same : m (locateAt g n) ≡ m' (locateAt g n)

@@ -20,13 +20,13 @@ use Rattle.book.specs.Histories.{Next, performed, crashed}
 use Rattle.book.proofs.Refusals.{passes}
 use Rattle.book.proofs.Performed.{answer-is}
 use Rattle.book.proofs.Done.{done-granted, refused-heads}
-use Rattle.book.proofs.Heads.{head-written, head-stays, idle-heads, target-about, idle-nothing}
+use Rattle.book.proofs.Heads.{head-written, head-stays, idle-heads, target-about, one-target, idle-nothing}
 
 record SameTarget (x y : HeadState) : Type 0 where
   same : {a b : Target} → About a x → About b y → a ≡ b
 
 same-itself : (x : HeadState) → SameTarget x x
-same-itself x = record { same = λ a b. sym (target-about a .1) ∙ target-about b .1 }
+same-itself x = record { same = one-target }
 
 -- an idle head is about nothing
 same-from-idle : {x y : HeadState} → isIdle x ≡ true → SameTarget x y

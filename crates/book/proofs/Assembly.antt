@@ -11,7 +11,7 @@ use Rattle.tree.specs.Memory.{reads, segmented, apply, CrashImage, passed, Fit}
 use Rattle.tree.specs.Layout.{Geometry, mapWords, geometryOf}
 use Rattle.tree.proofs.Memory.{crash-laws}
 use Rattle.book.specs.State.{State, Operation, format, recover, openReel, claim, fill, commit, abandon, remove, has, list, retire, arguments}
-use Rattle.book.specs.Perform.{granted, leaves, perform}
+use Rattle.book.specs.Perform.{granted, perform}
 use Rattle.book.specs.Table.{Table, Reel, geometry, fed, tableWork, emptyTable, allIdle}
 use Rattle.book.specs.Agrees.{Shows, Agrees}
 use Rattle.book.specs.Histories.{carriedOut, done, replied, answered-format, Interrupted, Attempts, Recovered, Follows, formatted, performed, before, after}

@@ -1,25 +1,19 @@
 -- Where frames sit: a frame that a reel held, and holds still, is where it was, and one that is new is where a head had put it.
 use mathlib.Core.Path.{_≡_, refl, sym, _∙_, ap}
-use mathlib.Core.Bool.{not}
-use mathlib.Core.Logic.{inl, inr, _≢_}
-use mathlib.Core.List.{List, [], _∷_, List·Memᴰ, List·Memᴰ·not-nil, Memᴰ·of-map}
-use Prim.Native.Nat.{ℕ, _%_}
+use mathlib.Core.List.{List, [], _∷_, List·Memᴰ·not-nil}
+use Prim.Native.Nat.{ℕ}
 use native.Mathlib.Omega.{arith}
 use native.Mathlib.Decide.{ℕ-discrete}
 use lib.ListN.{length}
-use lib.Dec.{eqb}
-use lib.Seq.{take-length, ext-getD}
-use Rattle.tree.specs.Memory.{Memory, reads, byte, Store, stores, segmented, apply, CrashImage, Fit}
-use Rattle.tree.specs.Lists.{keep}
-use Rattle.tree.specs.Layout.{Geometry, slotsAt, nodesAt, geometryOf, reelAt, rootAt, nextAt, locateAt, setAt, fingerprintsAt, frameAt}
+use lib.Seq.{take-length}
+use Rattle.tree.specs.Memory.{reads, segmented, apply, CrashImage, Fit}
+use Rattle.tree.specs.Layout.{slotsAt, nodesAt, geometryOf, reelAt}
 use Rattle.tree.specs.Reach.{Reaches, Holds}
-use Rattle.tree.specs.Same.{Same}
-use Rattle.tree.specs.Subtree.{Visit, allTrees}
 use Rattle.tree.proofs.Memory.{crash-laws}
 use Rattle.tree.proofs.Reach.{slot-filled}
 use Rattle.tree.proofs.Laws.{same-laws}
-use Rattle.book.specs.State.{State, Operation, format, recover, openReel, claim, fill, commit, abandon, remove, has, list, retire, arguments, Work}
-use Rattle.book.specs.Perform.{recoverStores, granted, perform}
+use Rattle.book.specs.State.{State, Operation, recover, claim, arguments}
+use Rattle.book.specs.Perform.{granted, perform}
 use Rattle.book.specs.Table.{Table, emptyTable}
 use Rattle.book.specs.Agrees.{Agrees}
 use Rattle.book.specs.Histories.{done, answered-format, Interrupted, Attempts, none-yet, refused, interrupted, Recovered, Next, performed, crashed}
@@ -31,7 +25,6 @@ use Rattle.book.proofs.Done.{done-granted, refused-image, done-image}
 use Rattle.book.proofs.View.{View}
 use Rattle.book.proofs.Showing.{shows-view}
 use Rattle.book.proofs.Stored.{same-geometry}
-use Rattle.book.proofs.Crashed.{torn-whole}
 use Rattle.book.proofs.Step.{Keeps}
 use Rattle.book.proofs.Keeps.{keeps-itself}
 use Rattle.book.proofs.Formatted.{format-agrees}

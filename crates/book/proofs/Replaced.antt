@@ -14,9 +14,8 @@ use Rattle.tree.specs.Fingerprint.{Rule}
 use Rattle.tree.specs.Node.{held}
 use Rattle.tree.specs.Reach.{FrameOf}
 use Rattle.tree.specs.Sound.{Sound}
-use Rattle.tree.specs.Same.{SameLinks}
 use Rattle.tree.specs.Laws.{WellFormed}
-use Rattle.tree.proofs.Same.{reaches-on, reaches-back}
+use Rattle.tree.proofs.Same.{reaches-on}
 use Rattle.tree.proofs.Nodes.{wellFormed-facts}
 use Rattle.book.specs.declared.Target.{Target}
 use Rattle.book.specs.declared.HeadState.{HeadState}
@@ -24,10 +23,11 @@ use Rattle.book.specs.declared.HeadState.the-variants as heads
 use Rattle.book.specs.Heads.{headCount, headAt, withHead}
 use Rattle.book.specs.State.{State}
 use Rattle.book.specs.Table.{Table, TableHead, Reel, idle, tableHead}
-use Rattle.book.specs.Agrees.{Reached, Claims, HeadAgrees, both-idle, About, by-claim, by-fill, ClaimsPlace}
+use Rattle.book.specs.Agrees.{Reached, Claims, HeadAgrees, both-idle, About, by-fill, ClaimsPlace}
 use Rattle.book.proofs.Heads.{length-with, head-written, head-stays, one-target, idle-nothing, table-head-written, table-head-stays, length-with-table}
 use Rattle.book.proofs.Claims.{SameClaim, head-on, AgreesBy}
 use Rattle.book.proofs.Reels.{same-reached}
+use Rattle.book.proofs.Sames.{size-most}
 use Rattle.book.proofs.OnePlace.{OnePlace}
 
 -- ---- claims, where one place changes
@@ -38,10 +38,7 @@ pub claim-formed : {r : Rule} {g : Geometry} {m : Memory} {x : Target} {reel f :
 claim-formed {g = g} {m = m} {x = x} {f = f} d c = wellFormed-facts g m (length (wayOf (c .depth) f)) (x .node) .0 (d .well-formed (c .on-path))
 
 pub claim-low : {r : Rule} {g : Geometry} {m : Memory} {x : Target} {reel f : ℕ} → Sound r g m → Claims g m x reel f → x .place < 64
-claim-low d c = elim (claim-formed d c .size) [
-  | inl q ↦ omega (arith, c .place)
-  | inr q ↦ elim (q .1) [ inl e ↦ omega (arith, c .place) | inr e ↦ omega (arith, c .place) ]
-]
+claim-low d c = omega (arith, c .place, size-most (claim-formed d c))
 
 -- a claim of another place stays
 pub beside-claim : {r : Rule} {g : Geometry} {m m' : Memory} {n p : ℕ} {b : Target} {reel f : ℕ} → Sound r g m → OnePlace g m m' n p → Claims g m b reel f

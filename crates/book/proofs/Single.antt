@@ -26,7 +26,7 @@ abbrev pub setAll : List ℕ → List Store → List ℕ
 setAll im [] = im
 setAll im (s ∷ ss) = setAll (set im (s .0) (s .1)) ss
 
-apply-single : (im : List ℕ) (ss : List Store) → apply im (segmented (single ss)) ≡ setAll im ss
+pub apply-single : (im : List ℕ) (ss : List Store) → apply im (segmented (single ss)) ≡ setAll im ss
 unfolding apply segmented stores
 apply-single im [] = refl
 apply-single im (s ∷ ss) = apply-single (set im (s .0) (s .1)) ss

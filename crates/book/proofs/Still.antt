@@ -1,22 +1,19 @@
 -- Images that hold only what another one holds, in the same places, and show the same reels.
-use mathlib.Core.Path.{_≡_, refl, _∙_, ap}
-use mathlib.Core.Logic.{inl, _↔_, _≢_}
+use mathlib.Core.Path.{_≡_, ap}
+use mathlib.Core.Logic.{_≢_}
 use mathlib.Core.List.{List}
 use Prim.Native.Nat.{ℕ, _+_, _*_, _%_, _≤_, _<_}
 use native.Mathlib.Omega.{arith}
 use Rattle.tree.specs.Memory.{Memory, reads, isSet, byte}
 use Rattle.tree.specs.Layout.{Geometry, reelAt, rootAt, nodeAt, nextAt, locateAt, setAt, sizeAt, fingerprintsAt, frameAt}
-use Rattle.tree.specs.Slots.{Filled}
-use Rattle.tree.specs.Reach.{Reaches, Holds, FrameOf}
+use Rattle.tree.specs.Reach.{Reaches}
 use Rattle.tree.specs.Same.{Same, SameWords, Stores}
-use Rattle.tree.proofs.Same.{filled-back}
 use Rattle.tree.proofs.Words.{same-next, same-frames}
 use Rattle.tree.proofs.Laws.{same-laws}
 use Rattle.book.specs.declared.Target.{Target}
 use Rattle.book.specs.Table.{Reel}
-use Rattle.book.specs.Agrees.{Reached, Claims}
+use Rattle.book.specs.Agrees.{Claims}
 use Rattle.book.proofs.View.{View}
-use Rattle.book.proofs.Reels.{frames-to}
 use Rattle.book.proofs.Step.{Keeps}
 use Rattle.book.proofs.Claims.{SameClaim}
 use Rattle.book.proofs.Keeps.{Within, within-self, within-same, within-on, within-frames, within-keeping, keeps-of}

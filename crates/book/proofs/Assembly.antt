@@ -11,7 +11,7 @@ use Rattle.tree.specs.Memory.{reads, segmented, apply, CrashImage, passed, Fit}
 use Rattle.tree.specs.Layout.{Geometry, mapWords, geometryOf}
 use Rattle.tree.proofs.Memory.{crash-laws}
 use Rattle.book.specs.State.{State, Operation, format, recover, openReel, claim, fill, commit, abandon, remove, has, list, retire, arguments}
-use Rattle.book.specs.Perform.{granted, leaves, perform}
+use Rattle.book.specs.Perform.{granted, perform}
 use Rattle.book.specs.Table.{Table, Reel, geometry, fed, tableWork, emptyTable, allIdle}
 use Rattle.book.specs.Agrees.{Shows, Agrees}
 use Rattle.book.specs.Histories.{carriedOut, done, replied, answered-format, Interrupted, Attempts, Recovered, Follows, formatted, performed, before, after}
@@ -48,12 +48,12 @@ pub record Steps : Type 0 where
 
 -- ---- the three kinds of operation
 
-data Kind : Operation → Type 0 where
+pub data Kind : Operation → Type 0 where
   formats : {words slots nodes : ℕ} → Kind (format words slots nodes)
   recovers : {words : ℕ} → Kind (recover words)
   scripted : {op : Operation} → Scripted op → Kind op
 
-kind : (op : Operation) → Kind op
+pub kind : (op : Operation) → Kind op
 kind (format words slots nodes) = formats
 kind (recover words) = recovers
 kind (openReel words script reel) = scripted opens
@@ -66,7 +66,7 @@ kind (has reel f) = scripted asks
 kind (list scratch room reel) = scripted lists
 kind (retire words scratch script reel) = scripted retires
 
-granted-image : {op : Operation} (s : State) → Scripted op → granted op s .after .image ≡ s .image
+pub granted-image : {op : Operation} (s : State) → Scripted op → granted op s .after .image ≡ s .image
 unfolding granted
 granted-image s opens = refl
 granted-image s claims = refl
@@ -98,7 +98,7 @@ unfolding allIdle
 idle-seen t v = v
 
 -- the state before an interrupted operation that does not write the image
-itself-same : {op : Operation} {s : State} {k : ℕ} {m : List ℕ} (c : Interrupted op s k m) → perform op s .work .after .image ≡ s .image → c .itself ≡ s .image
+pub itself-same : {op : Operation} {s : State} {k : ℕ} {m : List ℕ} (c : Interrupted op s k m) → perform op s .work .after .image ≡ s .image → c .itself ≡ s .image
 itself-same {s = s} c q =
     ext-getD 0 (c .itself) (s .image) (c .same-length) (λ i l. elim (c .old-or-new i) [ inl e ↦ e | inr e ↦ e ∙ ap (λ m. reads m i) q ])
 

@@ -2,36 +2,31 @@
 use mathlib.Core.Path.{_≡_, refl, sym, _∙_}
 use mathlib.Core.Logic.{_⊎_, inl, inr}
 use mathlib.Core.List.{List, _∷_, List·Memᴰ}
-use Prim.Native.Nat.{ℕ, suc, _+_, _-_, _^_, _≤_, _<_}
+use Prim.Native.Nat.{ℕ, suc, _+_, _-_, _^_, _<_}
 use native.Mathlib.Omega.{arith}
 use lib.ListN.{length, set}
 use Rattle.tree.specs.Memory.{Memory, reads, stores, apply, Torn}
-use Rattle.tree.specs.Test.{Says}
-use Rattle.tree.specs.Layout.{Geometry, inRange, reelAt, nodeAt, nextAt, locateAt, setAt, sizeAt}
+use Rattle.tree.specs.Layout.{Geometry, reelAt, nodeAt, nextAt, locateAt, setAt, sizeAt}
 use Rattle.tree.specs.Path.{fanout, wayOf}
 use Rattle.tree.specs.Fingerprint.{ruleOf}
 use Rattle.tree.specs.Slots.{Filled}
 use Rattle.tree.specs.Reach.{Reaches}
 use Rattle.tree.specs.Same.{Same, SameWords, Stores}
 use Rattle.tree.specs.Changes.{Fresh, Links, NewChild, Grown}
-use Rattle.tree.proofs.Lists.{in-range}
+use Rattle.tree.proofs.Lists.{in-range, range-has}
 use Rattle.tree.proofs.Laws.{child-laws, node-laws, same-laws, change-laws}
 use Rattle.book.specs.Perform.{group}
 use Rattle.book.specs.Table.{Reel}
 use Rattle.book.specs.Agrees.{Reached}
 use Rattle.book.specs.Ways.{UnreachedRun, FullPath}
 use Rattle.book.proofs.View.{Header, View}
-use Rattle.book.proofs.Stored.{stores-set, header-set}
+use Rattle.book.proofs.Stored.{stores-set, header-set, few-nodes}
 use Rattle.book.proofs.Reels.{node-slots}
 use Rattle.book.proofs.Views.{view-linked}
 use Rattle.book.proofs.Sames.{reached-inside}
 use Rattle.book.proofs.Crashed.{torn-whole}
 use Rattle.book.proofs.Still.{Still, still-on}
-use Rattle.book.proofs.NewNodes.{range-has, newNodes, Made, made, words-torn, same-torn, still-torn}
-
-most-nodes : (g : Geometry) → Says (inRange g) → g .nodes ≤ 65536
-unfolding inRange
-most-nodes g h = h .1 .1 .1
+use Rattle.book.proofs.NewNodes.{newNodes, Made, made, words-torn, same-torn, still-torn}
 
 -- the nodes of a group
 pub in-group : (start d : ℕ) {n : ℕ} → List·Memᴰ n (group start d) → (c : ℕ) × (c < fanout d) × (n ≡ start + c)
@@ -100,7 +95,7 @@ module _ {g : Geometry} {im : List ℕ} {rs : List Reel} {slot f d start : ℕ} 
   words1 y = words-torn g (suc d) 64 ns v unreached level-fits whole y
 
   made1 : (c : ℕ) → c < fanout d → Made g (suc d) 64 m1 (start + c)
-  made1 c l = made g (suc d) 64 ns (v .header) (range-has start (fanout d) c l) (omega (arith, run .inside))
+  made1 c l = made g (suc d) 64 ns (v .header) (range-has start (fanout d) {c = start + c} (omega arith) (omega arith)) (omega (arith, run .inside))
 
   -- ---- and linked
 
@@ -143,7 +138,7 @@ module _ {g : Geometry} {im : List ℕ} {rs : List Reel} {slot f d start : ℕ} 
 
   header2 : Header g im2
   header2 = header-set (nextAt g parent) (start + 1) (still1 .view .header) (omega arith) index
-      (omega (arith, run .inside, child-laws .below d f deep, most-nodes g (v .header .in-range)))
+      (omega (arith, run .inside, child-laws .below d f deep, few-nodes (v .header)))
 
   grown : Grown (ruleOf m1) g m1 m2 (NewChild slot (wayOf d f) start)
   grown = change-laws m2 (still1 .view .sound) .linked links stored2

@@ -1,21 +1,19 @@
 -- A book's agreement with its table, in a given geometry: claims carried from one memory to another.
 use mathlib.Core.Path.{_≡_, sym, _∙_, ap, subst}
 use mathlib.Core.Bool.{true}
-use mathlib.Core.Logic.{_⊎_, inl, inr, _↔_}
+use mathlib.Core.Logic.{_⊎_, _↔_}
 use mathlib.Core.List.{List}
 use Prim.Native.Nat.{ℕ, _*_, _%_, _≤_, _<_}
 use native.Mathlib.Omega.{arith}
 use lib.ListN.{length}
 use Rattle.tree.specs.Memory.{Memory, reads, isSet, byte}
-use Rattle.tree.specs.Layout.{Geometry, mapWords, geometryOf, reelAt, rootAt, locateAt, setAt, sizeAt, fingerprintsAt, frameAt}
+use Rattle.tree.specs.Layout.{Geometry, mapWords, geometryOf, reelAt, locateAt, setAt, sizeAt, fingerprintsAt, frameAt}
 use Rattle.tree.specs.Fingerprint.{fingerprint}
 use Rattle.tree.specs.Node.{held, frame, storedFingerprint}
-use Rattle.tree.specs.Slots.{Filled}
 use Rattle.tree.specs.Reach.{Reaches, FrameOf}
 use Rattle.tree.specs.Pool.{used}
-use Rattle.tree.specs.Same.{Same, SameWords}
+use Rattle.tree.specs.Same.{SameWords}
 use Rattle.tree.proofs.Reach.{slot-filled}
-use Rattle.tree.proofs.Words.{same-next, same-frames}
 use Rattle.book.specs.declared.Target.{Target}
 use Rattle.book.specs.declared.HeadState.{HeadState}
 use Rattle.book.specs.Heads.{headCount, headAt}
@@ -24,7 +22,6 @@ use Rattle.book.specs.Table.{Table, TableHead, tableHead}
 use Rattle.book.specs.Agrees.{Reached, Shows, Claims, Written, HeadAgrees, both-idle, both-claimed, both-filled}
 use Rattle.book.specs.Agrees.{About, by-claim, by-fill, ClaimsPlace, Agrees}
 use Rattle.book.proofs.Stored.{same-rule}
-use Rattle.book.proofs.Sames.{Unread, of-node, of-slot}
 
 -- ---- claims
 
@@ -91,36 +88,6 @@ pub about-claim : {g : Geometry} {m : Memory} {x : HeadState} {y : TableHead} {t
     → (reel : ℕ) × (f : ℕ) × Claims g m t reel f
 about-claim (both-claimed {reel = r} {f = f} c) by-claim = (r, f, c)
 about-claim (both-filled {reel = r} {f = f} c w) by-fill = (r, f, c)
-
--- ---- memories that differ in words that nothing reads
-
-module _ {g : Geometry} {m m' : Memory} (a : (i : ℕ) → (m i ≡ m' i) ⊎ Unread g m i) where
-  is-read : (i : ℕ) → (Unread g m i → ⊥) → m i ≡ m' i
-  is-read i h = elim (a i) [ inl q ↦ q | inr u ↦ absurd (h u) ]
-
-  pub unread-words : {s : ℕ} {w : List ℕ} {n : ℕ} → Reaches g m s w n → SameWords g m m' n
-  unread-words {s} {w} {n} x = record {
-    words = λ i l h. is-read i (λ u. elim u [
-      | of-node n' l' h' o ↦ let z : n ≡ n' = omega arith in o (record { slot = s; way = w; there = rw z at x })
-      | of-slot s' k e q ↦ omega arith
-    ]);
-  }
-
-  pub unread-reel : {s : ℕ} → Filled g m s → m (reelAt s) ≡ m' (reelAt s)
-  unread-reel {s} b = is-read (reelAt s) (λ u. elim u [
-    | of-node n l h o ↦ omega (arith, b .inside)
-    | of-slot s' k e q ↦ let z : s ≡ s' = omega arith in omega (arith, b .linked, ap (λ x. m (rootAt x)) z)
-  ])
-
-  pub unread-same : Same g m m'
-  unread-same = record {
-    links = record {
-      roots = λ s h. is-read (rootAt s) (λ u. elim u [ of-node n l k o ↦ omega arith | of-slot s' k e q ↦ omega arith ]);
-      next = λ x. same-next (unread-words x);
-    };
-    reels = unread-reel;
-    holds = λ x. same-frames (unread-words x);
-  }
 
 -- ---- agreement
 

@@ -18,10 +18,14 @@ carried-leaving s = ap (λ m. record { image = m; pool = s .pool; heads = s .hea
 pub done-granted : (op : Operation) (s : State) → perform op s .answer ≡ 0 → done op s ≡ carriedOut (granted op s)
 done-granted op s h = ap carriedOut (work-granted op s h)
 
--- a refusal leaves the image; one that is not 4 leaves all
+-- a refusal leaves the image and the heads; one that is not 4 leaves all
 left-image : {op : Operation} {s s' : State} {n : ℕ} → Leaves s op n s' → s' .image ≡ s .image
 left-image (as-before c q) = ap (λ s. s .image) q
 left-image (map-cleared q h l z) = q
+
+left-heads : {op : Operation} {s s' : State} {n : ℕ} → Leaves s op n s' → s' .heads ≡ s .heads
+left-heads (as-before c q) = ap (λ s. s .heads) q
+left-heads (map-cleared q h l z) = h
 
 left-all : {op : Operation} {s s' : State} {n : ℕ} → Leaves s op n s' → n ≢ 4 → s' ≡ s
 left-all (as-before c q) h = q
@@ -30,6 +34,9 @@ left-all (map-cleared q k l z) h = absurd (h refl)
 module _ (op : Operation) (s : State) (h : perform op s .answer ≢ 0) where
   pub refused-image : perform op s .work .after .image ≡ s .image
   refused-image = left-image (demand1 .refused op s h .left)
+
+  pub refused-heads : done op s .heads ≡ s .heads
+  refused-heads = left-heads (demand1 .refused op s h .left)
 
   done-refused : done op s ≡ perform op s .work .after
   done-refused =

@@ -1,5 +1,5 @@
 -- Laws of the heads: of the driver's records and of the table's.
-use mathlib.Core.Path.{_≡_, refl, _∙_, ap}
+use mathlib.Core.Path.{_≡_, refl, sym, _∙_, ap}
 use mathlib.Core.Bool.{Bool, true, false, not, and-false}
 use mathlib.Core.Logic.{_⊎_, inl, inr, _↔_, _≢_}
 use mathlib.Core.List.{List, [], _∷_, _++_}
@@ -123,6 +123,10 @@ about-target (Filled t) h = by-fill
 pub target-about : {t : Target} {x : HeadState} → About t x → (isIdle x ≡ false) × (targetOf x ≡ t)
 target-about by-claim = (refl, refl)
 target-about by-fill = (refl, refl)
+
+-- a head is about one target, an idle one about none
+pub one-target : {a b : Target} {x : HeadState} → About a x → About b x → a ≡ b
+one-target a b = sym (target-about a .1) ∙ target-about b .1
 
 pub idle-nothing : {t : Target} {x : HeadState} → isIdle x ≡ true → About t x → ⊥
 idle-nothing h a = true-not-false h (target-about a .0)

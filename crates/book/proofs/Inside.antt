@@ -23,6 +23,7 @@ use Rattle.book.specs.Perform.{orNone}
 use Rattle.tree.proofs.Cases.{test, seen, nothing, just, some-inj, none-some, true-not-false}
 use Rattle.tree.proofs.Laws.{node-laws, spot-laws, run-laws, fingerprint-laws}
 use Rattle.book.proofs.Refusals.{Denies}
+use Rattle.book.proofs.Sames.{size-most}
 
 -- ---- the header
 
@@ -47,7 +48,7 @@ module _ (g : Geometry) (m : Memory) where
   formed-in-pool : (d n : ℕ) → wellFormed g m d n ≡ true → InPool n
   formed-in-pool d n h =
       let w = node-laws g m .facts d n .0 h in
-      record { inside = w .inside; size = elim (w .size) [ inl q ↦ omega arith | inr t ↦ elim (t .1) [ inl q ↦ omega arith | inr q ↦ omega arith ] ] }
+      record { inside = w .inside; size = size-most w }
 
   -- one node or more, each in the pool, and no more than there are levels left
   pub record PathNodes (left : ℕ) (ns : List ℕ) : Type 0 where

@@ -40,6 +40,7 @@ pub mod StepRetire
 pub mod Opening
 pub mod StepOpen
 pub mod StepRead
+pub mod Targets
 pub mod Placed
 pub mod StepFill
 pub mod StepRemove

@@ -19,7 +19,8 @@ use Rattle.book.specs.Agrees.{Reached, Claims, ClaimsPlace, Agrees}
 use Rattle.book.proofs.Showing.{view-shows}
 use Rattle.book.proofs.Reading.{sizesOf}
 use Rattle.book.proofs.Claims.{SameClaim, head-on, agrees-of}
-use Rattle.book.proofs.Still.{Still, within-frames}
+use Rattle.book.proofs.Keeps.{within-frames}
+use Rattle.book.proofs.Still.{Still}
 use Rattle.book.proofs.Claiming.{Asked}
 
 -- the image and the map with the room made

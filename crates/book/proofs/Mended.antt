@@ -3,18 +3,19 @@ use mathlib.Core.Path.{_≡_, sym, _∙_, ap}
 use mathlib.Core.Bool.{true}
 use mathlib.Core.Logic.{_⊎_, inl, inr, _≢_, _↔_}
 use mathlib.Core.List.{List}
-use Prim.Native.Nat.{ℕ, _-_, _%_}
+use Prim.Native.Nat.{ℕ, _%_}
 use native.Mathlib.Omega.{arith}
 use lib.ListN.{length}
 use Rattle.tree.specs.Memory.{Memory, reads, byte, Fit}
 use Rattle.tree.specs.Layout.{Geometry, editionAt, slotsAt, nodesAt, reelAt, rootAt, nextAt, locateAt, setAt, levelAt, sizeAt, fingerprintsAt, frameAt}
 use Rattle.tree.specs.Node.{wellFormed}
 use Rattle.tree.specs.Same.{Same}
-use Rattle.tree.proofs.Laws.{node-laws, same-laws}
+use Rattle.tree.proofs.Laws.{node-laws}
 use Rattle.book.specs.Table.{Reel}
 use Rattle.book.specs.Agrees.{Reached}
 use Rattle.book.proofs.View.{View}
 use Rattle.book.proofs.Stored.{header-same}
+use Rattle.book.proofs.Reels.{same-reached}
 use Rattle.book.proofs.Views.{view-same}
 
 -- word i, with the value v, is the locate word of a reached node, and v its set word
@@ -54,7 +55,7 @@ module _ {g : Geometry} {m m' : Memory} (a : Mended g m m') where
         next = rw (← size, ← next) (f .next);
       })
 
-  mended-same : Same g m m'
+  pub mended-same : Same g m m'
   mended-same = record {
     links = record { roots = λ s h. kept (rootAt s) (λ k. omega arith); next = λ {s} {w} {n} r. kept (nextAt g n) (λ k. omega arith) };
     reels = λ {s} b. kept (reelAt s) (λ k. omega (arith, b .inside));
@@ -66,10 +67,7 @@ module _ {g : Geometry} {m m' : Memory} (a : Mended g m m') where
   }
 
   pub mended-reached : {n : ℕ} → Reached g m n ↔ Reached g m' n
-  mended-reached = (
-    λ r. record { slot = r .slot; way = r .way; there = same-laws mended-same .reaches .0 (r .there) },
-    λ r. record { slot = r .slot; way = r .way; there = same-laws mended-same .reaches .1 (r .there) },
-  )
+  mended-reached = same-reached (mended-same .links)
 
 pub mended-view : {g : Geometry} {im im' : List ℕ} {rs : List Reel} → View g im rs → length im' ≡ length im
     → Mended g (reads im) (reads im') → View g im' rs

@@ -1,14 +1,11 @@
 -- Nodes made anew, by one segment of stores to nodes that nothing reaches: what it leaves, torn and whole.
-use mathlib.Core.Path.{_≡_, refl, sym, _∙_, ap}
+use mathlib.Core.Path.{_≡_, refl, sym, ap}
 use mathlib.Core.Logic.{_⊎_, inl, inr}
-use mathlib.Core.List.{List, [], _∷_, flatMap, List·Memᴰ, List·Memᴰ·head, List·Memᴰ·tail, List·Memᴰ·cases-cons, List·Memᴰ·not-nil}
+use mathlib.Core.List.{List, [], _∷_, flatMap, List·Memᴰ, List·Memᴰ·head, List·Memᴰ·tail}
 use Prim.Native.Nat.{ℕ, zero, suc, _+_, _^_, _≤_, _<_}
 use native.Mathlib.Omega.{arith}
-use native.Mathlib.Decide.{ℕ-discrete}
-use lib.ListN.{length, getD, set, length-set}
-use lib.Seq.{getD-set-same, getD-set-other}
+use lib.ListN.{getD, set}
 use Rattle.tree.specs.Memory.{Memory, reads, Store, stores, apply, Torn}
-use Rattle.tree.specs.Lists.{range}
 use Rattle.tree.specs.Layout.{Geometry, nodeAt, nextAt, locateAt, setAt, levelAt, sizeAt}
 use Rattle.tree.specs.Reach.{Reaches}
 use Rattle.tree.specs.Same.{Same, SameWords}
@@ -18,31 +15,11 @@ use Rattle.book.specs.Table.{Reel}
 use Rattle.book.specs.Agrees.{Reached}
 use Rattle.book.proofs.View.{Header, View}
 use Rattle.book.proofs.Stored.{node-inside}
+use Rattle.book.proofs.StoreLists.{settles}
 use Rattle.book.proofs.Sames.{of-node}
 use Rattle.book.proofs.Crashed.{view-torn}
-use Rattle.book.proofs.Still.{Still, same-words, within-same}
-
--- the numbers of a range
-pub range-has : (start k c : ℕ) → c < k → List·Memᴰ (start + c) (range start k)
-unfolding range
-range-has start zero c h = absurd (omega arith)
-range-has start (suc k) zero h = let z : start + 0 ≡ start = omega arith in List·Memᴰ·head z
-range-has start (suc k) (suc c) h = let z : start + suc c ≡ suc start + c = omega arith in rw z (List·Memᴰ·tail (range-has (suc start) k c (omega arith)))
-
--- a word to which a segment stores one value alone, or that has it already, holds it afterwards
-pub one-stored : (im : List ℕ) (seg : List Store) (i v : ℕ) → i < length im → ((u : ℕ) → List·Memᴰ {A = Store} (i, u) seg → u ≡ v)
-    → (reads im i ≡ v) ⊎ List·Memᴰ {A = Store} (i, v) seg → reads (apply im (stores seg)) i ≡ v
-unfolding apply stores
-one-stored im [] i v l h (inl q) = q
-one-stored im [] i v l h (inr x) = absurd (List·Memᴰ·not-nil x)
-one-stored im ((j, u) ∷ seg) i v l h y =
-    one-stored (set im j u) seg i v (rw length-set l) (λ u' x. h u' (List·Memᴰ·tail x)) (elim (ℕ-discrete i j) [
-      | yes e ↦ inl (rw (e, getD-set-same im j u 0 (omega arith)) (h u (List·Memᴰ·head (ap (λ k. (k, u)) e))))
-      | no e ↦ elim y [
-        | inl q ↦ inl (getD-set-other im j i u 0 e ∙ q)
-        | inr x ↦ elim (List·Memᴰ·cases-cons x) [ inl q ↦ absurd (e (ap (λ (s : Store). s .0) q)) | inr z ↦ inr z ]
-      ]
-    ])
+use Rattle.book.proofs.Keeps.{within-same}
+use Rattle.book.proofs.Still.{Still, same-words}
 
 module _ (g : Geometry) (level size : ℕ) where
   -- a store of a new node: the word's number in the node, and its value
@@ -92,7 +69,7 @@ module _ (g : Geometry) (level size : ℕ) where
       word : (i v : ℕ) → List·Memᴰ {A = Store} (i, v) (newNode g n level size) → reads (apply im (stores (newNodes ns))) i ≡ v
       word i v y =
           let o = word-of y in
-          one-stored im (newNodes ns) i v (omega (arith, o .index, node-inside n (o .number) b l (omega (arith, o .low))))
+          settles im (newNodes ns) i v (omega (arith, o .index, node-inside n (o .number) b l (omega (arith, o .low))))
           (λ u z. one-value o (word-of (within (λ n. newNode g n level size) ns z .inside)))
           (inr (together (λ n. newNode g n level size) x y))
 

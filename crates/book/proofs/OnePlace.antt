@@ -1,7 +1,7 @@
 -- Memories that differ at one place of one node at most: what stays, and the stores that leave such a pair.
 use mathlib.Core.Path.{_≡_, refl, sym, _∙_, ap}
 use mathlib.Core.Bool.{true, false}
-use mathlib.Core.Logic.{_≢_, inl}
+use mathlib.Core.Logic.{_≢_}
 use mathlib.Core.List.{List}
 use Prim.Native.Nat.{ℕ, _+_, _/_, _%_, _<_}
 use native.Mathlib.Omega.{arith}
@@ -13,9 +13,9 @@ use Rattle.tree.specs.Slots.{Filled}
 use Rattle.tree.specs.Reach.{Holds}
 use Rattle.tree.specs.Same.{SameLinks, SameWords, Stores}
 use Rattle.tree.proofs.Cases.{true-not-false}
-use Rattle.tree.proofs.Same.{filled-on, reaches-on, reaches-back}
+use Rattle.tree.proofs.Same.{filled-on, filled-back, reaches-on, reaches-back}
 use Rattle.tree.proofs.Words.{beside-node, beside-slots}
-use Rattle.book.proofs.Keeps.{Keeping}
+use Rattle.book.proofs.Keeps.{Within}
 
 -- a place's two bits, its frame and its fingerprint
 pub record SamePlace (g : Geometry) (m m' : Memory) (n p : ℕ) : Type 0 where
@@ -31,10 +31,6 @@ pub record OnePlace (g : Geometry) (m m' : Memory) (n p : ℕ) : Type 0 where
   pub sizes : (j : ℕ) → m (sizeAt g j) ≡ m' (sizeAt g j)
   pub beside : {j q : ℕ} → q < 64 → ((j ≡ n) × (q ≡ p) → ⊥) → SamePlace g m m' j q
 
--- what is held in the second is held in the first
-abbrev pub HoldsBack : Geometry → Memory → Memory → Type 0
-HoldsBack g m m' = (s : ℕ) (w : List ℕ) (n p f : ℕ) → Holds g m' s w n p f → Holds g m s w n p f
-
 pub one-after-other : {g : Geometry} {m m' m'' : Memory} {n p : ℕ} → OnePlace g m m' n p → OnePlace g m' m'' n p → OnePlace g m m'' n p
 one-after-other a b = record {
   links = record { roots = λ s h. a .links .roots s h ∙ b .links .roots s h; next = λ x. a .links .next x ∙ b .links .next (reaches-on (a .links) x) };
@@ -45,9 +41,13 @@ one-after-other a b = record {
       record { locate = x .locate ∙ y .locate; set = x .set ∙ y .set; frames = x .frames ∙ y .frames; fingerprints = x .fingerprints ∙ y .fingerprints };
 }
 
--- frames keep their places
-pub place-keeping : {g : Geometry} {m m' : Memory} {n p : ℕ} → OnePlace g m m' n p → HoldsBack g m m' → Keeping g m m'
-place-keeping o h = record { reels = λ b b'. o .reels b; held = λ {s} {w} {n} {p} {f} y. inl (h s w n p f y) }
+pub place-within : {g : Geometry} {m m' : Memory} {n p : ℕ} → OnePlace g m m' n p
+    → ((s : ℕ) (w : List ℕ) (n p f : ℕ) → Holds g m' s w n p f → Holds g m s w n p f) → Within g m m'
+place-within o h = record {
+  filled = filled-back (o .links);
+  reels = λ b. o .reels (filled-back (o .links) b);
+  holds = λ {s} {w} {n} {p} {f} y. h s w n p f y;
+}
 
 -- ---- a store to word k of node n, not its next
 
@@ -66,10 +66,13 @@ module _ {g : Geometry} {m m' : Memory} {i v : ℕ} (n k : ℕ) (low : 0 < k) (h
     next = λ {n = j} y. t .old (nextAt g j) (λ q. omega arith);
   }
 
+  store-reels : {s : ℕ} → Filled g m s → m (reelAt s) ≡ m' (reelAt s)
+  store-reels {s} b = beside-slots g t (reelAt s) n (omega (arith, b .inside)) (omega arith)
+
   store-place : {p : ℕ} → k ≢ 4 → ((q : ℕ) → q < 64 → q ≢ p → SamePlace g m m' n q) → OnePlace g m m' n p
   store-place d h = record {
     links = store-links;
-    reels = λ {s} b. beside-slots g t (reelAt s) n (omega (arith, b .inside)) (omega arith);
+    reels = store-reels;
     sizes = λ j. t .old (sizeAt g j) (λ q. d (omega arith));
     beside = λ {j} {q} l o. elim (ℕ-discrete j n) [
       | yes c ↦ rw c (h q l (λ z. o (c, z)))
@@ -78,18 +81,22 @@ module _ {g : Geometry} {m m' : Memory} {i v : ℕ} (n k : ℕ) (low : 0 < k) (h
   }
 
   -- neither the set word nor a frame held: nothing more is held
-  store-holds : k ≢ 2 → ((p : ℕ) → k ≡ 16 + p → held g m n p ≡ false) → HoldsBack g m m'
-  store-holds d h s w j q f x =
-      let set : held g m j q ≡ true = ap (λ w. isSet w q) (t .old (setAt g j) (λ z. d (omega arith))) ∙ x .set in
-      let low = x .place in
-      record {
-        there = reaches-back store-links (x .there);
-        place = x .place;
-        set = set;
-        is = t .old (frameAt g j q) (λ z.
-            let o : j ≡ n = omega arith in let y : k ≡ 16 + q = omega arith in
-            true-not-false (rw o at set) (h q y)) ∙ x .is;
-      }
+  store-within : k ≢ 2 → ((p : ℕ) → k ≡ 16 + p → held g m n p ≡ false) → Within g m m'
+  store-within d h = record {
+    filled = filled-back store-links;
+    reels = λ b. store-reels (filled-back store-links b);
+    holds = λ {n = j} {p = q} x.
+        let set : held g m j q ≡ true = ap (λ w. isSet w q) (t .old (setAt g j) (λ z. d (omega arith))) ∙ x .set in
+        let low = x .place in
+        record {
+          there = reaches-back store-links (x .there);
+          place = x .place;
+          set = set;
+          is = t .old (frameAt g j q) (λ z.
+              let o : j ≡ n = omega arith in let y : k ≡ 16 + q = omega arith in
+              true-not-false (rw o at set) (h q y)) ∙ x .is;
+        };
+  }
 
 -- ---- each word of a place
 
@@ -103,8 +110,8 @@ module _ {g : Geometry} {m m' : Memory} (n p : ℕ) {u : ℕ} where
     fingerprints = ap (λ w. byte w (q % 8)) (t .old (fingerprintsAt g n q) (λ z. omega arith));
   })
 
-  pub locate-holds : Stores m (locateAt g n) u m' → HoldsBack g m m'
-  locate-holds t = store-holds n 1 (omega arith) (omega arith) refl t (omega arith) (λ q z. absurd (omega arith))
+  pub locate-within : Stores m (locateAt g n) u m' → Within g m m'
+  locate-within t = store-within n 1 (omega arith) (omega arith) refl t (omega arith) (λ q z. absurd (omega arith))
 
   -- set with one bit changed
   pub set-place : Stores m (setAt g n) u m' → ((q : ℕ) → q ≢ p → isSet (m (setAt g n)) q ≡ isSet u q) → OnePlace g m m' n p
@@ -124,9 +131,9 @@ module _ {g : Geometry} {m m' : Memory} (n p : ℕ) {u : ℕ} where
     fingerprints = ap (λ w. byte w (q % 8)) (t .old (fingerprintsAt g n q) (λ z. omega arith));
   })
 
-  pub frame-holds : p < 64 → held g m n p ≡ false → Stores m (frameAt g n p) u m' → HoldsBack g m m'
-  frame-holds low c t =
-      store-holds n (16 + p) (omega arith) (omega arith) (omega arith) t (omega arith) (λ q z. let y : q ≡ p = omega arith in rw y c)
+  pub frame-within : p < 64 → held g m n p ≡ false → Stores m (frameAt g n p) u m' → Within g m m'
+  frame-within low c t =
+      store-within n (16 + p) (omega arith) (omega arith) (omega arith) t (omega arith) (λ q z. let y : q ≡ p = omega arith in rw y c)
 
   -- the fingerprint's byte
   pub fingerprint-place : p < 64 → Stores m (fingerprintsAt g n p) u m' → ((j : ℕ) → j ≢ p % 8 → byte u j ≡ byte (m (fingerprintsAt g n p)) j)
@@ -141,6 +148,6 @@ module _ {g : Geometry} {m m' : Memory} (n p : ℕ) {u : ℕ} where
     ];
   })
 
-  pub fingerprint-holds : p < 64 → Stores m (fingerprintsAt g n p) u m' → HoldsBack g m m'
-  fingerprint-holds low t =
-      store-holds n (8 + p / 8) (omega arith) (omega arith) (omega arith) t (omega arith) (λ q z. absurd (omega arith))
+  pub fingerprint-within : p < 64 → Stores m (fingerprintsAt g n p) u m' → Within g m m'
+  fingerprint-within low t =
+      store-within n (8 + p / 8) (omega arith) (omega arith) (omega arith) t (omega arith) (λ q z. absurd (omega arith))

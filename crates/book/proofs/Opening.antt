@@ -7,8 +7,7 @@ use native.Mathlib.Omega.{arith}
 use lib.ListN.{length, set, length-set}
 use lib.Seq.{getD-set-same, getD-set-other}
 use Rattle.tree.specs.Memory.{reads, Store, stores, segmented, apply}
-use Rattle.tree.specs.Test.{Says}
-use Rattle.tree.specs.Layout.{Geometry, inRange, reelAt, rootAt, nodeAt}
+use Rattle.tree.specs.Layout.{Geometry, reelAt, rootAt, nodeAt}
 use Rattle.tree.specs.Slots.{Filled, slotOf, emptySlot}
 use Rattle.tree.specs.Lookup.{freeRun}
 use Rattle.tree.specs.Pool.{mark}
@@ -64,10 +63,6 @@ stored-each ((j, v) ∷ seg) im k e h a = (
 pub two-segments : (im : List ℕ) (seg : List Store) (i v : ℕ) → apply im (segmented (seg ∷ ((i, v) ∷ []) ∷ [])) ≡ set (apply im (stores seg)) i v
 unfolding apply segmented stores
 two-segments im seg i v = apply-laws .in-turn im (stores seg) _
-
-pub few-nodes : (g : Geometry) → Says (inRange g) → g .nodes ≤ 65536
-unfolding inRange
-few-nodes g h = h .1 .1 .1
 
 -- ---- what an opening does
 

@@ -1,25 +1,19 @@
--- Where frames sit: a frame that a reel held, and holds still, is where it was.
+-- Where frames sit: a frame that a reel held, and holds still, is where it was, and one that is new is where a head had put it.
 use mathlib.Core.Path.{_≡_, refl, sym, _∙_, ap}
-use mathlib.Core.Bool.{not}
-use mathlib.Core.Logic.{inl, inr, _≢_}
-use mathlib.Core.List.{List, [], _∷_, List·Memᴰ, List·Memᴰ·not-nil, Memᴰ·of-map}
-use Prim.Native.Nat.{ℕ, _%_}
+use mathlib.Core.List.{List, [], _∷_, List·Memᴰ·not-nil}
+use Prim.Native.Nat.{ℕ}
 use native.Mathlib.Omega.{arith}
 use native.Mathlib.Decide.{ℕ-discrete}
 use lib.ListN.{length}
-use lib.Dec.{eqb}
-use lib.Seq.{take-length, ext-getD}
-use Rattle.tree.specs.Memory.{Memory, reads, byte, Store, stores, segmented, apply, CrashImage, Fit}
-use Rattle.tree.specs.Lists.{keep}
-use Rattle.tree.specs.Layout.{Geometry, slotsAt, nodesAt, geometryOf, reelAt, rootAt, nextAt, locateAt, setAt, fingerprintsAt, frameAt}
-use Rattle.tree.specs.Reach.{Holds}
-use Rattle.tree.specs.Same.{Same}
-use Rattle.tree.specs.Subtree.{Visit, allTrees}
+use lib.Seq.{take-length}
+use Rattle.tree.specs.Memory.{reads, segmented, apply, CrashImage, Fit}
+use Rattle.tree.specs.Layout.{slotsAt, nodesAt, geometryOf, reelAt}
+use Rattle.tree.specs.Reach.{Reaches, Holds}
 use Rattle.tree.proofs.Memory.{crash-laws}
 use Rattle.tree.proofs.Reach.{slot-filled}
 use Rattle.tree.proofs.Laws.{same-laws}
-use Rattle.book.specs.State.{State, Operation, format, recover, openReel, claim, fill, commit, abandon, remove, has, list, retire, arguments, Work}
-use Rattle.book.specs.Perform.{recoverStores, granted, perform}
+use Rattle.book.specs.State.{State, Operation, recover, claim, arguments}
+use Rattle.book.specs.Perform.{granted, perform}
 use Rattle.book.specs.Table.{Table, emptyTable}
 use Rattle.book.specs.Agrees.{Agrees}
 use Rattle.book.specs.Histories.{done, answered-format, Interrupted, Attempts, none-yet, refused, interrupted, Recovered, Next, performed, crashed}
@@ -31,11 +25,13 @@ use Rattle.book.proofs.Done.{done-granted, refused-image, done-image}
 use Rattle.book.proofs.View.{View}
 use Rattle.book.proofs.Showing.{shows-view}
 use Rattle.book.proofs.Stored.{same-geometry}
-use Rattle.book.proofs.Crashed.{torn-whole}
 use Rattle.book.proofs.Step.{Keeps}
 use Rattle.book.proofs.Keeps.{keeps-itself}
 use Rattle.book.proofs.Formatted.{format-agrees}
-use Rattle.book.proofs.Assembly.{Scripted, opens, claims, fills, commits, abandons, removes, asks, lists, retires, Steps, agreed}
+use Rattle.book.proofs.Targets.{next-targets}
+use Rattle.book.proofs.Mended.{Mended, kept, mended-same}
+use Rattle.book.proofs.Recovery.{recover-writes, interrupted-mended}
+use Rattle.book.proofs.Assembly.{Steps, Kind, formats, recovers, scripted, kind, granted-image, itself-same, agreed}
 
 -- ---- images that hold no more than another, at its places
 
@@ -50,73 +46,27 @@ held-same q = rw q (record { held = λ x. (x, refl) })
 held-on : {im im' im'' : List ℕ} → Held im im' → Held im' im'' → Held im im''
 held-on a b = record { held = λ x. let y = b .held x in let z = a .held (y .0) in (z .0, z .1 ∙ y .1) }
 
-keeps-held : {im im' im'' : List ℕ} → Keeps im im' → Held im' im'' → Keeps im im''
-keeps-held a b = record { same-place = λ x y q. let z = b .held y in a .same-place x (z .0) (q ∙ sym (z .1)) }
+keeps-held : {ws im im' im'' : List ℕ} → Keeps ws im im' → Held im' im'' → Keeps ws im im''
+keeps-held a b = record {
+  same-place = λ x y q. let z = b .held y in a .same-place x (z .0) (q ∙ sym (z .1));
+  came-from = λ y. a .came-from (b .held y .0);
+}
 
 -- ---- recovery, answered, refused or interrupted
 
--- memories that differ in locate words alone
-record Located (g : Geometry) (m m' : Memory) : Type 0 where
-  others : (i : ℕ) → ((n : ℕ) → i ≢ locateAt g n) → m i ≡ m' i
-
-located-same : {g : Geometry} {m m' : Memory} → Located g m m' → Same g m m'
-located-same {g} a = record {
-  links = record { roots = λ s h. a .others (rootAt s) (λ k. omega arith); next = λ {s} {w} {n} r. a .others (nextAt g n) (λ k. omega arith) };
-  reels = λ {s} b. a .others (reelAt s) (λ k. omega (arith, b .inside));
-  holds = λ {s} {w} {n} r. record {
-    set = a .others (setAt g n) (λ k. omega arith);
-    frames = λ p h t. a .others (frameAt g n p) (λ k. omega arith);
-    fingerprints = λ p h t. ap (λ w. byte w (p % 8)) (a .others (fingerprintsAt g n p) (λ k. omega arith));
-  };
-}
-
-held-located : {im im' : List ℕ} → Located (geometryOf (reads im)) (reads im) (reads im') → Held im im'
-held-located {im} {im'} a =
-    let same = located-same a in
-    let q = same-geometry (reads im) (reads im') (a .others slotsAt (λ k. omega arith)) (a .others nodesAt (λ k. omega arith)) in
+held-mended : {im im' : List ℕ} → Mended (geometryOf (reads im)) (reads im) (reads im') → Held im im'
+held-mended {im} {im'} a =
+    let same = mended-same a in
+    let q = same-geometry (reads im) (reads im') (kept a slotsAt (λ k. omega arith)) (kept a nodesAt (λ k. omega arith)) in
     record { held = rw (← q) (λ x. let y = same-laws same .holds .1 x in (y, same .reels (slot-filled (y .there)))) }
-
-locate-stored : (g : Geometry) (m : Memory) (i v : ℕ) → List·Memᴰ (i, v) (recoverStores g m) → (n : ℕ) × (i ≡ locateAt g n)
-unfolding recoverStores
-locate-stored g m i v x =
-    let differing = keep (λ v. not (eqb (m (locateAt g (v .node))) (m (setAt g (v .node))))) (allTrees g m) in
-    let t = Memᴰ·of-map {A = Visit} {B = Store} (λ v. (locateAt g (v .node), m (setAt g (v .node)))) differing x in
-    (t .0 .node, sym (ap (λ s. s .0) (t .2)))
-
-located-stored : (g : Geometry) (im : List ℕ) → Located g (reads im) (reads (apply im (stores (recoverStores g (reads im)))))
-located-stored g im = record {
-  others = λ i h. elim (torn-whole im (recoverStores g (reads im)) .each i) [
-    | inl q ↦ sym q
-    | inr x ↦ let t = locate-stored g (reads im) i _ x in absurd (h (t .0) (t .1))
-  ];
-}
-
--- it writes locate words itself, or nothing, and hands out no script
-record Locates (r : State) (w : Work) : Type 0 where
-  script : w .script ≡ []
-  image : Located (geometryOf (reads (r .image))) (reads (r .image)) (reads (w .after .image))
-
-granted-locates : (words : ℕ) (r : State) → Locates r (granted (recover words) r)
-unfolding granted
-granted-locates words r = record { script = refl; image = located-stored _ (r .image) }
-
-recover-locates : (words : ℕ) (r : State) → Locates r (perform (recover words) r .work)
-recover-locates words r = elim (ℕ-discrete (perform (recover words) r .answer) 0) [
-  | yes h ↦ rw (work-granted (recover words) r h) (granted-locates words r)
-  | no h ↦ record { script = demand1 .refused (recover words) r h .no-store; image = rw (refused-image (recover words) r h) (record { others = λ i n. refl }) }
-]
 
 recovered-held : (words : ℕ) (r : State) → Held (r .image) (done (recover words) r .image)
 recovered-held words r =
-    let w = recover-locates words r in
-    held-on (held-located (w .image)) (held-same (ap (λ x. apply (perform (recover words) r .work .after .image) (segmented x)) (w .script) ∙ apply-none _))
+    let w = recover-writes words r in
+    held-on (held-mended (w .image)) (held-same (ap (λ x. apply (perform (recover words) r .work .after .image) (segmented x)) (w .script) ∙ apply-none _))
 
 interrupted-held : (words : ℕ) (r : State) (k : ℕ) (m : List ℕ) → Interrupted (recover words) r k m → Held (r .image) m
-interrupted-held words r k m c =
-    let w = recover-locates words r in
-    rw (crash-none (c .itself) k m (rw (w .script) at (c .script))) (held-located (record {
-      others = λ i n. elim (c .old-or-new i) [ inl q ↦ sym q | inr q ↦ w .image .others i n ∙ sym q ];
-    }))
+interrupted-held words r k m c = held-mended (interrupted-mended words r k m c .1)
 
 attempts-held : {m m' : List ℕ} → Attempts m m' → Held m m'
 attempts-held none-yet = held-same refl
@@ -129,76 +79,55 @@ ended-held c = rw (c .is) (held-on (attempts-held (c .attempts)) (held-on (held-
 -- ---- an operation done or interrupted
 
 -- an image without reels holds nothing
-keeps-none : {im im' : List ℕ} → View (geometryOf (reads im')) im' [] → Keeps im im'
-keeps-none v = record {
-  same-place = λ x y q. absurd (List·Memᴰ·not-nil (v .same .present _ .0 (_, record { open-slot = slot-filled (y .there); number = refl }) .1));
-}
+keeps-none : {ws im im' : List ℕ} → View (geometryOf (reads im')) im' [] → Keeps ws im im'
+keeps-none {im' = im'} v = record { same-place = λ x y q. absurd (none (y .there)); came-from = λ y. absurd (none (y .there)) }
+  where
+    none : {s n : ℕ} {w : List ℕ} → Reaches (geometryOf (reads im')) (reads im') s w n → ⊥
+    none r = List·Memᴰ·not-nil (v .same .present _ .0 (_, record { open-slot = slot-filled r; number = refl }) .1)
 
 no-reels : (slots nodes : ℕ) → emptyTable slots nodes .reels ≡ []
 unfolding emptyTable
 no-reels slots nodes = refl
 
--- an operation by the image that it leaves before its script: a format, a recovery, or one that does not write the image itself
-data Kind (s : State) : Operation → Type 0 where
-  formats : {words slots nodes : ℕ} → Kind s (format words slots nodes)
-  recovers : {words : ℕ} → Kind s (recover words)
-  scripted : {op : Operation} → Scripted op → granted op s .after .image ≡ s .image → Kind s op
-
-kind : (s : State) (op : Operation) → Kind s op
-unfolding granted
-kind s (format words slots nodes) = formats
-kind s (recover words) = recovers
-kind s (openReel words script reel) = scripted opens refl
-kind s (claim words script h reel f) = scripted claims refl
-kind s (fill script h) = scripted fills refl
-kind s (commit script h) = scripted commits refl
-kind s (abandon script h) = scripted abandons refl
-kind s (remove script reel f) = scripted removes refl
-kind s (has reel f) = scripted asks refl
-kind s (list scratch room reel) = scripted lists refl
-kind s (retire words scratch script reel) = scripted retires refl
-
 -- one that leaves the image can be interrupted in its script alone
 script-alone : {op : Operation} {s : State} {k : ℕ} {m : List ℕ} (c : Interrupted op s k m) → perform op s .work .after .image ≡ s .image
     → CrashImage (s .image) (segmented (perform op s .work .script)) k m
-script-alone {op} {s} {k} {m} c q =
-    let e = ext-getD 0 (c .itself) (s .image) (c .same-length) (λ i l. elim (c .old-or-new i) [ inl e ↦ e | inr e ↦ e ∙ ap (λ m. reads m i) q ]) in
-    rw e at (c .script)
+script-alone c q = rw (itself-same c q) at (c .script)
 
 module _ (steps : Steps) where
-  answered-keeps : {s : State} {t : Table} {op : Operation} → Agrees s t → Fit (arguments op) → Kind s op → perform op s .answer ≡ 0
-      → Keeps (s .image) (done op s .image)
+  answered-keeps : {s : State} {t : Table} {op : Operation} → Agrees s t → Fit (arguments op) → Kind op → perform op s .answer ≡ 0
+      → Keeps (s .heads) (s .image) (done op s .image)
   answered-keeps {s} a fit (formats {words} {slots} {nodes}) h =
       keeps-none (rw (no-reels slots nodes) at (shows-view (format-agrees words slots nodes s (a .shows .fits) h .shows)))
   answered-keeps {s} a fit (recovers {words}) h = keeps-held (keeps-itself (shows-view (a .shows))) (recovered-held words s)
-  answered-keeps {s} {op = op} a fit (scripted x e) h =
+  answered-keeps {s} {op = op} a fit (scripted x) h =
       let es = segmented (granted op s .script) in
-      let end : done op s .image ≡ apply (s .image) es = ap (λ y. y .image) (done-granted op s h) ∙ ap (λ i. apply i es) e in
+      let end : done op s .image ≡ apply (s .image) es = ap (λ y. y .image) (done-granted op s h) ∙ ap (λ i. apply i es) (granted-image s x) in
       let whole = crash-laws .as-carried-out (s .image) es (length es) (omega arith) in
       rw end (steps .step a x fit h .keeps (length es) (apply (s .image) es) (rw take-length at whole))
 
-  done-keeps : {s : State} {t : Table} → Agrees s t → (op : Operation) → Fit (arguments op) → Keeps (s .image) (done op s .image)
+  done-keeps : {s : State} {t : Table} → Agrees s t → (op : Operation) → Fit (arguments op) → Keeps (s .heads) (s .image) (done op s .image)
   done-keeps {s} a op fit = elim (ℕ-discrete (perform op s .answer) 0) [
-    | yes h ↦ answered-keeps a fit (kind s op) h
+    | yes h ↦ answered-keeps a fit (kind op) h
     | no h ↦ rw (done-image op s h) (keeps-itself (shows-view (a .shows)))
   ]
 
-  answered-crash : {s : State} {t : Table} {op : Operation} {k : ℕ} {m : List ℕ} → Agrees s t → Fit (arguments op) → Kind s op
-      → perform op s .answer ≡ 0 → Interrupted op s k m → Keeps (s .image) m
+  answered-crash : {s : State} {t : Table} {op : Operation} {k : ℕ} {m : List ℕ} → Agrees s t → Fit (arguments op) → Kind op
+      → perform op s .answer ≡ 0 → Interrupted op s k m → Keeps (s .heads) (s .image) m
   answered-crash a fit formats h c = absurd (c .unsteady (rw h answered-format))
   answered-crash {s} {k = k} {m = m} a fit (recovers {words}) h c = keeps-held (keeps-itself (shows-view (a .shows))) (interrupted-held words s k m c)
-  answered-crash {s} {op = op} {k = k} {m = m} a fit (scripted x e) h c =
+  answered-crash {s} {op = op} {k = k} {m = m} a fit (scripted x) h c =
       let w = work-granted op s h in
-      steps .step a x fit h .keeps k m (rw w at (script-alone c (ap (λ y. y .after .image) w ∙ e)))
+      steps .step a x fit h .keeps k m (rw w at (script-alone c (ap (λ y. y .after .image) w ∙ granted-image s x)))
 
   crash-keeps : {s : State} {t : Table} {k : ℕ} {m : List ℕ} → Agrees s t → (op : Operation) → Fit (arguments op) → Interrupted op s k m
-      → Keeps (s .image) m
+      → Keeps (s .heads) (s .image) m
   crash-keeps {s} {k = k} {m = m} a op fit c = elim (ℕ-discrete (perform op s .answer) 0) [
-    | yes h ↦ answered-crash a fit (kind s op) h c
+    | yes h ↦ answered-crash a fit (kind op) h c
     | no h ↦ rw (crash-none (s .image) k m (rw (demand1 .refused op s h .no-store) at (script-alone c (refused-image op s h)))) (keeps-itself (shows-view (a .shows)))
   ]
 
-  next-keeps : {s s' : State} {t : Table} → Agrees s t → Next s s' → Keeps (s .image) (s' .image)
+  next-keeps : {s s' : State} {t : Table} → Agrees s t → Next s s' → Keeps (s .heads) (s .image) (s' .image)
   next-keeps a (performed op fit) = done-keeps a op fit
   next-keeps a (crashed op fit k c r) = keeps-held (crash-keeps a op fit c) (ended-held r)
 
@@ -212,5 +141,5 @@ pub record ClaimsPlaced : Type 0 where
 pub placed-from : Steps → ClaimsPlaced → Placed
 placed-from steps claimed s t f = let a = agreed steps f in record {
   claim = claimed .placed a;
-  stays = λ s' n. record { same-place = next-keeps steps a n .same-place };
+  stays = λ s' n. let k = next-keeps steps a n in record { same-place = k .same-place; came-from = k .came-from; targets = next-targets a n };
 }

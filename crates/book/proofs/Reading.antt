@@ -1,6 +1,6 @@
 -- What a book reads of its image and its heads, where it agrees with a table: what the table reads of itself.
 use mathlib.Core.Path.{_≡_, refl, sym, _∙_, ap, ap₂}
-use mathlib.Core.Bool.{Bool, true, false, cond, not}
+use mathlib.Core.Bool.{Bool, true, false, cond}
 use mathlib.Core.Logic.{_⊎_, inl, inr, _↔_}
 use mathlib.Core.Option.{some}
 use mathlib.Core.List.{List, [], _∷_, map, List·Memᴰ, List·Memᴰ·head, List·Memᴰ·tail, List·Memᴰ·cases-cons, List·Memᴰ·not-nil, Memᴰ·map, Memᴰ·of-map, Memᴰ·cast}
@@ -12,8 +12,8 @@ use lib.Dec.{eqb}
 use borrow.Author.Tests.{eqb-true, eq-eqb}
 use Rattle.tree.specs.Memory.{Memory, reads, isSome}
 use Rattle.tree.specs.Test.{ne, holds}
-use Rattle.tree.specs.Lists.{every, Distinct, onto}
-use Rattle.tree.specs.Layout.{Geometry, inRange, editionAt, geometryOf, reelAt, rootAt, sizeAt}
+use Rattle.tree.specs.Lists.{Distinct, onto}
+use Rattle.tree.specs.Layout.{Geometry, inRange, editionAt, geometryOf, reelAt, rootAt}
 use Rattle.tree.specs.Path.{wayOf}
 use Rattle.tree.specs.Fingerprint.{ruleOf}
 use Rattle.tree.specs.Slots.{Filled, filledSlots, reelsPresent, slotOf, emptySlot}
@@ -39,6 +39,7 @@ use Rattle.book.specs.Ways.{SlotHas}
 use Rattle.book.proofs.Refusals.{denied}
 use Rattle.book.proofs.Heads.{busy-names, is-busy}
 use Rattle.book.proofs.ReelLists.{has-member}
+use Rattle.book.proofs.Sames.{size-most}
 
 -- ---- tests, and lists in which each number occurs once
 
@@ -254,9 +255,7 @@ module _ {image : List ℕ} {t : Table} (v : Shows image t) {x : Target} {r f : 
   pub claim-inside : (x .node < sizesOf image .nodes) × (x .place < 64)
   claim-inside =
       let w = node-laws (sizesOf image) (reads image) .facts (length (wayOf (c .depth) f)) (x .node) .0 (v .sound .well-formed (c .on-path)) in
-      let size : reads image (sizeAt (sizesOf image) (x .node)) ≤ 64 =
-      elim (w .size) [ inl q ↦ omega arith | inr q ↦ elim (q .1) [ inl e ↦ omega arith | inr e ↦ omega arith ] ] in
-      (w .inside, omega (arith, c .place))
+      (w .inside, omega (arith, c .place, size-most w))
 
   pub claim-slot : SlotHas (sizesOf image) (reads image) r (x .slot)
   claim-slot = record { open-slot = c .open-slot; number = c .of-reel }

@@ -2,7 +2,7 @@
 -- every head idle; a recovery that is refused or interrupted keeps them.
 use mathlib.Core.Path.{_≡_, refl, sym, _∙_, ap}
 use mathlib.Core.Bool.{false, cond, not}
-use mathlib.Core.Logic.{_⊎_, inl, inr, _≢_, _↔_}
+use mathlib.Core.Logic.{inl, inr, _≢_, _↔_}
 use mathlib.Core.List.{List, [], _∷_, map, List·Memᴰ, Memᴰ·map, Memᴰ·of-map}
 use Prim.Native.Nat.{ℕ, _<_}
 use native.Mathlib.Omega.{arith}
@@ -29,7 +29,7 @@ use Rattle.book.specs.Heads.{idleHeads}
 use Rattle.book.specs.Refusals.{_gives_}
 use Rattle.book.specs.State.{State, recover, Work, leaving}
 use Rattle.book.specs.Checks.{badImage, badMap, refusals}
-use Rattle.book.specs.Perform.{recoverStores, nodesOf, granted, leaves, perform}
+use Rattle.book.specs.Perform.{recoverStores, nodesOf, granted, perform}
 use Rattle.book.specs.Table.{Reel}
 use Rattle.book.specs.Agrees.{Agrees, Reached}
 use Rattle.book.specs.Histories.{carriedOut, done, Interrupted, Attempts, none-yet, refused, interrupted, Recovered}
@@ -139,31 +139,30 @@ unfolding granted
 granted-recover words r = refl
 
 -- the image that a recovery writes itself, refused or answered; it hands out no script
-record Writes (r : State) (w : Work) : Type 0 where
-  script : w .script ≡ []
-  image : (w .after .image ≡ r .image) ⊎ (w .after .image ≡ mendedImage (geometryOf (reads (r .image))) (r .image))
+pub record Writes (r : State) (w : Work) : Type 0 where
+  pub script : w .script ≡ []
+  pub image : Mended (geometryOf (reads (r .image))) (reads (r .image)) (reads (w .after .image))
 
-recover-writes : (words : ℕ) (r : State) → Writes r (perform (recover words) r .work)
+pub recover-writes : (words : ℕ) (r : State) → Writes r (perform (recover words) r .work)
 recover-writes words r = elim (ℕ-discrete (perform (recover words) r .answer) 0) [
-  | yes h ↦ let q = work-granted (recover words) r h ∙ granted-recover words r in record { script = rw q refl; image = inr (rw q refl) }
-  | no h ↦ record { script = demand1 .refused (recover words) r h .no-store; image = inl (refused-image (recover words) r h) }
+  | yes h ↦ let q = work-granted (recover words) r h ∙ granted-recover words r in record { script = rw q refl; image = rw q (mended-words _ (r .image)) }
+  | no h ↦ record {
+    script = demand1 .refused (recover words) r h .no-store;
+    image = record { each = λ i. inl (ap (λ x. reads x i) (refused-image (recover words) r h)) };
+  }
 ]
 
+-- interrupted: each word old or new
+pub interrupted-mended : (words : ℕ) (r : State) (k : ℕ) (m' : List ℕ) → Interrupted (recover words) r k m'
+    → (length m' ≡ length (r .image)) × Mended (geometryOf (reads (r .image))) (reads (r .image)) (reads m')
+interrupted-mended words r k m' c =
+    let w = recover-writes words r in
+    let e : m' ≡ c .itself = crash-none (c .itself) k m' (rw (w .script) at (c .script)) in
+    rw e (c .same-length, record { each = λ i. elim (c .old-or-new i) [ inl q ↦ inl q | inr q ↦ rw q (w .image .each i) ] })
+
 module _ {g : Geometry} {rs : List Reel} where
-  -- interrupted: each word old or new
   pub interrupted-view : (words : ℕ) (r : State) (k : ℕ) (m' : List ℕ) → View g (r .image) rs → Interrupted (recover words) r k m' → View g m' rs
-  interrupted-view words r k m' v c =
-      let w = recover-writes words r in
-      let e : m' ≡ c .itself = crash-none (c .itself) k m' (rw (w .script) at (c .script)) in
-      rw e (mended-view v (c .same-length) (record {
-        each = λ i. elim (c .old-or-new i) [
-          | inl q ↦ inl q
-          | inr q ↦ elim (w .image) [
-            | inl p ↦ inl (q ∙ ap (λ x. reads x i) p)
-            | inr p ↦ rw (q ∙ ap (λ x. reads x i) p, v .header .geometry) (mended-words g (r .image) .each i)
-          ]
-        ];
-      }))
+  interrupted-view words r k m' v c = let a = interrupted-mended words r k m' c in mended-view v (a .0) (rw (v .header .geometry) at (a .1))
 
   -- a reached node is inside the pool
   inside : {im : List ℕ} {n : ℕ} → View g im rs → Reached g (reads im) n → n < g .nodes

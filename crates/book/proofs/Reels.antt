@@ -12,16 +12,17 @@ use Rattle.tree.specs.Memory.{Memory}
 use Rattle.tree.specs.Lists.{keep}
 use Rattle.tree.specs.Layout.{Geometry, reelAt, rootAt, nodeAt}
 use Rattle.tree.specs.Fingerprint.{Rule}
-use Rattle.tree.specs.Node.{frame}
 use Rattle.tree.specs.Slots.{Filled}
 use Rattle.tree.specs.Reach.{Holds, FrameOf}
 use Rattle.tree.specs.Sound.{Sound}
-use Rattle.tree.specs.Same.{Stores}
+use Rattle.tree.specs.Same.{SameLinks, Stores}
 use Rattle.tree.specs.Changes.{Opens, NewRoot, Grown, Retired}
 use Rattle.tree.proofs.Reach.{slot-filled}
+use Rattle.tree.proofs.Same.{reaches-on, reaches-back}
 use Rattle.tree.proofs.Laws.{change-laws}
 use Rattle.tree.proofs.Words.{beside-slots}
 use Rattle.book.specs.Table.{Reel, changeReel, changeFrames}
+use Rattle.book.specs.Agrees.{Reached}
 use Rattle.book.specs.Ways.{SlotHas}
 use Rattle.book.proofs.View.{SameReels}
 use Rattle.book.proofs.ReelLists.{others-members, was-reel, is-reel}
@@ -37,6 +38,13 @@ pub record SameSlots (g : Geometry) (m m' : Memory) : Type 0 where
 pub frames-to : {g : Geometry} {m m' : Memory} {s f : ℕ} → ((w : List ℕ) (n p : ℕ) → Holds g m s w n p f → Holds g m' s w n p f)
     → FrameOf g m s f → FrameOf g m' s f
 frames-to h x = record { way = x .way; node = x .node; place = x .place; holds = h (x .way) (x .node) (x .place) (x .holds) }
+
+-- the same nodes are reached by the same links
+pub same-reached : {g : Geometry} {m m' : Memory} {n : ℕ} → SameLinks g m m' → Reached g m n ↔ Reached g m' n
+same-reached a = (
+  λ r. record { slot = r .slot; way = r .way; there = reaches-on a (r .there) },
+  λ r. record { slot = r .slot; way = r .way; there = reaches-back a (r .there) },
+)
 
 -- an empty slot has no frame
 empty-slot : {g : Geometry} {m : Memory} {s f : ℕ} → m (rootAt s) ≡ 0 → FrameOf g m s f → ⊥

@@ -14,9 +14,8 @@ use Rattle.tree.specs.Fingerprint.{Rule}
 use Rattle.tree.specs.Node.{held}
 use Rattle.tree.specs.Reach.{FrameOf}
 use Rattle.tree.specs.Sound.{Sound}
-use Rattle.tree.specs.Same.{SameLinks}
 use Rattle.tree.specs.Laws.{WellFormed}
-use Rattle.tree.proofs.Same.{reaches-on, reaches-back}
+use Rattle.tree.proofs.Same.{reaches-on}
 use Rattle.tree.proofs.Nodes.{wellFormed-facts}
 use Rattle.book.specs.declared.Target.{Target}
 use Rattle.book.specs.declared.HeadState.{HeadState}
@@ -24,9 +23,11 @@ use Rattle.book.specs.declared.HeadState.the-variants as heads
 use Rattle.book.specs.Heads.{headCount, headAt, withHead}
 use Rattle.book.specs.State.{State}
 use Rattle.book.specs.Table.{Table, TableHead, Reel, idle, tableHead}
-use Rattle.book.specs.Agrees.{Reached, Claims, HeadAgrees, both-idle, About, by-claim, by-fill, ClaimsPlace}
-use Rattle.book.proofs.Heads.{length-with, head-written, head-stays, idle-nothing, table-head-written, table-head-stays, length-with-table}
+use Rattle.book.specs.Agrees.{Reached, Claims, HeadAgrees, both-idle, About, by-fill, ClaimsPlace}
+use Rattle.book.proofs.Heads.{length-with, head-written, head-stays, one-target, idle-nothing, table-head-written, table-head-stays, length-with-table}
 use Rattle.book.proofs.Claims.{SameClaim, head-on, AgreesBy}
+use Rattle.book.proofs.Reels.{same-reached}
+use Rattle.book.proofs.Sames.{size-most}
 use Rattle.book.proofs.OnePlace.{OnePlace}
 
 -- ---- claims, where one place changes
@@ -37,10 +38,7 @@ pub claim-formed : {r : Rule} {g : Geometry} {m : Memory} {x : Target} {reel f :
 claim-formed {g = g} {m = m} {x = x} {f = f} d c = wellFormed-facts g m (length (wayOf (c .depth) f)) (x .node) .0 (d .well-formed (c .on-path))
 
 pub claim-low : {r : Rule} {g : Geometry} {m : Memory} {x : Target} {reel f : ℕ} → Sound r g m → Claims g m x reel f → x .place < 64
-claim-low d c = elim (claim-formed d c .size) [
-  | inl q ↦ omega (arith, c .place)
-  | inr q ↦ elim (q .1) [ inl e ↦ omega (arith, c .place) | inr e ↦ omega (arith, c .place) ]
-]
+claim-low d c = omega (arith, c .place, size-most (claim-formed d c))
 
 -- a claim of another place stays
 pub beside-claim : {r : Rule} {g : Geometry} {m m' : Memory} {n p : ℕ} {b : Target} {reel f : ℕ} → Sound r g m → OnePlace g m m' n p → Claims g m b reel f
@@ -55,12 +53,6 @@ beside-claim {b = b} d o c e frames = let u = o .beside (claim-low d c) e in rec
   fingerprint = u .fingerprints;
   frames = frames;
 }
-
-pub same-reached : {g : Geometry} {m m' : Memory} {n : ℕ} → SameLinks g m m' → Reached g m n ↔ Reached g m' n
-same-reached a = (
-  λ c. record { slot = c .slot; way = c .way; there = reaches-on a (c .there) },
-  λ c. record { slot = c .slot; way = c .way; there = reaches-back a (c .there) },
-)
 
 -- a place is located exactly if it is held or claimed
 abbrev pub Located : Geometry → Memory → (heads : List ℕ) → (n p : ℕ) → Type 0
@@ -90,11 +82,6 @@ retabled t rs h z = record { slots = t .slots; nodes = t .nodes; reels = rs; hea
 
 abbrev pub restated : State → List ℕ → ℕ → HeadState → State
 restated s im h y = record { image = im; pool = s .pool; heads = withHead (s .heads) h y }
-
--- a head is about one place
-one-target : {a b : Target} {x : HeadState} → About a x → About b x → a ≡ b
-one-target by-claim by-claim = refl
-one-target by-fill by-fill = refl
 
 own-place : {ws : List ℕ} (h : ℕ) {x : Target} → About x (headAt ws h) → (k n p : ℕ) → k ≡ h → ClaimsPlace ws k n p → (n ≡ x .node) × (p ≡ x .place)
 own-place {ws} h about k n p e c =

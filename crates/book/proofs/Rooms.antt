@@ -97,7 +97,7 @@ module _ (g : Geometry) (m : Memory) where
     RoomIs (scaleUp n size) = ScaleRoom n size
     RoomIs (branchOut parent d) = BranchRoom parent d
 
-root-way : (f : ℕ) → wayOf 0 f ≡ []
+pub root-way : (f : ℕ) → wayOf 0 f ≡ []
 unfolding wayOf
 root-way f = refl
 

@@ -69,6 +69,10 @@ module _ (g : Geometry) {m m' : Memory} {i v : ℕ} (n k : ℕ) (high : k < 80) 
 
 -- ---- the view
 
+-- a node's size is 64 at most
+pub size-most : {g : Geometry} {m : Memory} {d n : ℕ} → WellFormed g m d n → m (sizeAt g n) ≤ 64
+size-most w = elim (w .size) [ inl q ↦ omega arith | inr q ↦ elim (q .1) [ inl e ↦ omega arith | inr e ↦ omega arith ] ]
+
 module _ {g : Geometry} {im : List ℕ} {rs : List Reel} {s n : ℕ} {w : List ℕ} (v : View g im rs) (x : Reaches g (reads im) s w n) where
   -- a reached node is well formed, and its words are inside the image
   pub node-formed : WellFormed g (reads im) (length w) n
@@ -76,9 +80,6 @@ module _ {g : Geometry} {im : List ℕ} {rs : List Reel} {s n : ℕ} {w : List �
 
   pub reached-inside : (k : ℕ) → k < 80 → nodeAt g n + k < length im
   reached-inside k h = node-inside n k (v .header) (node-formed .inside) h
-
-  size-most : reads im (sizeAt g n) ≤ 64
-  size-most = elim (node-formed .size) [ inl q ↦ omega arith | inr q ↦ elim (q .1) [ inl e ↦ omega arith | inr e ↦ omega arith ] ]
 
   other-place : (j p : ℕ) → held g (reads im) n j ≡ true → held g (reads im) n p ≡ false → j ≢ p
   other-place j p z c q = true-not-false (rw q at z) c
@@ -92,7 +93,7 @@ module _ {g : Geometry} {im : List ℕ} {rs : List Reel} {s n : ℕ} {w : List �
       view-same v (header-set i u (v .header) (omega arith) h l) (same-but (v .sound) x low high e t (f t .0)) (formed-but (v .sound) x low high e t (f t .1))
 
   pub view-locate : (u : ℕ) → u < 2 ^ reads im (sizeAt g n) → View g (set im (locateAt g n) u) rs
-  view-locate u h = view-set (locateAt g n) 1 u refl (omega arith) (omega arith) (omega (arith, pow-mono size-most)) (λ t. (
+  view-locate u h = view-set (locateAt g n) 1 u refl (omega arith) (omega arith) (omega (arith, pow-mono (size-most node-formed))) (λ t. (
     frames-kept g n 1 (omega arith) refl t (omega arith) (omega arith),
     let size = t .old (sizeAt g n) (λ q. omega arith) in
         record {
@@ -168,7 +169,7 @@ module _ {g : Geometry} {m m' : Memory} (a : (i : ℕ) → (m i ≡ m' i) ⊎ Un
   read-root : (s : ℕ) → s < g .slots → m (rootAt s) ≡ m' (rootAt s)
   read-root s h = elim (a (rootAt s)) [ inl q ↦ q | inr u ↦ elim u [ of-node n l k o ↦ absurd (omega arith) | of-slot s' k e q ↦ absurd (omega arith) ] ]
 
-  read-reel : {s : ℕ} → Filled g m s → m (reelAt s) ≡ m' (reelAt s)
+  pub read-reel : {s : ℕ} → Filled g m s → m (reelAt s) ≡ m' (reelAt s)
   read-reel {s} b = elim (a (reelAt s)) [
     | inl q ↦ q
     | inr u ↦ elim u [
@@ -177,7 +178,7 @@ module _ {g : Geometry} {m m' : Memory} (a : (i : ℕ) → (m i ≡ m' i) ⊎ Un
     ]
   ]
 
-  read-node : {s : ℕ} {w : List ℕ} {n : ℕ} → Reaches g m s w n → SameWords g m m' n
+  pub read-node : {s : ℕ} {w : List ℕ} {n : ℕ} → Reaches g m s w n → SameWords g m m' n
   read-node {s} {w} {n} x = record {
     words = λ i l h. elim (a i) [
       | inl q ↦ q
@@ -188,7 +189,7 @@ module _ {g : Geometry} {m m' : Memory} (a : (i : ℕ) → (m i ≡ m' i) ⊎ Un
     ];
   }
 
-  same-read : Same g m m'
+  pub same-read : Same g m m'
   same-read = record { links = record { roots = read-root; next = λ x. same-next (read-node x) }; reels = read-reel; holds = λ x. same-frames (read-node x) }
 
 pub view-fresh : {g : Geometry} {im im' : List ℕ} {rs : List Reel} → View g im rs → Header g im'

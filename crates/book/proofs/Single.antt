@@ -13,7 +13,7 @@ use Rattle.book.specs.Table.{Table, tableWork}
 use Rattle.book.specs.Agrees.{Shows, Agrees}
 use Rattle.book.proofs.View.{View}
 use Rattle.book.proofs.Step.{Keeps, Step}
-use Rattle.book.proofs.Keeps.{Keeping, keeps-of}
+use Rattle.book.proofs.Keeps.{Keeping, keeps-of, keeps-itself}
 use Rattle.book.proofs.Claims.{AgreesBy, agrees-of}
 use Rattle.book.proofs.Showing.{shows-view, view-shows}
 use Rattle.book.proofs.Crashed.{falls-through, AfterEach, through-each}
@@ -26,7 +26,7 @@ abbrev pub setAll : List ℕ → List Store → List ℕ
 setAll im [] = im
 setAll im (s ∷ ss) = setAll (set im (s .0) (s .1)) ss
 
-apply-single : (im : List ℕ) (ss : List Store) → apply im (segmented (single ss)) ≡ setAll im ss
+pub apply-single : (im : List ℕ) (ss : List Store) → apply im (segmented (single ss)) ≡ setAll im ss
 unfolding apply segmented stores
 apply-single im [] = refl
 apply-single im (s ∷ ss) = apply-single (set im (s .0) (s .1)) ss
@@ -46,20 +46,21 @@ agrees-by a = record {
 -- ---- the step
 
 -- what a crash may leave
-pub record Left (im : List ℕ) (t t' : Table) (im' : List ℕ) : Type 0 where
+pub record Left (ws im : List ℕ) (t t' : Table) (im' : List ℕ) : Type 0 where
   pub shows : Shows im' t ⊎ Shows im' t'
-  pub keeps : Keeps im im'
+  pub keeps : Keeps ws im im'
 
-left-itself : {im : List ℕ} {t t' : Table} → Shows im t → Left im t t' im
-left-itself v = let w = shows-view v in record { shows = inl v; keeps = keeps-of w (w .header) (record { reels = λ x y. refl; held = λ x. inl x }) }
+left-itself : {ws im : List ℕ} {t t' : Table} → Shows im t → Left ws im t t' im
+left-itself v = record { shows = inl v; keeps = keeps-itself (shows-view v) }
 
 -- an image by its view: of the table before, and of the one after
-module _ {im im' : List ℕ} {t : Table} (v : Shows im t) where
-  pub left-old : {t' : Table} → View (geometryOf (reads im)) im' (t .reels) → Keeping (geometryOf (reads im)) (reads im) (reads im') → Left im t t' im'
+module _ {ws im im' : List ℕ} {t : Table} (v : Shows im t) where
+  pub left-old : {t' : Table} → View (geometryOf (reads im)) im' (t .reels) → Keeping ws (geometryOf (reads im)) (reads im) (reads im')
+      → Left ws im t t' im'
   left-old w k = record { shows = inl (view-shows w (v .slots) (v .nodes)); keeps = keeps-of (shows-view v) (w .header) k }
 
   pub left-new : {t' : Table} → View (geometryOf (reads im)) im' (t' .reels) → t .slots ≡ t' .slots → t .nodes ≡ t' .nodes
-      → Keeping (geometryOf (reads im)) (reads im) (reads im') → Left im t t' im'
+      → Keeping ws (geometryOf (reads im)) (reads im) (reads im') → Left ws im t t' im'
   left-new w p q k = record { shows = inr (view-shows w (v .slots ∙ p) (v .nodes ∙ q)); keeps = keeps-of (shows-view v) (w .header) k }
 
 pub agrees-new : {im : List ℕ} {s' : State} {t t' : Table} → Shows im t → View (geometryOf (reads im)) (s' .image) (t' .reels)
@@ -68,7 +69,7 @@ agrees-new v w p q a = agrees-of (w .header .geometry) (view-shows w (v .slots �
 
 pub step-of : {op : Operation} {s : State} {t : Table} (ss : List Store) (pool heads : List ℕ) (t' : Table) → Shows (s .image) t
     → granted op s ≡ writing (single ss) (record { image = s .image; pool = pool; heads = heads }) → tableWork op t .after ≡ t'
-    → AfterEach (Left (s .image) t t') (s .image) ss
+    → AfterEach (Left (s .heads) (s .image) t t') (s .image) ss
     → Agrees (record { image = setAll (s .image) ss; pool = pool; heads = heads }) t' → Step op s t
 step-of {op} {s} {t} ss pool heads t' v e f each a = record {
   final = rw (e, f, apply-single (s .image) ss) a;
@@ -76,7 +77,7 @@ step-of {op} {s} {t} ss pool heads t' v e f each a = record {
   keeps = rw e (λ k im' c. left k im' c .keeps);
 }
   where
-    left : (k : ℕ) (im' : List ℕ) → CrashImage (s .image) (segmented (single ss)) k im' → Left (s .image) t t' im'
+    left : (k : ℕ) (im' : List ℕ) → CrashImage (s .image) (segmented (single ss)) k im' → Left (s .heads) (s .image) t t' im'
     left k im' c =
-        falls-through (Left (s .image) t t') (crash-laws .falls-in (s .image) (single ss) k im' c)
-        (through-each (Left (s .image) t t') (s .image) ss (left-itself v) each)
+        falls-through (Left (s .heads) (s .image) t t') (crash-laws .falls-in (s .image) (single ss) k im' c)
+        (through-each (Left (s .heads) (s .image) t t') (s .image) ss (left-itself v) each)

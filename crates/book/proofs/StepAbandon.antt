@@ -24,10 +24,10 @@ use Rattle.book.proofs.Step.{Step}
 use Rattle.book.proofs.Stored.{stores-set, node-inside}
 use Rattle.book.proofs.Reading.{claim-of}
 use Rattle.book.proofs.Heads.{about-target}
-use Rattle.book.proofs.Reels.{frames-to}
 use Rattle.book.proofs.Sames.{view-locate}
 use Rattle.book.proofs.Showing.{shows-view}
-use Rattle.book.proofs.OnePlace.{OnePlace, HoldsBack, place-keeping, locate-place, locate-holds}
+use Rattle.book.proofs.Keeps.{Within, within-frames, within-keeping}
+use Rattle.book.proofs.OnePlace.{OnePlace, locate-place, locate-within}
 use Rattle.book.proofs.Replaced.{claim-formed, retabled, idled}
 use Rattle.book.proofs.Single.{single, setAll, agrees-by, left-old, agrees-new, step-of}
 
@@ -68,8 +68,8 @@ module _ {g : Geometry} {im : List ℕ} {rs : List Reel} {x : Target} {reel f : 
   place : OnePlace g (reads im) (reads cleared) (x .node) (x .place)
   place = locate-place (x .node) (x .place) stored (λ q d. sym (bit-laws .without-keeps _ (x .place) q d))
 
-  holds : HoldsBack g (reads im) (reads cleared)
-  holds = locate-holds (x .node) (x .place) stored
+  within : Within g (reads im) (reads cleared)
+  within = locate-within (x .node) (x .place) stored
 
   -- neither located nor held
   bits : isSet (reads cleared (locateAt g (x .node))) (x .place) ≡ held g (reads cleared) (x .node) (x .place)
@@ -86,6 +86,6 @@ step-abandon {s} {t} a script h fits e =
     let im = cleared v c in
     step-of (clearing (geometryOf (reads (s .image))) (reads (s .image)) (targetOf (headAt (s .heads) h))) (s .pool) (withHead (s .heads) h heads.Idle)
     (retabled t (t .reels) h idle) (a .shows) (abandon-granted script h s) (abandon-table script h t)
-    (left-old (a .shows) (view v c) (place-keeping (place v c) (holds v c)), tt)
+    (left-old (a .shows) (view v c) (within-keeping (within v c)), tt)
     (agrees-new (a .shows) (view v c) refl refl (idled (agrees-by a) (p .0) (about-target _ (p .1)) im (v .sound) (place v c)
-    (λ slot f z. frames-to (λ w n p y. holds v c slot w n p f y)) (t .reels) (bits v c)))
+    (λ slot f z. within-frames (within v c)) (t .reels) (bits v c)))

@@ -13,6 +13,7 @@ use Rattle.tree.specs.Node.{held}
 use Rattle.tree.specs.Reach.{Reaches}
 use Rattle.tree.specs.Pool.{used, markAll}
 use Rattle.tree.proofs.Cases.{true-not-false}
+use Rattle.tree.proofs.Lists.{range-has}
 use Rattle.tree.proofs.Memory.{bit-laws}
 use Rattle.tree.proofs.Laws.{child-laws, pool-laws}
 use Rattle.book.specs.declared.Target.{Target}
@@ -28,11 +29,12 @@ use Rattle.book.proofs.Showing.{shows-view}
 use Rattle.book.proofs.Crashed.{Through, through-each}
 use Rattle.book.proofs.Reading.{sizesOf, claim-inside}
 use Rattle.book.proofs.Claims.{SameClaim, about-claim}
-use Rattle.book.proofs.Still.{within-frames, Still, still-on}
+use Rattle.book.proofs.Keeps.{within-frames}
+use Rattle.book.proofs.Still.{Still, still-on}
 use Rattle.book.proofs.Claiming.{Asked, targetAt}
 use Rattle.book.proofs.Making.{Makes, asked-made}
 use Rattle.book.proofs.StepClear.{Placed, placed}
-use Rattle.book.proofs.NewNodes.{range-has, newNodes}
+use Rattle.book.proofs.NewNodes.{newNodes}
 use Rattle.book.proofs.Branching.{in-group, madeImage, linkedImage, Branches, still-made, still1, still2, branches}
 
 way-more : (d f : ℕ) → wayOf (suc d) f ≡ child d f ∷ wayOf d f
@@ -71,7 +73,7 @@ module _ {s : State} {t : Table} {slot f d start : ℕ} {im2 : List ℕ} (a : Ag
     ],
     λ r. u .1 (elim (b .old-or-new r) [
       | inl y ↦ inr (a .marks k .1 y)
-      | inr c ↦ inl (Memᴰ·cast (c .2) (range-has start (fanout d) (c .0) (c .1)))
+      | inr c ↦ inl (Memᴰ·cast (c .2) (range-has start (fanout d) {c = start + c .0} (omega arith) (omega (arith, c .1))))
     ]),
   )
     where

@@ -3,10 +3,9 @@ use mathlib.Core.Path.{_≡_, refl, sym, _∙_}
 use mathlib.Core.Bool.{true, false}
 use mathlib.Core.Logic.{_⊎_, inl, inr}
 use mathlib.Core.Option.{some}
-use mathlib.Core.List.{List, [], _∷_, map}
+use mathlib.Core.List.{List, [], _∷_}
 use Prim.Native.Nat.{ℕ, suc, _+_, _*_, _^_, _≤_, _<_}
 use native.Mathlib.Omega.{arith}
-use lib.ListN.{set}
 use borrow.Author.Tests as tests
 use Rattle.tree.specs.Memory.{Memory, reads, withBit, Store, stores, segmented, apply, isSome, Fit, CrashImage}
 use Rattle.tree.specs.Layout.{Geometry, nextAt, locateAt, sizeAt}
@@ -38,6 +37,7 @@ use Rattle.book.proofs.Showing.{shows-view, view-shows}
 use Rattle.book.proofs.Crashed.{Through, AfterEach, through-each, falls-through}
 use Rattle.book.proofs.Still.{Still, still-self, still-keeps}
 use Rattle.book.proofs.Step.{Step}
+use Rattle.book.proofs.Single.{single, apply-single}
 use Rattle.book.proofs.Claiming.{Asked, targetAt}
 use Rattle.book.proofs.NewNodes.{newNodes}
 use Rattle.book.proofs.StepClear.{agrees-clear, still-clear}
@@ -95,19 +95,6 @@ asked {s} {t} {h} {reel} {f} a fit u =
     }
 
 -- ---- scripts
-
--- an image with stores carried out in turn
-abbrev setAll : List ℕ → List Store → List ℕ
-setAll im [] = im
-setAll im (z ∷ zs) = setAll (set im (z .0) (z .1)) zs
-
-abbrev single : List Store → List (List Store)
-single zs = map (λ z. z ∷ []) zs
-
-apply-single : (im : List ℕ) (zs : List Store) → apply im (segmented (single zs)) ≡ setAll im zs
-unfolding apply segmented stores
-apply-single im [] = refl
-apply-single im (z ∷ zs) = apply-single (set im (z .0) (z .1)) zs
 
 apply-first : (im : List ℕ) (seg : List Store) (segs : List (List Store))
     → apply im (segmented (seg ∷ segs)) ≡ apply (apply im (stores seg)) (segmented segs)

@@ -3,7 +3,7 @@ use mathlib.Core.Path.{_≡_, refl, sym, _∙_, ap}
 use mathlib.Core.Bool.{true, false}
 use mathlib.Core.Logic.{_⊎_, inl, inr, _↔_}
 use mathlib.Core.List.{List}
-use Prim.Native.Nat.{ℕ, _≤_, _<_}
+use Prim.Native.Nat.{ℕ, _<_}
 use native.Mathlib.Omega.{arith}
 use native.Mathlib.Decide.{ℕ-discrete}
 use lib.ListN.{length, set}
@@ -26,16 +26,14 @@ use Rattle.book.specs.Table.{Table, claimed, withTableHead}
 use Rattle.book.specs.Agrees.{Reached, Claims, Agrees}
 use Rattle.book.proofs.View.{View}
 use Rattle.book.proofs.Stored.{stores-set}
-use Rattle.book.proofs.Sames.{node-formed, reached-inside, view-locate}
+use Rattle.book.proofs.Sames.{size-most, node-formed, reached-inside, view-locate}
 use Rattle.book.proofs.Showing.{shows-view, view-shows}
 use Rattle.book.proofs.Reading.{sizesOf, claim-inside}
 use Rattle.book.proofs.Claims.{SameClaim}
-use Rattle.book.proofs.Still.{Still, within-same, within-frames, same-reached, same-word, claim-beside}
+use Rattle.book.proofs.Keeps.{within-same, within-frames}
+use Rattle.book.proofs.Reels.{same-reached}
+use Rattle.book.proofs.Still.{Still, same-word, claim-beside}
 use Rattle.book.proofs.Claiming.{Asked, Lands, targetAt, landed}
-
--- the places of a node are below 64
-pub size-64 : {g : Geometry} {m : Memory} {d n : ℕ} → WellFormed g m d n → m (sizeAt g n) ≤ 64
-size-64 w = elim (w .size) [ inl q ↦ omega arith | inr q ↦ elim (q .1) [ inl e ↦ omega arith | inr e ↦ omega arith ] ]
 
 module _ {s : State} {t : Table} {h reel f slot n p : ℕ} (d : ℕ) (a : Asked s t h reel f slot)
     (x : Reaches (sizesOf (s .image)) (reads (s .image)) slot (wayOf d f) n) (low : p < reads (s .image) (sizeAt (sizesOf (s .image)) n))
@@ -62,7 +60,7 @@ module _ {s : State} {t : Table} {h reel f slot n p : ℕ} (d : ℕ) (a : Asked 
   formed = node-formed old-view x
 
   low-64 : p < 64
-  low-64 = omega (arith, size-64 formed)
+  low-64 = omega (arith, size-most formed)
 
   stored : Stores m (locateAt g n) new m'
   stored = stores-set (s .image) (locateAt g n) new (reached-inside old-view x 1 (omega arith))
@@ -118,12 +116,12 @@ module _ {s : State} {t : Table} {h reel f slot n p : ℕ} (d : ℕ) (a : Asked 
   lands = record {
     shows = view-shows (still-clear .view) (a .agrees .shows .slots) (a .agrees .shows .nodes);
     geometry = still-clear .view .header .geometry;
-    reached = same-reached same;
+    reached = λ k. same-reached (same .links);
     carries = carries;
     claims = claims;
     unclaimed = λ k c. true-not-false (a .agrees .locates n p here low-64 .1 (inr (k, c))) clear;
     locates = λ k q r b.
-        let u = a .agrees .locates k q (same-reached same k .1 r) b in
+        let u = a .agrees .locates k q (same-reached (same .links) .1 r) b in
         let e = bits k q in
         rw (← held-same k q) (
           λ z. elim (e .0 z) [ inl y ↦ inl (u .0 y) | inr y ↦ inr y ],

@@ -27,9 +27,11 @@ use Rattle.book.specs.Checks.{refusals}
 use Rattle.book.specs.Perform.{granted, writing, perform}
 use Rattle.book.specs.Table.{Table, TableHead, Reel, tableHead, idle, reelOf, frameOf, changeFrames, joined, tableWork}
 use Rattle.book.specs.Agrees.{Claims, Written, HeadAgrees, both-idle, both-claimed, both-filled, About, by-fill, Agrees}
+use Rattle.book.specs.Demands.{FilledBy}
 use Rattle.book.proofs.Refusals.{passes}
 use Rattle.book.proofs.Performed.{answer-is}
 use Rattle.book.proofs.View.{View}
+use Rattle.book.proofs.Heads.{filled-is}
 use Rattle.book.proofs.Step.{Step}
 use Rattle.book.proofs.Keeps.{Keeping}
 use Rattle.book.proofs.Stored.{stores-set, header-set, node-inside}
@@ -116,12 +118,13 @@ module _ {g : Geometry} {im : List ℕ} {rs : List Reel} {x : Target} {reel f : 
   place : OnePlace g (reads im) (reads held-now) (x .node) (x .place)
   place = set-place (x .node) (x .place) stored (λ q d. sym (bit-laws .with-keeps _ (x .place) q d))
 
-  keeping : Keeping g (reads im) (reads held-now)
-  keeping = record {
+  -- the frame that is new is the one that the head had filled its place with
+  keeping : {ws : List ℕ} → FilledBy ws (x .slot) (x .node) (x .place) f → Keeping ws g (reads im) (reads held-now)
+  keeping y = record {
     reels = λ b b'. place .reels b;
-    held = λ {s} {w} {n} {p} {f = f'} y. elim (change .holds .0 y) [
+    held = λ {s} {w} {n} {p} {f = f'} u. elim (change .holds .0 u) [
       | inl z ↦ inl z
-      | inr z ↦ inr (rw (z .slot, z .is) (c .open-slot, c .not-held))
+      | inr z ↦ inr (rw (z .slot, z .node, z .place, z .is) (c .open-slot, c .not-held, y))
     ];
   }
 
@@ -145,8 +148,18 @@ step-commit {s} {t} a script h fits e =
     let y = filling (a .heads h (p .0)) (p .1) in
     let c = y .claim in let w = y .written in
     let v = shows-view (a .shows) in
+    let by : FilledBy (s .heads) (targetOf (headAt (s .heads) h) .slot) _ _ (frameOf (tableHead t h)) = record {
+      head = h;
+      low = p .0;
+      target = targetOf (headAt (s .heads) h);
+      filled = filled-is (headAt (s .heads) h) (p .1);
+      of-slot = refl;
+      of-node = refl;
+      of-place = refl;
+      of-frame = c .of-frame;
+    } in
     step-of (setting (geometryOf (reads (s .image))) (reads (s .image)) (targetOf (headAt (s .heads) h))) (s .pool) (withHead (s .heads) h heads.Idle)
     (retabled t (joining t h) h idle) (a .shows) (commit-granted script h s) (commit-table script h t)
-    (left-new (a .shows) (view v c w) refl refl (keeping v c w), tt)
+    (left-new (a .shows) (view v c w) refl refl (keeping v c w by), tt)
     (agrees-new (a .shows) (view v c w) refl refl
     (idled (agrees-by a) (p .0) (y .about) (held-now v c w) (v .sound) (place v c w) (frames v c w) (joining t h) (bits v c w)))

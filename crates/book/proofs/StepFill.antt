@@ -2,7 +2,7 @@
 use mathlib.Core.Path.{_≡_, refl, sym, _∙_, ap, ap₂, subst}
 use mathlib.Core.Bool.{true}
 use mathlib.Core.List.{List, [], _∷_}
-use Prim.Native.Nat.{ℕ, _+_, _/_, _%_, _^_, _<_}
+use Prim.Native.Nat.{ℕ, _+_, _/_, _%_, _<_}
 use native.Mathlib.Omega.{arith}
 use lib.ListN.{set}
 use borrow.Author.Tests.{not-false}
@@ -28,11 +28,11 @@ use Rattle.book.proofs.Performed.{answer-is}
 use Rattle.book.proofs.View.{View}
 use Rattle.book.proofs.Step.{Step}
 use Rattle.book.proofs.Stored.{same-rule, stores-set, node-inside}
-use Rattle.book.proofs.Reels.{frames-to}
 use Rattle.book.proofs.Sames.{view-frame, view-fingerprint}
 use Rattle.book.proofs.Showing.{shows-view}
 use Rattle.book.proofs.Inside.{fingerprint-lt}
-use Rattle.book.proofs.OnePlace.{OnePlace, HoldsBack, place-keeping, one-after-other, frame-place, frame-holds, fingerprint-place, fingerprint-holds}
+use Rattle.book.proofs.Keeps.{Within, within-on, within-frames, within-keeping}
+use Rattle.book.proofs.OnePlace.{OnePlace, one-after-other, frame-place, frame-within, fingerprint-place, fingerprint-within}
 use Rattle.book.proofs.Replaced.{claim-formed, claim-low, retabled, filled-in}
 use Rattle.book.proofs.Single.{single, agrees-by, left-old, agrees-new, step-of}
 
@@ -93,8 +93,8 @@ module _ {g : Geometry} {im : List ℕ} {rs : List Reel} {x : Target} {reel f : 
   framed-place : OnePlace g (reads im) (reads framed) (x .node) (x .place)
   framed-place = frame-place (x .node) (x .place) low framed-stores
 
-  framed-holds : HoldsBack g (reads im) (reads framed)
-  framed-holds = frame-holds (x .node) (x .place) low (c .not-set) framed-stores
+  framed-within : Within g (reads im) (reads framed)
+  framed-within = frame-within (x .node) (x .place) low (c .not-set) framed-stores
 
   same-prints : reads im (fingerprintsAt g (x .node) (x .place)) ≡ reads framed (fingerprintsAt g (x .node) (x .place))
   same-prints = framed-stores .old (fingerprintsAt g (x .node) (x .place)) (λ q. omega (arith, low))
@@ -118,8 +118,8 @@ module _ {g : Geometry} {im : List ℕ} {rs : List Reel} {x : Target} {reel f : 
   place = one-after-other framed-place (fingerprint-place (x .node) (x .place) low stored (λ j d.
       byte-laws .with-keeps _ (x .place % 8) _ j (fingerprint-lt (reads im) (x .frame)) d ∙ ap (λ w. byte w j) same-prints))
 
-  holds : HoldsBack g (reads im) (reads written)
-  holds s w n p f' y = framed-holds s w n p f' (fingerprint-holds (x .node) (x .place) low stored s w n p f' y)
+  within : Within g (reads im) (reads written)
+  within = within-on framed-within (fingerprint-within (x .node) (x .place) low stored)
 
   -- its two bits are as before
   same-locate : isSet (reads im (locateAt g (x .node))) (x .place) ≡ isSet (reads written (locateAt g (x .node))) (x .place)
@@ -142,7 +142,7 @@ module _ {g : Geometry} {im : List ℕ} {rs : List Reel} {x : Target} {reel f : 
     place = omega (arith, c .place, place .sizes (x .node));
     located = sym same-locate ∙ c .located;
     not-set = sym same-set ∙ c .not-set;
-    not-held = λ y. c .not-held (frames-to (λ w n p z. holds (x .slot) w n p f z) y);
+    not-held = λ y. c .not-held (within-frames within y);
   }
 
   filled-there : Written g (reads written) x f
@@ -164,9 +164,9 @@ step-fill {s} {t} a script h fits e =
     let x = targetOf (headAt (s .heads) h) in
     step-of (filling (geometryOf (reads (s .image))) (reads (s .image)) x) (s .pool) (withHead (s .heads) h (heads.Filled x))
     (retabled t (t .reels) h (filled (reelOf (tableHead t h)) (frameOf (tableHead t h)))) (a .shows) (fill-granted script h s) (fill-table script h t) (
-      left-old (a .shows) (framed-view v c) (place-keeping (framed-place v c) (framed-holds v c)),
-      (left-old (a .shows) (view v c) (place-keeping (place v c) (holds v c)), tt),
+      left-old (a .shows) (framed-view v c) (within-keeping (framed-within v c)),
+      (left-old (a .shows) (view v c) (within-keeping (within v c)), tt),
     )
     (agrees-new (a .shows) (view v c) refl refl (filled-in (agrees-by a) (p .0) (y .about) (written v c) (v .sound) (place v c)
-    (λ slot f z. frames-to (λ w n p u. holds v c slot w n p f u)) (both-filled (claim-stays v c) (filled-there v c))
+    (λ slot f z. within-frames (within v c)) (both-filled (claim-stays v c) (filled-there v c))
     (same-locate v c) (same-set v c)))

@@ -3,11 +3,11 @@ use mathlib.Core.Path.{_≡_, refl, sym, _∙_, ap, subst}
 use mathlib.Core.Bool.{true}
 use mathlib.Core.Logic.{_⊎_, inl, inr, _↔_}
 use mathlib.Core.List.{List, [], _∷_, _++_, List·Memᴰ, List·Memᴰ·append-cases, List·Memᴰ·eq-of-singleton}
-use Prim.Native.Nat.{ℕ, suc, _+_, _^_, _≤_, _<_}
+use Prim.Native.Nat.{ℕ, suc, _+_, _^_, _<_}
 use native.Mathlib.Omega.{arith}
 use lib.ListN.{length, set}
 use Rattle.tree.specs.Memory.{Memory, reads, isSet, Fit, Store, stores, apply, Torn}
-use Rattle.tree.specs.Layout.{Geometry, reelAt, rootAt, nodeAt, locateAt, setAt, sizeAt}
+use Rattle.tree.specs.Layout.{Geometry, reelAt, rootAt, locateAt, setAt, sizeAt}
 use Rattle.tree.specs.Fingerprint.{ruleOf}
 use Rattle.tree.specs.Node.{held}
 use Rattle.tree.specs.Slots.{Filled}
@@ -28,17 +28,17 @@ use Rattle.book.specs.Table.{Table, withReels}
 use Rattle.book.specs.Agrees.{Reached, Shows, Claims, ClaimsPlace, Agrees}
 use Rattle.book.specs.Histories.{carriedOut}
 use Rattle.book.proofs.View.{Header, View}
-use Rattle.book.proofs.Stored.{stores-set, header-set}
+use Rattle.book.proofs.Stored.{stores-set, header-set, few-nodes}
 use Rattle.book.proofs.Reels.{frames-to}
 use Rattle.book.proofs.Views.{view-opened}
-use Rattle.book.proofs.Sames.{Unread, of-node, of-slot}
+use Rattle.book.proofs.Sames.{Unread, of-node, of-slot, read-reel, read-node, same-read}
 use Rattle.book.proofs.Showing.{shows-view, view-shows}
 use Rattle.book.proofs.Crashed.{Through, torn-one, apply-one, torn-whole, view-torn}
 use Rattle.book.proofs.Reading.{sizesOf, claim-inside}
 use Rattle.book.proofs.Keeps.{keeps-of, step-of}
-use Rattle.book.proofs.Claims.{SameClaim, untouched, head-on, about-claim, locates-on, unread-words, unread-reel, unread-same, agrees-of}
+use Rattle.book.proofs.Claims.{SameClaim, untouched, head-on, about-claim, locates-on, agrees-of}
 use Rattle.book.proofs.Step.{Keeps, Step}
-use Rattle.book.proofs.Opening.{Each, node-words, stored-each, two-segments, few-nodes, Opening, opening, open-granted, open-table}
+use Rattle.book.proofs.Opening.{Each, node-words, stored-each, two-segments, Opening, opening, open-granted, open-table}
 
 -- ---- the first segment
 
@@ -73,14 +73,14 @@ module _ {s : State} {t : Table} {slot n reel : ℕ} (a : Agrees s t) (o : Openi
     differ : (i : ℕ) → (m i ≡ reads im i) ⊎ Unread g m i
     differ i = elim (y .each i) [ inl q ↦ inl (sym q) | inr z ↦ inr (unread i _ z .0) ]
 
-    torn-same : SameLaws g m (reads im) (unread-same differ)
-    torn-same = same-laws (unread-same differ)
+    torn-same : SameLaws g m (reads im) (same-read differ)
+    torn-same = same-laws (same-read differ)
 
     torn-shows : Shows im t
     torn-shows = view-shows torn-view (a .shows .slots) (a .shows .nodes)
 
-    torn-keeps : Keeps (s .image) im
-    torn-keeps = keeps-of v (torn-view .header) (record { reels = λ b c. unread-reel differ b; held = λ x. inl (torn-same .holds .1 x) })
+    torn-keeps : Keeps (s .heads) (s .image) im
+    torn-keeps = keeps-of v (torn-view .header) (record { reels = λ b c. read-reel differ b; held = λ x. inl (torn-same .holds .1 x) })
 
   -- ---- the image once it is carried out
 
@@ -123,10 +123,10 @@ module _ {s : State} {t : Table} {slot n reel : ℕ} (a : Agrees s t) (o : Openi
   opens : Opens g (reads written) slot n
   opens = record {
     inside = o .inside;
-    empty = sym (unread-same (differ whole) .links .roots slot (o .inside)) ∙ o .empty;
+    empty = sym (same-read (differ whole) .links .roots slot (o .inside)) ∙ o .empty;
     new-reel = λ {s' = s'} b q.
-        let b' = filled-back (unread-same (differ whole) .links) b in
-        o .new-reel s' b' (unread-reel (differ whole) b' ∙ q ∙ reel-now);
+        let b' = filled-back (same-read (differ whole) .links) b in
+        o .new-reel s' b' (read-reel (differ whole) b' ∙ q ∙ reel-now);
     fresh = fresh;
   }
 
@@ -146,7 +146,7 @@ module _ {s : State} {t : Table} {slot n reel : ℕ} (a : Agrees s t) (o : Openi
 
   header : Header g rooted
   header =
-      let l = few-nodes g (v .header .in-range) in
+      let l = few-nodes (v .header) in
       header-set (rootAt slot) (n + 1) (torn-view whole .header) (omega arith) root-inside (omega arith)
 
   change : Grown (ruleOf (reads written)) g (reads written) (reads rooted) (NewRoot slot n)
@@ -156,9 +156,9 @@ module _ {s : State} {t : Table} {slot n reel : ℕ} (a : Agrees s t) (o : Openi
   shows-rooted = view-shows (rw reel-now at (view-opened (torn-view whole) header opens stored)) (a .shows .slots) (a .shows .nodes)
 
   reel-kept : {s' : ℕ} → Filled g m s' → m (reelAt s') ≡ reads rooted (reelAt s')
-  reel-kept {s'} b = unread-reel (differ whole) b ∙ stored .old (reelAt s') (λ q. omega arith)
+  reel-kept {s'} b = read-reel (differ whole) b ∙ stored .old (reelAt s') (λ q. omega arith)
 
-  keeps-rooted : Keeps (s .image) rooted
+  keeps-rooted : Keeps (s .heads) (s .image) rooted
   keeps-rooted = keeps-of v header (record { reels = λ b c. reel-kept b; held = λ x. inl (torn-same whole .holds .1 (change .holds .0 x)) })
 
   -- what is reached: what was, and the new node
@@ -175,7 +175,7 @@ module _ {s : State} {t : Table} {slot n reel : ℕ} (a : Agrees s t) (o : Openi
   reached-new = record { slot = slot; way = []; there = change .reaches .1 (inr (record { slot = refl; way = refl; is = refl })) }
 
   words : {s' k : ℕ} {w : List ℕ} → Reaches g m s' w k → SameWords g m (reads rooted) k
-  words {k = k} x = record { words = λ i l h. unread-words (differ whole) x .words i l h ∙ beside-nodes g stored slot k (o .inside) refl .words i l h }
+  words {k = k} x = record { words = λ i l h. read-node (differ whole) x .words i l h ∙ beside-nodes g stored slot k (o .inside) refl .words i l h }
 
   same-claim : (x : Target) (r f : ℕ) → Claims g m x r f
       → SameClaim g m (reads rooted) x
@@ -233,8 +233,8 @@ module _ {s : State} {t : Table} {slot n reel : ℕ} (a : Agrees s t) (o : Openi
   })
 
   -- every image that a crash leaves
-  through : Through (λ im. (Shows im t ⊎ Shows im (withReels t (record { number = reel; frames = [] } ∷ t .reels))) × Keeps (s .image) im) (s .image)
-      (openScript g slot n reel)
+  through : Through (λ im. (Shows im t ⊎ Shows im (withReels t (record { number = reel; frames = [] } ∷ t .reels))) × Keeps (s .heads) (s .image) im)
+      (s .image) (openScript g slot n reel)
   unfolding openScript
   through = (
     λ im y. (inl (torn-shows y), torn-keeps y),

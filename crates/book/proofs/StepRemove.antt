@@ -35,13 +35,14 @@ use Rattle.book.proofs.Performed.{answer-is}
 use Rattle.book.proofs.View.{View}
 use Rattle.book.proofs.Step.{Step}
 use Rattle.book.proofs.Stored.{stores-set, header-set, node-inside}
-use Rattle.book.proofs.Reels.{frames-to}
+use Rattle.book.proofs.Reels.{same-reached}
 use Rattle.book.proofs.Views.{view-removed}
 use Rattle.book.proofs.Sames.{view-locate}
 use Rattle.book.proofs.Showing.{shows-view}
 use Rattle.book.proofs.Claims.{head-on, about-claim, AgreesBy}
-use Rattle.book.proofs.OnePlace.{OnePlace, HoldsBack, place-keeping, one-after-other, set-place, locate-place, locate-holds}
-use Rattle.book.proofs.Replaced.{beside-claim, same-reached, Located, located-on, same-place?}
+use Rattle.book.proofs.Keeps.{Within, within-on, within-frames, within-keeping}
+use Rattle.book.proofs.OnePlace.{OnePlace, place-within, one-after-other, set-place, locate-place, locate-within}
+use Rattle.book.proofs.Replaced.{beside-claim, Located, located-on, same-place?}
 use Rattle.book.proofs.Single.{single, agrees-by, left-new, agrees-new, step-of}
 
 -- ---- what it does
@@ -110,8 +111,8 @@ module _ {g : Geometry} {im : List ℕ} {rs : List Reel} {slot f : ℕ} {w : Lis
   unset-place : OnePlace g (reads im) (reads unset) (x .node) (x .place)
   unset-place = set-place (x .node) (x .place) unset-stores (λ q d. sym (bit-laws .without-keeps _ (x .place) q d))
 
-  unset-holds : HoldsBack g (reads im) (reads unset)
-  unset-holds s w n p f z = change-laws (reads unset) (v .sound) .removed removes unset-stores .holds .0 z .0
+  unset-within : Within g (reads im) (reads unset)
+  unset-within = place-within unset-place (λ s w n p f z. change-laws (reads unset) (v .sound) .removed removes unset-stores .holds .0 z .0)
 
   -- and located no more
   abbrev cleared : List ℕ
@@ -128,8 +129,8 @@ module _ {g : Geometry} {im : List ℕ} {rs : List Reel} {slot f : ℕ} {w : Lis
   place = one-after-other unset-place (locate-place (x .node) (x .place) stored (λ q d.
       ap (λ w. isSet w q) (sym (unset-stores .old (locateAt g (x .node)) (λ z. omega arith))) ∙ sym (bit-laws .without-keeps _ (x .place) q d)))
 
-  holds : HoldsBack g (reads im) (reads cleared)
-  holds s w n p f z = unset-holds s w n p f (locate-holds (x .node) (x .place) stored s w n p f z)
+  within : Within g (reads im) (reads cleared)
+  within = within-on unset-within (locate-within (x .node) (x .place) stored)
 
   not-located : isSet (reads cleared (locateAt g (x .node))) (x .place) ≡ false
   not-located = ap (λ w. isSet w (x .place)) (stored .new) ∙ bit-laws .without-clears _ (x .place)
@@ -165,7 +166,7 @@ module _ {g : Geometry} {s : State} {t : Table} {rs : List Reel} {slot f : ℕ} 
     head-words = a .head-words;
     table-heads = a .table-heads;
     heads = λ h l. head-on (λ b reel f' z c.
-        beside-claim (v .sound) (place v x y) c (other-place c) (frames-to (λ w n p k. holds v x y (b .slot) w n p (b .frame) k))) (a .heads h l);
+        beside-claim (v .sound) (place v x y) c (other-place c) (within-frames (within v x y))) (a .heads h l);
     apart = a .apart;
     locates = λ n p c. locates n p (same-reached (place v x y .links) .1 c);
   }
@@ -185,8 +186,8 @@ step-remove {s} {t} a script reel f fits e =
           (remove-granted script reel f s ∙ ap (λ o. writing (single (removing (geometryOf (reads (s .image))) (reads (s .image)) (orNone o)))
           (record { image = s .image; pool = s .pool; heads = s .heads })) q)
           (remove-table script reel f t) (
-            left-new (a .shows) (rw (b .1) at (unset-view v x y)) refl refl (place-keeping (unset-place v x y) (unset-holds v x y)),
-            (left-new (a .shows) (rw (b .1) at (view v x y)) refl refl (place-keeping (place v x y) (holds v x y)), tt),
+            left-new (a .shows) (rw (b .1) at (unset-view v x y)) refl refl (within-keeping (unset-within v x y)),
+            (left-new (a .shows) (rw (b .1) at (view v x y)) refl refl (within-keeping (within v x y)), tt),
           )
           (agrees-new (a .shows) (rw (b .1) at (view v x y)) refl refl (agrees v (agrees-by a) x y (changeFrames reel (without f) (t .reels))))
     ]

@@ -115,7 +115,7 @@ module _ {s : State} {t : Table} (a : Agrees s t) (slot : ℕ) (b : Filled (size
   shows-cleared : (reel : ℕ) → m (reelAt slot) ≡ reel → Shows cleared (withReels t (keep (λ r. not (eqb (r .number) reel)) (t .reels)))
   shows-cleared reel q = view-shows (rw q at (view-retired v header b stored)) (a .shows .slots) (a .shows .nodes)
 
-  keeps-cleared : Keeps (s .image) cleared
+  keeps-cleared : Keeps (s .heads) (s .image) cleared
   keeps-cleared = keeps-of v header (record { reels = λ {s = s'} x y. reel-kept s'; held = λ x. inl (change .holds .0 x .0) })
 
   other-slot : {x : Target} (h : ℕ) → h < headCount → About x (headAt (s .heads) h) → x .slot ≢ slot

@@ -7,7 +7,6 @@ use native.Mathlib.Decide.{ℕ-discrete}
 use lib.ListN.{length, set}
 use Rattle.tree.specs.Memory.{Memory, reads, isSet, withBit}
 use Rattle.tree.specs.Layout.{Geometry, nextAt, locateAt, setAt, sizeAt}
-use Rattle.tree.specs.Path.{wayOf}
 use Rattle.tree.specs.Reach.{Reaches}
 use Rattle.tree.specs.Same.{Same, Stores}
 use Rattle.tree.specs.Laws.{WellFormed}
@@ -20,20 +19,19 @@ use Rattle.book.specs.State.{State}
 use Rattle.book.specs.Table.{Table, claimed, withTableHead}
 use Rattle.book.specs.Agrees.{Claims, Agrees}
 use Rattle.book.proofs.View.{View}
+use Rattle.book.proofs.Rooms.{root-way}
 use Rattle.book.proofs.Stored.{stores-set, node-inside}
 use Rattle.book.proofs.Sames.{node-formed, reached-inside, view-size}
 use Rattle.book.proofs.Showing.{shows-view}
 use Rattle.book.proofs.Crashed.{AfterEach}
 use Rattle.book.proofs.Reading.{sizesOf, claim-inside}
 use Rattle.book.proofs.Claims.{SameClaim}
-use Rattle.book.proofs.Still.{Still, still-on, within-same, same-reached, same-word, claim-beside}
+use Rattle.book.proofs.Keeps.{within-same}
+use Rattle.book.proofs.Reels.{same-reached}
+use Rattle.book.proofs.Still.{Still, still-on, same-word, claim-beside}
 use Rattle.book.proofs.Claiming.{Asked, targetAt}
 use Rattle.book.proofs.Making.{Makes, asked-made}
 use Rattle.book.proofs.StepClear.{Placed, placed}
-
-pub top-way : (f : ℕ) → wayOf 0 f ≡ []
-unfolding wayOf
-top-way f = refl
 
 module _ {s : State} {t : Table} {h reel f slot n : ℕ} (a : Asked s t h reel f slot) (x : Reaches (sizesOf (s .image)) (reads (s .image)) slot [] n)
     (ends : reads (s .image) (nextAt (sizesOf (s .image)) n) ≡ 0) (some : 0 < reads (s .image) (sizeAt (sizesOf (s .image)) n))
@@ -80,12 +78,12 @@ module _ {s : State} {t : Table} {h reel f slot n : ℕ} (a : Asked s t h reel f
   makes = record {
     still = record { view = view-size old-view x ends small; within = within-same same };
     map-words = refl;
-    marks = λ k. let u = a .agrees .marks k in (λ e. same-reached same k .0 (u .0 e), λ r. u .1 (same-reached same k .1 r));
+    marks = λ k. let u = a .agrees .marks k in (λ e. same-reached (same .links) .0 (u .0 e), λ r. u .1 (same-reached (same .links) .1 r));
     ways = λ z. same-laws same .reaches .0 z;
     carries = carries;
     locates = λ k q r b.
         rw (← stored .old (locateAt g k) (λ z. omega arith), ← stored .old (setAt g k) (λ z. omega arith))
-        (a .agrees .locates k q (same-reached same k .1 r) b);
+        (a .agrees .locates k q (same-reached (same .links) .1 r) b);
   }
 
   locate-same : m (locateAt g n) ≡ m' (locateAt g n)
@@ -93,7 +91,7 @@ module _ {s : State} {t : Table} {h reel f slot n : ℕ} (a : Asked s t h reel f
 
   placed-there : Placed g (record { image = im'; pool = s .pool; heads = s .heads }) t h reel f slot n size
   placed-there =
-      placed 0 (makes .still .view .header .geometry) (asked-made a makes) (rw (top-way f) (same-laws same .reaches .0 x)) (omega (arith, stored .new))
+      placed 0 (makes .still .view .header .geometry) (asked-made a makes) (rw (root-way f) (same-laws same .reaches .0 x)) (omega (arith, stored .new))
       (rw (← locate-same) (bit-laws .none-above (m (locateAt g n)) size size (formed .locate) (omega arith)))
 
   abbrev last : List ℕ

@@ -1,55 +1,22 @@
 -- Images that hold only what another one holds, in the same places, and show the same reels.
-use mathlib.Core.Path.{_≡_, refl, _∙_, ap}
-use mathlib.Core.Logic.{inl, _↔_, _≢_}
+use mathlib.Core.Path.{_≡_, ap}
+use mathlib.Core.Logic.{_≢_}
 use mathlib.Core.List.{List}
 use Prim.Native.Nat.{ℕ, _+_, _*_, _%_, _≤_, _<_}
 use native.Mathlib.Omega.{arith}
 use Rattle.tree.specs.Memory.{Memory, reads, isSet, byte}
 use Rattle.tree.specs.Layout.{Geometry, reelAt, rootAt, nodeAt, nextAt, locateAt, setAt, sizeAt, fingerprintsAt, frameAt}
-use Rattle.tree.specs.Slots.{Filled}
-use Rattle.tree.specs.Reach.{Reaches, Holds, FrameOf}
+use Rattle.tree.specs.Reach.{Reaches}
 use Rattle.tree.specs.Same.{Same, SameWords, Stores}
-use Rattle.tree.proofs.Same.{filled-back}
 use Rattle.tree.proofs.Words.{same-next, same-frames}
 use Rattle.tree.proofs.Laws.{same-laws}
 use Rattle.book.specs.declared.Target.{Target}
 use Rattle.book.specs.Table.{Reel}
-use Rattle.book.specs.Agrees.{Reached, Claims}
+use Rattle.book.specs.Agrees.{Claims}
 use Rattle.book.proofs.View.{View}
-use Rattle.book.proofs.Reels.{frames-to}
 use Rattle.book.proofs.Step.{Keeps}
 use Rattle.book.proofs.Claims.{SameClaim}
-use Rattle.book.proofs.Keeps.{keeps-of}
-
--- ---- memories
-
--- m' holds what m holds
-pub record Within (g : Geometry) (m m' : Memory) : Type 0 where
-  pub filled : {s : ℕ} → Filled g m' s → Filled g m s
-  pub reels : {s : ℕ} → Filled g m' s → m (reelAt s) ≡ m' (reelAt s)
-  pub holds : {s : ℕ} {w : List ℕ} {n p f : ℕ} → Holds g m' s w n p f → Holds g m s w n p f
-
-pub within-self : (g : Geometry) (m : Memory) → Within g m m
-within-self g m = record { filled = λ b. b; reels = λ b. refl; holds = λ x. x }
-
-pub within-same : {g : Geometry} {m m' : Memory} → Same g m m' → Within g m m'
-within-same a = record { filled = filled-back (a .links); reels = λ b. a .reels (filled-back (a .links) b); holds = same-laws a .holds .1 }
-
-pub within-on : {g : Geometry} {m m' m'' : Memory} → Within g m m' → Within g m' m'' → Within g m m''
-within-on a b = record {
-  filled = λ x. a .filled (b .filled x);
-  reels = λ x. a .reels (b .filled x) ∙ b .reels x;
-  holds = λ x. a .holds (b .holds x);
-}
-
-pub within-frames : {g : Geometry} {m m' : Memory} {s f : ℕ} → Within g m m' → FrameOf g m' s f → FrameOf g m s f
-within-frames a = frames-to (λ w n p x. a .holds x)
-
-pub same-reached : {g : Geometry} {m m' : Memory} → Same g m m' → (n : ℕ) → Reached g m n ↔ Reached g m' n
-same-reached a n = (
-  λ r. record { slot = r .slot; way = r .way; there = same-laws a .reaches .0 (r .there) },
-  λ r. record { slot = r .slot; way = r .way; there = same-laws a .reaches .1 (r .there) },
-)
+use Rattle.book.proofs.Keeps.{Within, within-self, within-same, within-on, within-frames, within-keeping, keeps-of}
 
 -- ---- words that decide nothing of it
 
@@ -98,8 +65,8 @@ pub record Still (g : Geometry) (rs : List Reel) (im im' : List ℕ) : Type 0 wh
 pub still-self : {g : Geometry} {rs : List Reel} {im : List ℕ} → View g im rs → Still g rs im im
 still-self {g} {im = im} v = record { view = v; within = within-self g (reads im) }
 
-pub still-keeps : {g : Geometry} {rs : List Reel} {im im' : List ℕ} → View g im rs → Still g rs im im' → Keeps im im'
-still-keeps v a = keeps-of v (a .view .header) (record { reels = λ b b'. a .within .reels b'; held = λ x. inl (a .within .holds x) })
+pub still-keeps : {ws : List ℕ} {g : Geometry} {rs : List Reel} {im im' : List ℕ} → View g im rs → Still g rs im im' → Keeps ws im im'
+still-keeps v a = keeps-of v (a .view .header) (within-keeping (a .within))
 
 pub still-on : {g : Geometry} {rs : List Reel} {im im' im'' : List ℕ} → Still g rs im im' → Still g rs im' im'' → Still g rs im im''
 still-on a b = record { view = b .view; within = within-on (a .within) (b .within) }

@@ -7,7 +7,7 @@ use native.Mathlib.Decide.{ℕ-discrete}
 use lib.ListN.{length, set, length-set}
 use lib.Seq.{getD-set-same, getD-set-other}
 use Rattle.tree.specs.Memory.{Memory, reads, Fit}
-use Rattle.tree.specs.Layout.{Geometry, editionAt, slotsAt, nodesAt, geometryOf, rootAt, nodeAt}
+use Rattle.tree.specs.Layout.{Geometry, inRange, editionAt, slotsAt, nodesAt, geometryOf, rootAt, nodeAt}
 use Rattle.tree.specs.Fingerprint.{ruleOf}
 use Rattle.tree.specs.Same.{Stores}
 use Rattle.book.proofs.View.{Header}
@@ -47,6 +47,10 @@ header-set {im = im} i v h l k f =
     let t = stores-set im i v k in
     header-same h (length-set im i v) (fits-set im i v (h .fits) k f) (t .old editionAt (λ q. omega arith)) (t .old slotsAt (λ q. omega arith))
     (t .old nodesAt (λ q. omega arith))
+
+pub few-nodes : {g : Geometry} {im : List ℕ} → Header g im → g .nodes ≤ 65536
+unfolding inRange
+few-nodes h = h .in-range .1 .1 .1
 
 -- the words of the slots and of the pool's nodes are inside the image
 pub node-inside : {g : Geometry} {im : List ℕ} (n k : ℕ) → Header g im → n < g .nodes → k < 80 → nodeAt g n + k < length im

@@ -11,13 +11,13 @@ use Rattle.tree.specs.Test.{Says}
 use Rattle.tree.specs.Layout.{Geometry, inRange, imageWords, mapWords, reelAt, geometryOf}
 use Rattle.tree.specs.Reach.{Holds}
 use Rattle.book.specs.declared.Target.{Target}
-use Rattle.book.specs.declared.HeadState.the-variants.{Claimed}
-use Rattle.book.specs.Heads.{headAt}
+use Rattle.book.specs.declared.HeadState.the-variants.{Claimed, Filled}
+use Rattle.book.specs.Heads.{headCount, headAt}
 use Rattle.book.specs.State.{State, Operation, format, recover, openReel, claim, fill, commit, abandon, remove, has, list, retire, arguments}
 use Rattle.book.specs.Perform.{perform}
 use Rattle.book.specs.CarryOut.{carry, carried}
 use Rattle.book.specs.Table.{Table, noRun, reply, allIdle}
-use Rattle.book.specs.Agrees.{EachOnce, Agrees}
+use Rattle.book.specs.Agrees.{EachOnce, About, Agrees}
 use Rattle.book.specs.Ways.{Takes, SlotHas, Lacks}
 use Rattle.book.specs.Histories.{done, replied, Interrupted, Attempts, Recovered, Next, Follows}
 
@@ -115,14 +115,32 @@ pub record ClaimPlaced (op : Operation) (s : State) (h reel f : ℕ) : Type 0 wh
   pub of-reel : SlotHas (geometryOf (reads (s .image))) (reads (s .image)) reel (target .slot)
   pub takes : Takes (geometryOf (reads (s .image))) (reads (s .image)) (reads (done op s .image)) (target .slot) f (target .node) (target .place)
 
--- a frame that a reel held, and holds still, is where it was
+-- a head has filled that place with that frame
+pub record FilledBy (ws : List ℕ) (slot n p f : ℕ) : Type 0 where
+  pub head : ℕ
+  pub low : head < headCount
+  pub target : Target
+  pub filled : headAt ws head ≡ Filled target
+  pub of-slot : target .slot ≡ slot
+  pub of-node : target .node ≡ n
+  pub of-place : target .place ≡ p
+  pub of-frame : target .frame ≡ f
+
+-- what a step keeps, a crash and its recoveries included
 pub record StaysPut (s s' : State) : Type 0 where
+  -- a frame that a reel held, and holds still, is where it was
   pub same-place : {slot slot' n n' p p' f : ℕ} {w w' : List ℕ}
       → Holds (geometryOf (reads (s .image))) (reads (s .image)) slot w n p f
       → Holds (geometryOf (reads (s' .image))) (reads (s' .image)) slot' w' n' p' f
       → reads (s .image) (reelAt slot) ≡ reads (s' .image) (reelAt slot')
       → (slot ≡ slot') × (w ≡ w') × (n ≡ n') × (p ≡ p')
+  -- a frame held after it was held there before, or a head had filled that very place with it
+  pub came-from : {slot n p f : ℕ} {w : List ℕ} → Holds (geometryOf (reads (s' .image))) (reads (s' .image)) slot w n p f
+      → Holds (geometryOf (reads (s .image))) (reads (s .image)) slot w n p f ⊎ FilledBy (s .heads) slot n p f
+  -- a head that is not idle before and after is about the same place and frame
+  pub targets : (h : ℕ) {a b : Target} → h < headCount → About a (headAt (s .heads) h) → About b (headAt (s' .heads) h) → a ≡ b
 
+-- so a frame comes to be held only in the place that its claim took
 pub record Places (s : State) : Type 0 where
   pub claim : (words script h reel f : ℕ) → Fit (h ∷ reel ∷ f ∷ []) → perform (claim words script h reel f) s .answer ≡ 0
       → ClaimPlaced (claim words script h reel f) s h reel f

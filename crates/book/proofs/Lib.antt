@@ -26,7 +26,6 @@ pub mod Entries
 pub mod Inside
 pub mod Writes
 pub mod Scripts
-pub mod MemoryLaws
 pub mod Paired
 pub mod Alike
 pub mod StoreLists

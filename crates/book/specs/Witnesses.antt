@@ -6,9 +6,9 @@ use mathlib.Core.List.{List, [], _∷_}
 use Prim.Native.Nat.{ℕ, _<_}
 use lib.ListN.{length, set}
 use Rattle.tree.specs.Memory.{reads, segmented, passed, Fit}
-use Rattle.tree.specs.Layout.{reelAt, locateAt, geometryOf}
+use Rattle.tree.specs.Layout.{reelAt, locateAt}
 use Rattle.tree.specs.Slots.{emptySlot}
-use Rattle.book.specs.State.{State, Operation, format, recover, openReel, claim, fill, commit, arguments}
+use Rattle.book.specs.State.{State, Operation, format, recover, openReel, claim, fill, commit, arguments, memory, shape}
 use Rattle.book.specs.Perform.{perform}
 use Rattle.book.specs.Table.{Table, emptyTable, allIdle}
 use Rattle.book.specs.Agrees.{Agrees}
@@ -41,7 +41,7 @@ unfoldable pub claimedTwice : State
 claimedTwice = run (openReel 1 50 7 ∷ openReel 1 50 8 ∷ claim 1 50 0 7 12 ∷ claim 1 50 1 8 12 ∷ []) (formatted 2 2)
 
 abbrev pub locateWords : State → List ℕ
-locateWords s = let m = reads (s .image) in m (locateAt (geometryOf m) 0) ∷ m (locateAt (geometryOf m) 1) ∷ []
+locateWords s = memory s (locateAt (shape s) 0) ∷ memory s (locateAt (shape s) 1) ∷ []
 
 -- a recovery that has two words to change, so that one old and one new is among the mixtures that a crash in it may leave
 pub record TwoToChange : Type 0 where
@@ -81,10 +81,10 @@ pub record Witnesses : Type 0 where
       → Agrees s' (allIdle t) → Agrees s' (allIdle (replied (commit 50 0) sample t .work .after)) → ⊥
   -- a crash of Open may keep a later store, the reel number, and lose the five before it
   pub later-kept : (s : State) (words script reel : ℕ) → perform (openReel words script reel) s .answer ≡ 0
-      → Interrupted (openReel words script reel) s 6 (set (s .image) (reelAt (emptySlot (geometryOf (reads (s .image))) (reads (s .image)))) reel)
+      → Interrupted (openReel words script reel) s 6 (set (s .image) (reelAt (emptySlot (shape s) (memory s))) reel)
   -- a crash of Recover may leave any mixture of old and new words
   pub mixed : (s : State) (words : ℕ) (image : List ℕ) → length image ≡ length (s .image)
-      → ((i : ℕ) → (reads image i ≡ reads (s .image) i) ⊎ (reads image i ≡ reads (perform (recover words) s .work .after .image) i))
+      → ((i : ℕ) → (reads image i ≡ memory s i) ⊎ (reads image i ≡ memory (perform (recover words) s .work .after) i))
       → Interrupted (recover words) s 0 image
   -- and there is a history whose recovery has two of them to change
   pub two-to-change : TwoToChange

@@ -55,3 +55,4 @@ pub mod ClaimPlaced
 pub mod Demands
 pub mod Sample
 pub mod Witnesses
+pub mod Fixed

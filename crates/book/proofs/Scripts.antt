@@ -1,17 +1,13 @@
 -- Scripts, over any state: bounded, inside the image, ending in a barrier, and carried out as words.
-use mathlib.Core.Path.{_≡_, refl, ap₂}
-use mathlib.Core.Bool.{not}
+use mathlib.Core.Path.{_≡_, refl, sym}
 use mathlib.Core.Logic.{_⊎_, inl, inr, _≢_}
-use mathlib.Core.List.{List, [], _∷_, _++_, map, map-append, List·Memᴰ·not-nil}
+use mathlib.Core.List.{List, [], List·Memᴰ·not-nil}
 use Prim.Native.Nat.{ℕ, _-_, _^_, _<_}
 use native.Mathlib.Omega.{arith}
 use native.Mathlib.Decide.{ℕ-discrete}
 use lib.ListN.{length}
-use lib.Dec.{eqb}
-use Rattle.tree.specs.Memory.{Memory, reads, Entry, store, encode, Store, stores, segmented, apply, Avoids, Inside, Fit}
-use Rattle.tree.specs.Layout.{Geometry, rootAt, locateAt, setAt, geometryOf}
-use Rattle.tree.specs.Subtree.{allTrees}
-use Rattle.tree.specs.Lists.{range, upTo, keep}
+use Rattle.tree.specs.Memory.{reads, Entry, encode, stores, segmented, apply, Inside, Fit}
+use Rattle.tree.specs.Layout.{Geometry, slotsAt, nodesAt, geometryOf}
 use Rattle.tree.specs.Fingerprint.{ruleOf}
 use Rattle.book.specs.Refusals.{refusal}
 use Rattle.book.specs.State.{State, Operation, format, recover, openReel, claim, fill, commit, abandon, remove, has, list, retire, arguments, Work}
@@ -20,11 +16,14 @@ use Rattle.book.specs.CarryOut.{carry, carried}
 use Rattle.book.specs.Perform.{formatStores, recoverStores, granted, perform}
 use Rattle.book.specs.Demands.{WritesImage, by-format, by-recover, GoodScript, Scripts}
 use Rattle.tree.proofs.Memory.{script-laws, apply-laws}
-use Rattle.tree.proofs.Lists.{in-range}
 use Rattle.book.proofs.Refusals.{Denies, denied, passes}
 use Rattle.book.proofs.Performed.{answer-is, work-granted, work-refused}
 use Rattle.book.proofs.Done.{refused-image}
-use Rattle.book.proofs.Entries.{Each, each-at, each-append, each-map, stored, each-entry, ends-in-barrier, length-segmented}
+use Rattle.book.proofs.Stored.{same-geometry}
+use Rattle.book.proofs.Mended.{kept}
+use Rattle.book.proofs.Formatted.{header-stored, geometry-is, blank, written}
+use Rattle.book.proofs.Recovery.{mendedImage, mended-words}
+use Rattle.book.proofs.Entries.{each-entry, ends-in-barrier, length-segmented}
 use Rattle.book.proofs.Inside.{sized, find-inside, path-room, run-inside, target-fits}
 use Rattle.book.proofs.Writes.{Writes, Good, no-stores, good-open, good-retire, good-claim, good-fill, good-commit, good-abandon, good-remove}
 
@@ -33,10 +32,6 @@ record Answered (s : State) (w : Work) : Type 0 where
   script : Good (length (s .image)) (w .script)
   words : length (w .after .image) ≡ length (s .image)
   header : Denies (badImage (length (w .after .image)) (geometryOf (reads (w .after .image))))
-
-geometry-is : (m : Memory) (g : Geometry) → m 1 ≡ g .slots → m 2 ≡ g .nodes → geometryOf m ≡ g
-unfolding geometryOf
-geometry-is m g p q = ap₂ (λ a b. record { slots = a; nodes = b }) p q
 
 -- an answered operation stores by its script alone, or writes the image itself and has no script
 writes-one-way : (op : Operation) (s : State) → (WritesImage op × (granted op s .script ≡ [])) ⊎ (granted op s .after .image ≡ s .image)
@@ -53,47 +48,17 @@ writes-one-way (has reel f) s = inr refl
 writes-one-way (list scratch room reel) s = inr refl
 writes-one-way (retire words scratch script reel) s = inr refl
 
--- what a list of stores leaves at an index: nothing new, or its last store there
-avoids : (i : ℕ) (seg : List Store) → Each (λ p. p .0 ≢ i) seg → Avoids i (stores seg)
-avoids i seg e v x = each-at (λ p. p .0 ≢ i) seg e (stored seg x) refl
-
-last-in : (m : List ℕ) (before after : List Store) (i v : ℕ) → i < length m → Each (λ p. p .0 ≢ i) after
-    → reads (apply m (stores (before ++ (i, v) ∷ after))) i ≡ v
-unfolding stores
-last-in m before after i v h e =
-    rw (map-append (λ (p : Store). store (p .0) (p .1)) before ((i, v) ∷ after)) (apply-laws .last-store m (stores before) (stores after) i v h (avoids i after e))
-
 -- Format: words 1 and 2 are R and N
-formatted : (m : List ℕ) (g : Geometry) → 2 < length m → geometryOf (reads (apply m (stores (formatStores g)))) ≡ g
-unfolding formatStores
-formatted m g h = geometry-is _ g
-    (last-in m ((0, 1) ∷ []) ((2, g .nodes) ∷ rest) 1 (g .slots) (omega arith) (omega arith, rest-avoids 1 (omega arith)))
-    (last-in m ((0, 1) ∷ (1, g .slots) ∷ []) rest 2 (g .nodes) (omega arith) (rest-avoids 2 (omega arith)))
-  where
-    rest : List Store
-    rest = map (λ i. (i, 0)) (range 3 61) ++ map (λ s. (rootAt s, 0)) (upTo (g .slots))
-
-    rest-avoids : (i : ℕ) → i < 3 → Each (λ (p : Store). p .0 ≢ i) rest
-    rest-avoids i h =
-        let P : Store → Type 0 = λ p. p .0 ≢ i in
-        each-append P (map (λ j. (j, 0)) (range 3 61)) (map (λ s. (rootAt s, 0)) (upTo (g .slots)))
-        (each-map P (λ j. (j, 0)) (range 3 61) (λ j y q. omega (arith, in-range 3 61 y)))
-        (each-map P (λ s. (rootAt s, 0)) (upTo (g .slots)) (λ s y q. omega arith))
+formatted : (im : List ℕ) (g : Geometry) → 2 < length im → geometryOf (reads (blank g im)) ≡ g
+formatted im g l =
+    let h = header-stored g in
+    geometry-is (reads (blank g im)) (written g im slotsAt (g .slots) (omega arith) (h .1)) (written g im nodesAt (g .nodes) (omega arith) (h .2))
 
 -- Recover stores to locate words alone
-recover-avoids : (g : Geometry) (m : Memory) (i : ℕ) → i < 3 → Each (λ p. p .0 ≢ i) (recoverStores g m)
-unfolding recoverStores
-recover-avoids g m i h =
-    let P : Store → Type 0 = λ p. p .0 ≢ i in
-    each-map P (λ v. (locateAt g (v .node), m (setAt g (v .node))))
-    (keep (λ v. not (eqb (m (locateAt g (v .node))) (m (setAt g (v .node))))) (allTrees g m)) (λ v y q. omega arith)
-
-recovered : (m : List ℕ) (g : Geometry) → geometryOf (reads (apply m (stores (recoverStores g (reads m))))) ≡ geometryOf (reads m)
-unfolding geometryOf
-recovered m g = geometry-is (reads (apply m (stores (recoverStores g (reads m))))) (geometryOf (reads m)) (kept 1 (omega arith)) (kept 2 (omega arith))
-  where
-    kept : (i : ℕ) → i < 3 → reads (apply m (stores (recoverStores g (reads m)))) i ≡ reads m i
-    kept i h = apply-laws .avoided m (stores (recoverStores g (reads m))) i (avoids i (recoverStores g (reads m)) (recover-avoids g (reads m) i h))
+recovered : (im : List ℕ) (g : Geometry) → geometryOf (reads (mendedImage g im)) ≡ geometryOf (reads im)
+recovered im g =
+    let a = mended-words g im in
+    sym (same-geometry (reads im) (reads (mendedImage g im)) (kept a slotsAt (λ n. omega arith)) (kept a nodesAt (λ n. omega arith)))
 
 -- ---- an answered operation
 

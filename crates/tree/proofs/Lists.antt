@@ -48,7 +48,7 @@ unfolding range
 in-range from zero x = absurd (List·Memᴰ·not-nil x)
 in-range from (suc n) x = elim (List·Memᴰ·cases-cons x) [ inl q ↦ omega arith | inr y ↦ let t = in-range (suc from) n y in omega arith ]
 
-range-has : (from n : ℕ) {c : ℕ} → from ≤ c → c < from + n → List·Memᴰ c (range from n)
+pub range-has : (from n : ℕ) {c : ℕ} → from ≤ c → c < from + n → List·Memᴰ c (range from n)
 unfolding range
 range-has from zero l h = absurd (omega arith)
 range-has from (suc n) {c} l h = elim (ℕ-discrete c from) [

@@ -1,7 +1,7 @@
 -- Scripts in segments: what holds of each store holds of each entry; their length; the barrier at the end.
 use mathlib.Core.Path.{_≡_, refl, sym, ap₂, subst}
 use mathlib.Core.Logic.{_⊎_, inl, inr}
-use mathlib.Core.List.{List, [], _∷_, _++_, append-assoc, map, flatMap}
+use mathlib.Core.List.{List, [], _∷_, _++_, append-assoc, flatMap}
 use mathlib.Core.List.{List·Memᴰ, List·Memᴰ·head, List·Memᴰ·tail, List·Memᴰ·cases-cons, List·Memᴰ·not-nil, List·Memᴰ·append-cases, Memᴰ·of-map, Memᴰ·cast}
 use Prim.Native.Nat.{ℕ, suc, _+_}
 use native.Mathlib.Omega.{arith}
@@ -22,10 +22,6 @@ module _ {A : Type 0} (P : A → Type 0) where
   pub each-append : (xs ys : List A) → Each P xs → Each P ys → Each P (xs ++ ys)
   each-append [] ys e h = h
   each-append (x ∷ xs) ys e h = (e .0, each-append xs ys (e .1) h)
-
-  pub each-map : {B : Type 0} (f : B → A) (xs : List B) → ((b : B) → List·Memᴰ b xs → P (f b)) → Each P (map f xs)
-  each-map f [] h = tt
-  each-map f (x ∷ xs) h = (h x (List·Memᴰ·head refl), each-map f xs (λ b y. h b (List·Memᴰ·tail y)))
 
   pub each-flatMap : {B : Type 0} (f : B → List A) (xs : List B) → ((b : B) → List·Memᴰ b xs → Each P (f b)) → Each P (flatMap f xs)
   unfolding flatMap

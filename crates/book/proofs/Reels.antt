@@ -12,7 +12,6 @@ use Rattle.tree.specs.Memory.{Memory}
 use Rattle.tree.specs.Lists.{keep}
 use Rattle.tree.specs.Layout.{Geometry, reelAt, rootAt, nodeAt}
 use Rattle.tree.specs.Fingerprint.{Rule}
-use Rattle.tree.specs.Node.{frame}
 use Rattle.tree.specs.Slots.{Filled}
 use Rattle.tree.specs.Reach.{Holds, FrameOf}
 use Rattle.tree.specs.Sound.{Sound}

@@ -7,7 +7,7 @@ use Prim.Native.Nat.{ℕ, _+_, _*_, _≤_, _<_}
 use native.Mathlib.Omega.{arith}
 use borrow.Author.Tests.{not-false}
 use lib.ListN.{length}
-use Rattle.tree.specs.Memory.{reads, stores}
+use Rattle.tree.specs.Memory.{reads}
 use Rattle.tree.specs.Test.{ne, is}
 use Rattle.tree.specs.Layout.{Geometry, inRange, imageWords, editionAt, slotsAt, nodesAt, rootAt}
 use Rattle.tree.specs.Fingerprint.{ruleOf}

@@ -10,7 +10,7 @@ use native.Mathlib.Decide.{ℕ-discrete}
 use lib.ListN.{length}
 use lib.Dec.{ltb, leb}
 use borrow.Author.Tests.{ltb-false, leb-true, le-leb, lt-leb, not-false}
-use Rattle.tree.specs.Memory.{Memory, reads, isSome, Fit}
+use Rattle.tree.specs.Memory.{reads, isSome, Fit}
 use Rattle.tree.specs.Test.{Test, lt, le, ne, is, _and_, _or_, holds, Says}
 use Rattle.tree.specs.Lists.{empty}
 use Rattle.tree.specs.Layout.{Geometry, imageWords, editionAt}
@@ -18,11 +18,10 @@ use Rattle.tree.specs.Slots.{slotOf, emptySlot}
 use Rattle.tree.specs.Lookup.{pathFrom, freeRun}
 use Rattle.tree.proofs.Cases.{test, true-not-false}
 use Rattle.tree.proofs.Tests.{says, said}
-use Rattle.book.specs.Heads as book
 use Rattle.book.specs.Heads.{headCount, headAt, targetOf}
 use Rattle.book.specs.Refusals.{Refusal, _gives_, refusal}
 use Rattle.book.specs.Room.{roomOn, needs, atLevel31}
-use Rattle.book.specs.State.{State, Operation, format, recover, openReel, claim, fill, commit, abandon, remove, has, list, retire, arguments, Work}
+use Rattle.book.specs.State.{State, Operation, format, recover, openReel, claim, fill, commit, abandon, remove, has, list, retire, arguments, Work, memory, shape}
 use Rattle.book.specs.Checks.{badImage, badMap, badScript, outside, noPath, refusals}
 use Rattle.book.specs.Perform.{oneIf, granted, perform}
 use Rattle.book.specs.Table as table
@@ -35,16 +34,10 @@ use Rattle.book.proofs.Refusals.{denies, denied, passes}
 use Rattle.book.proofs.Performed.{answer-is, work-granted, work-refused, reply-is, reply-granted, reply-refused}
 use Rattle.book.proofs.Level31.{never-level31, lacks-open, lacks-claim}
 use Rattle.book.proofs.Paired.{Paired, end, same, skip, run, paired-answer, paired-run}
-use Rattle.book.proofs.Reading.{sizesOf, same-test, image-right, edition-right, same-geometry, is-sound, slot-has, slot-below, path-there, tree-right}
+use Rattle.book.proofs.Reading.{same-test, image-right, edition-right, same-geometry, is-sound, slot-has, slot-below, path-there, tree-right}
 use Rattle.book.proofs.Reading.{same-frames, same-length, same-held, all-filled, same-idle, same-claimed, same-filled, claim-of, claim-inside, same-busy}
 
 -- ---- the operations' lists
-
-abbrev imageOf : State → Memory
-imageOf s = reads (s .image)
-
-abbrev shapeOf : State → Geometry
-shapeOf s = sizesOf (s .image)
 
 claimed-not-idle : (y : TableHead) → table.isClaimed y ≡ true → table.isIdle y ≡ false
 claimed-not-idle table.idle h = absurd (true-not-false h refl)
@@ -61,33 +54,33 @@ decided : (t : Test) {P : Type 0} → Says t ↔ P → (holds t ≡ true) ↔ P
 decided t h = (λ e. h .0 (says t e), λ p. said t (h .1 p))
 
 module _ {s : State} {t : Table} (a : Agrees s t) where
-  present-test : (reel : ℕ) → ltb (slotOf (shapeOf s) (imageOf s) reel) (shapeOf s .slots) ≡ isPresent t reel
-  present-test reel = same-test (decided (lt (slotOf (shapeOf s) (imageOf s) reel) (shapeOf s .slots)) (slot-below (a .shows) reel))
+  present-test : (reel : ℕ) → ltb (slotOf (shape s) (memory s) reel) (shape s .slots) ≡ isPresent t reel
+  present-test reel = same-test (decided (lt (slotOf (shape s) (memory s) reel) (shape s .slots)) (slot-below (a .shows) reel))
 
-  absent-test : (reel : ℕ) → leb (shapeOf s .slots) (slotOf (shapeOf s) (imageOf s) reel) ≡ not (isPresent t reel)
+  absent-test : (reel : ℕ) → leb (shape s .slots) (slotOf (shape s) (memory s) reel) ≡ not (isPresent t reel)
   absent-test reel = elim (test (isPresent t reel)) [
     | inl e ↦ rw e (lt-leb _ _ (slot-below (a .shows) reel .1 e))
-    | inr e ↦ rw e (le-leb (shapeOf s .slots) (slotOf (shapeOf s) (imageOf s) reel) (ltb-false _ _ (present-test reel ∙ e)))
+    | inr e ↦ rw e (le-leb (shape s .slots) (slotOf (shape s) (memory s) reel) (ltb-false _ _ (present-test reel ∙ e)))
   ]
 
-  full-test : leb (shapeOf s .slots) (emptySlot (shapeOf s) (imageOf s)) ≡ leb (t .slots) (length (t .reels))
+  full-test : leb (shape s .slots) (emptySlot (shape s) (memory s)) ≡ leb (t .slots) (length (t .reels))
   full-test = let d = all-filled (a .shows) in same-test (λ e. le-leb _ _ (d .0 (leb-true _ _ e)), λ e. le-leb _ _ (d .1 (leb-true _ _ e)))
 
   -- a head's claim is inside
-  inside-test : (h : ℕ) → h < headCount → table.isIdle (tableHead t h) ≡ false → holds (outside (shapeOf s) (targetOf (headAt (s .heads) h))) ≡ false
+  inside-test : (h : ℕ) → h < headCount → table.isIdle (tableHead t h) ≡ false → holds (outside (shape s) (targetOf (headAt (s .heads) h))) ≡ false
   inside-test h l e =
       let x = a .heads h l in
-      denied (outside (shapeOf s) (targetOf (headAt (s .heads) h))) (claim-inside (a .shows) (claim-of x (same-idle x ∙ e)))
+      denied (outside (shape s) (targetOf (headAt (s .heads) h))) (claim-inside (a .shows) (claim-of x (same-idle x ∙ e)))
 
   -- 1 and 2 never come
   checks : {x : Fed} {P : Type 0} {rs qs : List Refusal} → Paired x P rs qs
-      → Paired x P ((badImage (length (s .image)) (shapeOf s) gives 1) ∷ (ne (imageOf s editionAt) 1 gives 2) ∷ rs) qs
+      → Paired x P ((badImage (length (s .image)) (shape s) gives 1) ∷ (ne (memory s editionAt) 1 gives 2) ∷ rs) qs
   checks p = skip (image-right (a .shows)) (skip (edition-right (a .shows)) p)
 
   -- 5, and after it the reel's slot
   reel-there : {x : Fed} {P : Type 0} {rs qs : List Refusal} (reel : ℕ)
-      → (SlotHas (shapeOf s) (imageOf s) reel (slotOf (shapeOf s) (imageOf s) reel) → Paired x P rs qs)
-      → Paired x P ((le (shapeOf s .slots) (slotOf (shapeOf s) (imageOf s) reel) gives 5) ∷ rs) ((is (not (isPresent t reel)) gives 5) ∷ qs)
+      → (SlotHas (shape s) (memory s) reel (slotOf (shape s) (memory s) reel) → Paired x P rs qs)
+      → Paired x P ((le (shape s .slots) (slotOf (shape s) (memory s) reel) gives 5) ∷ rs) ((is (not (isPresent t reel)) gives 5) ∷ qs)
   reel-there reel p = same 5 refl (absent-test reel) (λ e. p (slot-has (a .shows) reel (not-false _ e)))
 
   -- 11, and after it the head
@@ -96,22 +89,22 @@ module _ {s : State} {t : Table} (a : Agrees s t) where
   head-there h p = same 11 refl refl (λ e. p (denies (le headCount h) e))
 
   -- 4 never comes on a path
-  path-test : {reel slot : ℕ} (f : ℕ) → SlotHas (shapeOf s) (imageOf s) reel slot
-      → holds (noPath (pathFrom (shapeOf s) (imageOf s) slot f)) ≡ false
+  path-test : {reel slot : ℕ} (f : ℕ) → SlotHas (shape s) (memory s) reel slot
+      → holds (noPath (pathFrom (shape s) (memory s) slot f)) ≡ false
   path-test f r = ap (λ ns. not (isSome ns)) (path-there (a .shows) (r .open-slot) f .1)
 
-  room-test : {reel slot : ℕ} (f : ℕ) → SlotHas (shapeOf s) (imageOf s) reel slot
-      → let ns = pathFrom (shapeOf s) (imageOf s) slot f in
-      holds (noPath ns or is (atLevel31 (roomOn (shapeOf s) (imageOf s) ns))) ≡ false
+  room-test : {reel slot : ℕ} (f : ℕ) → SlotHas (shape s) (memory s) reel slot
+      → let ns = pathFrom (shape s) (memory s) slot f in
+      holds (noPath ns or is (atLevel31 (roomOn (shape s) (memory s) ns))) ≡ false
   room-test f r = let ns = path-there (a .shows) (r .open-slot) f in rw (ns .1) (never-level31 a f (ns .0) (r .open-slot) (ns .1))
 
-  run-test : {reel slot : ℕ} (words script h f : ℕ) → SlotHas (shapeOf s) (imageOf s) reel slot
-      → let n = needs (roomOn (shapeOf s) (imageOf s) (pathFrom (shapeOf s) (imageOf s) slot f)) in
-      (holds (lt 0 n and le (shapeOf s .nodes) (freeRun (shapeOf s) (reads (s .pool)) n)) ≡ true) ↔ Lacks s (claim words script h reel f)
+  run-test : {reel slot : ℕ} (words script h f : ℕ) → SlotHas (shape s) (memory s) reel slot
+      → let n = needs (roomOn (shape s) (memory s) (pathFrom (shape s) (memory s) slot f)) in
+      (holds (lt 0 n and le (shape s .nodes) (freeRun (shape s) (reads (s .pool)) n)) ≡ true) ↔ Lacks s (claim words script h reel f)
   run-test words script h f r =
       let ns = path-there (a .shows) (r .open-slot) f in
-      let n = needs (roomOn (shapeOf s) (imageOf s) (some (ns .0))) in
-      rw (ns .1) (decided (lt 0 n and le (shapeOf s .nodes) (freeRun (shapeOf s) (reads (s .pool)) n))
+      let n = needs (roomOn (shape s) (memory s) (some (ns .0))) in
+      rw (ns .1) (decided (lt 0 n and le (shape s .nodes) (freeRun (shape s) (reads (s .pool)) n))
       (lacks-claim a words script h f (ns .0) r (ns .1)))
 
   paired : (op : Operation) (x : Fed) → Paired x (Lacks s op) (refusals op s) (tableRefusals op x t)
@@ -126,7 +119,7 @@ module _ {s : State} {t : Table} (a : Agrees s t) where
       checks (same 3 refl (ap (λ g. holds (badMap g words or badScript script)) (same-geometry (a .shows))) (λ e.
       same 6 refl (present-test reel) (λ e.
       same 7 refl full-test (λ e.
-      run (decided (le (shapeOf s .nodes) (freeRun (shapeOf s) (reads (s .pool)) 1)) (lacks-open a words script reel))))))
+      run (decided (le (shape s .nodes) (freeRun (shape s) (reads (s .pool)) 1)) (lacks-open a words script reel))))))
   paired (claim words script h reel f) x =
       checks (same 3 refl (ap (λ g. holds (badMap g words or badScript script)) (same-geometry (a .shows))) (λ e.
       head-there h (λ l.

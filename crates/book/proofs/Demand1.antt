@@ -3,18 +3,16 @@ use mathlib.Core.Path.{_≡_, refl}
 use mathlib.Core.Bool.{true, false}
 use mathlib.Core.Logic.{_⊎_, inl, inr, _↔_, _≢_}
 use mathlib.Core.List.{List, _∷_, map, List·Memᴰ}
-use Prim.Native.Nat.{ℕ, zero, suc, _<_}
+use Prim.Native.Nat.{ℕ, _<_}
 use lib.Dec.{eqb, ltb}
-use lib.ListN.{length-replicate}
 use borrow.Author.Tests.{eqb-true, eqb-false, ltb-true, eq-eqb, lt-ltb}
-use Rattle.tree.specs.Memory.{reads}
-use Rattle.tree.specs.Pool.{clearMap}
 use Rattle.tree.specs.Test.{is}
 use Rattle.book.specs.Refusals.{Refusal, refusal, _gives_}
 use Rattle.book.specs.State.{State, Operation, format, recover, openReel, claim, fill, commit, abandon, remove, has, list, retire}
 use Rattle.book.specs.Checks.{refusals}
 use Rattle.book.specs.Perform.{leaves, pastChecks, clears, perform}
 use Rattle.book.specs.Demands.{numbers, ClearsMap, unsound, BorrowsScratch, by-list, by-retire, Leaves, as-before, map-cleared, Refused, Demand1}
+use Rattle.tree.proofs.Laws.{pool-laws}
 use Rattle.tree.proofs.Cases.{test, true-not-false, or-true, or-left, or-right}
 use Rattle.book.proofs.Refusals.{refusal-listed}
 use Rattle.book.proofs.Performed.{answer-is, work-refused}
@@ -40,11 +38,6 @@ numbered (has reel f) s = without-third _ _ _ _
 numbered (list scratch room reel) s = refusal-listed _
 numbered (retire words scratch script reel) s = refusal-listed _
 
-clear-reads : (n i : ℕ) → reads (clearMap n) i ≡ 0
-clear-reads zero i = refl
-clear-reads (suc n) zero = refl
-clear-reads (suc n) (suc i) = clear-reads n i
-
 cleared-at : {words n : ℕ} → ClearsMap (recover words) n → n ≡ 4
 cleared-at unsound = refl
 
@@ -52,7 +45,7 @@ left-by : (op : Operation) (s : State) (n : ℕ) → Leaves s op n (leaves op s 
 unfolding leaves
 left-by (format words slots nodes) s n = as-before {op = format words slots nodes} {n = n} (λ c. elim c [ ]) refl
 left-by (recover words) s n = elim (test (eqb n 4)) [
-  | inl e ↦ rw (e, eqb-true n 4 e) (map-cleared refl refl (length-replicate {A = ℕ} words 0) (clear-reads words))
+  | inl e ↦ rw (e, eqb-true n 4 e) (map-cleared refl refl (pool-laws .length-clear words) (pool-laws .clear-word words))
   | inr e ↦ rw e (as-before {op = recover words} {n = n} (λ c. eqb-false n 4 e (cleared-at c)) refl)
 ]
 left-by (openReel words script reel) s n = as-before {op = openReel words script reel} {n = n} (λ c. elim c [ ]) refl

@@ -1,7 +1,7 @@
 -- The demands, proved: a proof for each statement of specs/Demands.antt.
 use Rattle.book.specs.Demands.{Demand2, Demand3, Placed}
 pub use Rattle.book.proofs.Demand1.{demand1}
-pub use Rattle.book.proofs.MemoryLaws.{scripts}
+pub use Rattle.book.proofs.Scripts.{scripts}
 use Rattle.book.proofs.Assembly.{Scripted, opens, claims, fills, commits, abandons, removes, asks, lists, retires, Steps, demand2-from, demand3-from}
 use Rattle.book.proofs.StepOpen.{step-open}
 use Rattle.book.proofs.StepClaim.{step-claim}
@@ -15,7 +15,6 @@ use Rattle.book.proofs.ClaimPlaced.{claim-placed}
 use Rattle.book.proofs.Placed.{placed-from}
 use Rattle.book.proofs.Witnesses.{witnesses-from}
 use Rattle.book.specs.Witnesses.{Witnesses}
-use Prim.Native.Nat.{ℕ}
 use mathlib.Core.Path.{_≡_}
 use Rattle.tree.specs.Memory.{Fit}
 use Rattle.book.specs.State.{State, Operation, arguments}

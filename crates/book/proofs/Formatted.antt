@@ -1,8 +1,8 @@
 -- A format that is answered leaves a book that agrees with the empty table.
 use mathlib.Core.Path.{_≡_, refl, sym, _∙_, ap, ap₂}
-use mathlib.Core.Logic.{inl, inr}
+use mathlib.Core.Logic.{inl, inr, _≢_}
 use mathlib.Core.List.{List, [], _∷_, map, List·Memᴰ, List·Memᴰ·head, List·Memᴰ·tail, List·Memᴰ·not-nil}
-use mathlib.Core.List.{List·Memᴰ·append-cases, Memᴰ·append-right, Memᴰ·map, Memᴰ·of-map}
+use mathlib.Core.List.{List·Memᴰ·append-cases, Memᴰ·append-left, Memᴰ·append-right, Memᴰ·map, Memᴰ·of-map}
 use Prim.Native.Nat.{ℕ, zero, suc, _^_, _≤_, _<_}
 use native.Mathlib.Omega.{arith}
 use lib.ListN.{length}
@@ -15,7 +15,7 @@ use Rattle.tree.specs.Slots.{Filled}
 use Rattle.tree.specs.Reach.{Reaches}
 use Rattle.tree.specs.Pool.{clearMap}
 use Rattle.tree.proofs.Cases.{true-not-false}
-use Rattle.tree.proofs.Lists.{in-range, upTo-members}
+use Rattle.tree.proofs.Lists.{in-range, range-has, upTo-members}
 use Rattle.tree.proofs.Memory.{apply-laws}
 use Rattle.tree.proofs.Pool.{pool-laws}
 use Rattle.tree.proofs.Laws.{reach-laws, sound-laws}
@@ -62,29 +62,46 @@ formats g i v (List·Memᴰ·tail (List·Memᴰ·tail (List·Memᴰ·tail x))) =
       sym (ap (λ s. s .1) (t .2)) ∙ sym (clear-word g i (omega (arith, ap (λ s. s .0) (t .2))))
 ]
 
-header-stored : (g : Geometry)
+pub header-stored : (g : Geometry)
     → List·Memᴰ (editionAt, 1) (formatStores g) × List·Memᴰ (slotsAt, g .slots) (formatStores g) × List·Memᴰ (nodesAt, g .nodes) (formatStores g)
 unfolding formatStores
 header-stored g = (List·Memᴰ·head refl, List·Memᴰ·tail (List·Memᴰ·head refl), List·Memᴰ·tail (List·Memᴰ·tail (List·Memᴰ·head refl)))
 
-root-stored : (g : Geometry) (s : ℕ) → s < g .slots → List·Memᴰ (rootAt s, 0) (formatStores g)
+pub root-stored : (g : Geometry) (s : ℕ) → s < g .slots → List·Memᴰ (rootAt s, 0) (formatStores g)
 unfolding formatStores
 root-stored g s h = List·Memᴰ·tail (List·Memᴰ·tail (List·Memᴰ·tail
     (Memᴰ·append-right (map (λ i. (i, 0)) (range 3 61)) (Memᴰ·map (λ s. (rootAt s, 0)) (upTo-members (g .slots) .1 h)))))
 
-geometry-is : (m : Memory) {g : Geometry} → m slotsAt ≡ g .slots → m nodesAt ≡ g .nodes → geometryOf m ≡ g
+pub unread-stored : (g : Geometry) (i : ℕ) → 3 ≤ i → i < 64 → List·Memᴰ (i, 0) (formatStores g)
+unfolding formatStores
+unread-stored g i l h = List·Memᴰ·tail (List·Memᴰ·tail (List·Memᴰ·tail
+    (Memᴰ·append-left (map (λ s. (rootAt s, 0)) (upTo (g .slots))) (Memᴰ·map (λ i. (i, 0)) (range-has 3 61 l (omega arith))))))
+
+-- and to no other word
+pub format-avoids : (g : Geometry) (i v : ℕ) → 64 ≤ i → ((s : ℕ) → s < g .slots → i ≢ rootAt s) → List·Memᴰ (i, v) (formatStores g) → ⊥
+unfolding formatStores
+format-avoids g i v l h (List·Memᴰ·head q) = omega (arith, ap (λ s. s .0) q)
+format-avoids g i v l h (List·Memᴰ·tail (List·Memᴰ·head q)) = omega (arith, ap (λ s. s .0) q)
+format-avoids g i v l h (List·Memᴰ·tail (List·Memᴰ·tail (List·Memᴰ·head q))) = omega (arith, ap (λ s. s .0) q)
+format-avoids g i v l h (List·Memᴰ·tail (List·Memᴰ·tail (List·Memᴰ·tail x))) = elim (List·Memᴰ·append-cases (map (λ i. (i, 0)) (range 3 61)) x) [
+  | inl y ↦ let t = Memᴰ·of-map {A = ℕ} {B = Store} (λ i. (i, 0)) (range 3 61) y in omega (arith, in-range 3 61 (t .1), ap (λ s. s .0) (t .2))
+  | inr y ↦ let t = Memᴰ·of-map {A = ℕ} {B = Store} (λ s. (rootAt s, 0)) (upTo (g .slots)) y in
+      h (t .0) (upTo-members (g .slots) .0 (t .1)) (sym (ap (λ s. s .0) (t .2)))
+]
+
+pub geometry-is : (m : Memory) {g : Geometry} → m slotsAt ≡ g .slots → m nodesAt ≡ g .nodes → geometryOf m ≡ g
 unfolding geometryOf
 geometry-is m p q = ap₂ (λ a b. record { slots = a; nodes = b }) p q
 
 -- ---- the image that it leaves
 
-abbrev blank : Geometry → List ℕ → List ℕ
+abbrev pub blank : Geometry → List ℕ → List ℕ
 blank g im = apply im (stores (formatStores g))
 
-module _ (g : Geometry) (im : List ℕ) (fit : Fit im) (range : Says (inRange g)) (words : length im ≡ imageWords g) where
-  written : (i v : ℕ) → i < length im → List·Memᴰ (i, v) (formatStores g) → reads (blank g im) i ≡ v
-  written i v l x = settles im (formatStores g) i v l (λ u y. formats g i u y ∙ sym (formats g i v x)) (inr x)
+pub written : (g : Geometry) (im : List ℕ) (i v : ℕ) → i < length im → List·Memᴰ (i, v) (formatStores g) → reads (blank g im) i ≡ v
+written g im i v l x = settles im (formatStores g) i v l (λ u y. formats g i u y ∙ sym (formats g i v x)) (inr x)
 
+module _ (g : Geometry) (im : List ℕ) (fit : Fit im) (range : Says (inRange g)) (words : length im ≡ imageWords g) where
   word-fits : (i : ℕ) → formatWord g i < 2 ^ 64
   unfolding inRange
   word-fits zero = omega arith
@@ -96,14 +113,14 @@ module _ (g : Geometry) (im : List ℕ) (fit : Fit im) (range : Says (inRange g)
   unfolding inRange
   header = let h = header-stored g in record {
     fits = λ i. elim (torn-whole im (formatStores g) .each i) [ inl q ↦ rw q (fit i) | inr x ↦ rw (formats g i _ x) (word-fits i) ];
-    edition = written editionAt 1 (omega arith) (h .0);
-    geometry = geometry-is (reads (blank g im)) (written slotsAt (g .slots) (omega arith) (h .1)) (written nodesAt (g .nodes) (omega arith) (h .2));
+    edition = written g im editionAt 1 (omega arith) (h .0);
+    geometry = geometry-is (reads (blank g im)) (written g im slotsAt (g .slots) (omega arith) (h .1)) (written g im nodesAt (g .nodes) (omega arith) (h .2));
     in-range = range;
     words = apply-laws .length-apply im (stores (formatStores g)) ∙ words;
   }
 
   none-filled : {s : ℕ} → Filled g (reads (blank g im)) s → ⊥
-  none-filled {s} b = omega (arith, b .linked, written (rootAt s) 0 (omega (arith, b .inside)) (root-stored g s (b .inside)))
+  none-filled {s} b = omega (arith, b .linked, written g im (rootAt s) 0 (omega (arith, b .inside)) (root-stored g s (b .inside)))
 
   none-reached : {s n : ℕ} {w : List ℕ} → Reaches g (reads (blank g im)) s w n → ⊥
   none-reached r = none-filled (reach-laws g (reads (blank g im)) .slot-filled r)
@@ -111,7 +128,7 @@ module _ (g : Geometry) (im : List ℕ) (fit : Fit im) (range : Says (inRange g)
   blank-view : View g (blank g im) []
   blank-view = record {
     header = header;
-    sound = sound-laws (ruleOf (reads (blank g im))) g (reads (blank g im)) .formatted (λ s h. written (rootAt s) 0 (omega arith) (root-stored g s h));
+    sound = sound-laws (ruleOf (reads (blank g im))) g (reads (blank g im)) .formatted (λ s h. written g im (rootAt s) 0 (omega arith) (root-stored g s h));
     once = record { numbers = empty; frames = λ r x. absurd (List·Memᴰ·not-nil x) };
     same = record {
       present = λ reel. (λ t. absurd (none-filled (t .1 .open-slot)), λ t. absurd (List·Memᴰ·not-nil (t .1)));
@@ -129,12 +146,12 @@ module _ (g : Geometry) (im : List ℕ) (fit : Fit im) (range : Says (inRange g)
 
 -- ---- answered
 
-format-refusals : (words : ℕ) (g : Geometry) (s : State) → refusals (format words (g .slots) (g .nodes)) s ≡
+pub format-refusals : (words : ℕ) (g : Geometry) (s : State) → refusals (format words (g .slots) (g .nodes)) s ≡
     (badImage (length (s .image)) g gives 1) ∷ (badMap g words gives 3) ∷ []
 unfolding refusals
 format-refusals words g s = refl
 
-granted-format : (words : ℕ) (g : Geometry) (s : State) → granted (format words (g .slots) (g .nodes)) s ≡ leaving (record {
+pub granted-format : (words : ℕ) (g : Geometry) (s : State) → granted (format words (g .slots) (g .nodes)) s ≡ leaving (record {
   image = apply (s .image) (stores (formatStores g));
   pool = clearMap (mapWords g);
   heads = idleHeads;

@@ -19,7 +19,7 @@ use Rattle.tree.specs.Lookup.{Spot, firstSpot, path, pathFrom, clearAt, clearSp
 use Rattle.book.specs.Heads.{stateOf, headAt, targetOf}
 use Rattle.book.specs.Room.{Room, clear, scaleUp, branchOut, lastOf, fullRoom, roomOn}
 use Rattle.book.specs.Checks.{badImage}
-use Rattle.book.specs.Perform.{orNone}
+use Rattle.book.specs.Perform.{foundSpot}
 use Rattle.tree.proofs.Cases.{test, seen, nothing, just, some-inj, none-some, true-not-false}
 use Rattle.tree.proofs.Laws.{node-laws, spot-laws, run-laws, fingerprint-laws}
 use Rattle.book.proofs.Refusals.{Denies}
@@ -111,7 +111,7 @@ module _ (g : Geometry) (m : Memory) where
     | just ns q ↦ spot-inside (foundAt r g m f) (λ n. 64) levels ns t (λ n a. omega arith) (pathFrom-nodes s f ns q) (rw q at h)
   ]
 
-  pub find-inside : (r : Rule) (s f : ℕ) → not (isSome (find r g m s f)) ≡ false → SpotInside (orNone (find r g m s f))
+  pub find-inside : (r : Rule) (s f : ℕ) → not (isSome (find r g m s f)) ≡ false → SpotInside (foundSpot (find r g m s f))
   find-inside r s f h = elim (seen (find r g m s f)) [
     | nothing q ↦ absurd (true-not-false refl (rw q at h))
     | just t q ↦ rw q (found-inside r s f t q)

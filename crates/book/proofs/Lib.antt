@@ -26,7 +26,6 @@ pub mod Entries
 pub mod Inside
 pub mod Writes
 pub mod Scripts
-pub mod MemoryLaws
 pub mod Paired
 pub mod Alike
 pub mod StoreLists
@@ -57,3 +56,4 @@ pub mod ClaimPlaced
 pub mod Demands
 pub mod Sample
 pub mod Witnesses
+pub mod Fixed

@@ -1,15 +1,12 @@
 -- What `perform` and `reply` do, by their refusals.
-use mathlib.Core.Path.{_≡_, refl, sym, _∙_, ap}
-use mathlib.Core.Bool.{Bool, true, false, cond}
+use mathlib.Core.Path.{_≡_, refl}
 use mathlib.Core.Logic.{_≢_}
-use Prim.Native.Nat.{ℕ}
-use lib.Dec.{eqb}
 use borrow.Author.Tests.{eq-eqb, ne-eqb}
 use Rattle.book.specs.Refusals.{refusal}
-use Rattle.book.specs.State.{State, Operation, Work, leaving}
+use Rattle.book.specs.State.{State, Operation, leaving}
 use Rattle.book.specs.Checks.{refusals}
 use Rattle.book.specs.Perform.{granted, leaves, perform}
-use Rattle.book.specs.Table.{Table, Fed, TableWork, becoming, tableRefusals, tableWork, reply}
+use Rattle.book.specs.Table.{Table, Fed, becoming, tableRefusals, tableWork, reply}
 
 pub answer-is : (op : Operation) (s : State) → perform op s .answer ≡ refusal (refusals op s)
 unfolding perform

@@ -3,7 +3,7 @@ use mathlib.Core.Path.{_≡_, refl, sym, _∙_, ap, ap₂}
 use mathlib.Core.Bool.{Bool, true, false, cond}
 use mathlib.Core.Logic.{_⊎_, inl, inr, _↔_}
 use mathlib.Core.Option.{some}
-use mathlib.Core.List.{List, [], _∷_, map, List·Memᴰ, List·Memᴰ·head, List·Memᴰ·tail, List·Memᴰ·cases-cons, List·Memᴰ·not-nil, Memᴰ·map, Memᴰ·of-map, Memᴰ·cast}
+use mathlib.Core.List.{List, [], _∷_, map, List·Memᴰ, List·Memᴰ·head, List·Memᴰ·tail, List·Memᴰ·cases-cons, List·Memᴰ·not-nil, Memᴰ·map, Memᴰ·cast}
 use Prim.Native.Nat.{ℕ, suc, _≤_, _<_}
 use native.Mathlib.Omega.{arith}
 use native.Mathlib.Decide.{decLt}
@@ -13,7 +13,7 @@ use borrow.Author.Tests.{eqb-true, eq-eqb}
 use Rattle.tree.specs.Memory.{Memory, reads, isSome}
 use Rattle.tree.specs.Test.{ne, holds}
 use Rattle.tree.specs.Lists.{Distinct, onto}
-use Rattle.tree.specs.Layout.{Geometry, inRange, editionAt, geometryOf, reelAt, rootAt}
+use Rattle.tree.specs.Layout.{Geometry, inRange, editionAt, geometryOf, reelAt, rootAt, sizeAt}
 use Rattle.tree.specs.Path.{wayOf}
 use Rattle.tree.specs.Fingerprint.{ruleOf}
 use Rattle.tree.specs.Slots.{Filled, filledSlots, reelsPresent, slotOf, emptySlot}
@@ -40,6 +40,7 @@ use Rattle.book.proofs.Refusals.{denied}
 use Rattle.book.proofs.Heads.{busy-names, is-busy}
 use Rattle.book.proofs.ReelLists.{has-member}
 use Rattle.book.proofs.Sames.{size-most}
+use Rattle.book.proofs.Showing.{present-slot}
 
 -- ---- tests, and lists in which each number occurs once
 
@@ -112,14 +113,6 @@ table-present t reel = (λ h. let x = reel-in reel (t .reels) h in Memᴰ·cast 
 abbrev pub sizesOf : List ℕ → Geometry
 sizesOf image = geometryOf (reads image)
 
--- the reels present are the numbers of the filled slots
-reels-present : (g : Geometry) (m : Memory) (reel : ℕ) → List·Memᴰ reel (reelsPresent g m) ↔ ((s : ℕ) × SlotHas g m reel s)
-unfolding reelsPresent
-reels-present g m reel = (
-  λ x. let t = Memᴰ·of-map (λ s. m (reelAt s)) (filledSlots g m) x in (t .0, record { open-slot = slot-laws g m .listed .0 (t .1); number = t .2 }),
-  λ t. Memᴰ·cast (sym (t .1 .number)) (Memᴰ·map (λ s. m (reelAt s)) (slot-laws g m .listed .1 (t .1 .open-slot))),
-)
-
 -- no slot is empty exactly if as many are filled as there are
 full-slots : (g : Geometry) (m : Memory) → (g .slots ≤ emptySlot g m) ↔ (g .slots ≤ length (filledSlots g m))
 full-slots g m = (all, none-empty)
@@ -173,11 +166,11 @@ module _ {image : List ℕ} {t : Table} (v : Shows image t) where
   slot-is x = ap (slotOf (sizesOf image) (reads image)) (sym (x .number)) ∙ sound-laws _ (sizesOf image) (reads image) .own-slot (v .sound) (x .open-slot)
 
   pub has-present : {reel slot : ℕ} → SlotHas (sizesOf image) (reads image) reel slot → isPresent t reel ≡ true
-  has-present {reel} {slot} x = table-present t reel .1 (v .reels .same reel .0 (reels-present (sizesOf image) (reads image) reel .1 (slot, x)))
+  has-present {reel} {slot} x = table-present t reel .1 (v .reels .same reel .0 (present-slot (sizesOf image) (reads image) .1 (slot, x)))
 
   pub slot-has : (reel : ℕ) → isPresent t reel ≡ true → SlotHas (sizesOf image) (reads image) reel (slotOf (sizesOf image) (reads image) reel)
   slot-has reel h =
-      let x = reels-present (sizesOf image) (reads image) reel .0 (v .reels .same reel .1 (table-present t reel .0 h)) in
+      let x = present-slot (sizesOf image) (reads image) .0 (v .reels .same reel .1 (table-present t reel .0 h)) in
       rw (slot-is (x .1)) (x .1)
 
   pub slot-below : (reel : ℕ) → (slotOf (sizesOf image) (reads image) reel < sizesOf image .slots) ↔ (isPresent t reel ≡ true)

@@ -1,19 +1,21 @@
 -- Recovery of an image that shows reels: accepted with a map of the right length, and it leaves those reels, whole, with
 -- every head idle; a recovery that is refused or interrupted keeps them.
-use mathlib.Core.Path.{_≡_, refl, sym, _∙_, ap}
+use mathlib.Core.Path.{_≡_, refl, sym, _∙_, ap, ap₂}
 use mathlib.Core.Bool.{false, cond, not}
-use mathlib.Core.Logic.{inl, inr, _≢_, _↔_}
-use mathlib.Core.List.{List, [], _∷_, map, List·Memᴰ, Memᴰ·map, Memᴰ·of-map}
+use mathlib.Core.Logic.{inl, inr, _≢_, _↔_, _⊎_}
+use mathlib.Core.List.{List, [], _∷_, map, List·Memᴰ, Memᴰ·map, Memᴰ·of-map, Memᴰ·cast}
 use Prim.Native.Nat.{ℕ, _<_}
 use native.Mathlib.Omega.{arith}
 use native.Mathlib.Decide.{ℕ-discrete}
 use lib.ListN.{length}
 use lib.Dec.{eqb}
-use borrow.Author.Tests.{eqb-true, eqb-false, ne-eqb}
+use borrow.Author.Tests.{eqb-true, eqb-false, ne-eqb, not-true}
 use Rattle.tree.specs.Memory.{Memory, reads, Store, stores, apply}
 use Rattle.tree.specs.Test.{ne, is}
 use Rattle.tree.specs.Layout.{Geometry, inRange, mapWords, editionAt, geometryOf, locateAt, setAt}
-use Rattle.tree.specs.Fingerprint.{ruleOf}
+use Rattle.tree.specs.Fingerprint.{Rule, ruleOf}
+use Rattle.tree.specs.Sound.{Sound}
+use Rattle.tree.specs.Lists.{Distinct}
 use Rattle.tree.specs.Slots.{filledSlots}
 use Rattle.tree.specs.Subtree.{Visit, visit, tree, allTrees}
 use Rattle.tree.specs.Check.{isSound}
@@ -22,6 +24,8 @@ use Rattle.tree.proofs.Cases.{test}
 use Rattle.tree.proofs.Tests.{said}
 use Rattle.tree.proofs.Lists.{within, together, keeps}
 use Rattle.tree.proofs.Lists as Lists
+use Rattle.tree.proofs.Distinct.{distinct-by, distinct-keep, distinct-made}
+use Rattle.tree.proofs.Trees.{distinct-trees}
 use Rattle.tree.proofs.Memory.{apply-laws}
 use Rattle.tree.proofs.Pool.{pool-laws}
 use Rattle.tree.proofs.Laws.{slot-laws, tree-laws, reach-laws, sound-laws, node-laws}
@@ -33,6 +37,7 @@ use Rattle.book.specs.Perform.{recoverStores, nodesOf, granted, perform}
 use Rattle.book.specs.Table.{Reel}
 use Rattle.book.specs.Agrees.{Agrees, Reached}
 use Rattle.book.specs.Histories.{carriedOut, done, Interrupted, Attempts, none-yet, refused, interrupted, Recovered}
+use Rattle.book.specs.Fixed.{Corrects}
 use Rattle.book.proofs.Refusals.{Denies, denied, passed-all, refused-here, refused-later}
 use Rattle.book.proofs.Performed.{answer-is, work-granted}
 use Rattle.book.proofs.Demand1.{demand1}
@@ -67,42 +72,53 @@ module _ (g : Geometry) (m : Memory) where
 
   -- ---- its stores: differing locate words of reached nodes, each to the node's set word
 
-  mends-stored : (i v : ℕ) → List·Memᴰ (i, v) (recoverStores g m) → Mends g m i v
+  pub corrects-stored : (i v : ℕ) → List·Memᴰ (i, v) (recoverStores g m) ↔ Corrects g m i v
   unfolding recoverStores
-  mends-stored i v x =
-      let t = Memᴰ·of-map {A = Visit} {B = Store} (λ v. (locateAt g (v .node), m (setAt g (v .node)))) _ x in
-      record {
-        node = t .0 .node;
-        reached = reached-in (t .0) (Lists.kept _ (allTrees g m) (t .1) .0);
-        at = sym (ap (λ s. s .0) (t .2));
-        is = sym (ap (λ s. s .1) (t .2));
-      }
+  corrects-stored i v = (
+    λ x.
+        let t = Memᴰ·of-map {A = Visit} {B = Store} (λ v. (locateAt g (v .node), m (setAt g (v .node)))) _ x in
+        let k = Lists.kept _ (allTrees g m) (t .1) in
+        record {
+          node = t .0 .node;
+          reached = reached-in (t .0) (k .0);
+          at = sym (ap (λ s. s .0) (t .2));
+          differs = eqb-false _ _ (not-true _ (k .1));
+          is = sym (ap (λ s. s .1) (t .2));
+        },
+    λ c. Memᴰ·cast (ap₂ (λ i v. (i, v)) (c .at) (c .is))
+        (Memᴰ·map (λ v. (locateAt g (v .node), m (setAt g (v .node)))) (keeps _ (in-reached (c .reached)) (rw (ne-eqb _ _ (c .differs)) refl))),
+  )
 
-  stored-differing : {n : ℕ} → Reached g m n → m (locateAt g n) ≢ m (setAt g n) → List·Memᴰ (locateAt g n, m (setAt g n)) (recoverStores g m)
+  -- no word twice
+  pub stored-once : {r : Rule} → Sound r g m → Distinct (λ w. w .0) (recoverStores g m)
   unfolding recoverStores
-  stored-differing {n} r h =
-      Memᴰ·map (λ v. (locateAt g (v .node), m (setAt g (v .node)))) (keeps _ (in-reached r) (rw (ne-eqb (m (locateAt g n)) (m (setAt g n)) h) refl))
+  stored-once a =
+      let d = distinct-trees g m (record { well-formed = λ x. a .well-formed x; once = λ x y. a .once x y }) in
+      distinct-made _ _ (distinct-by _ (distinct-keep _ d) (λ u v x y q. omega arith))
 
 -- the image as recovery leaves it
 abbrev pub mendedImage : Geometry → List ℕ → List ℕ
 mendedImage g im = apply im (stores (recoverStores g (reads im)))
 
+mends : {g : Geometry} {m : Memory} {i v : ℕ} → Corrects g m i v → Mends g m i v
+mends c = record { node = c .node; reached = c .reached; at = c .at; is = c .is }
+
 module _ (g : Geometry) (im : List ℕ) where
-  mended-words : Mended g (reads im) (reads (mendedImage g im))
+  pub mended-words : Mended g (reads im) (reads (mendedImage g im))
   mended-words = record {
-    each = λ i. elim (torn-whole im (recoverStores g (reads im)) .each i) [ inl q ↦ inl q | inr x ↦ inr (mends-stored g (reads im) i _ x) ];
+    each = λ i. elim (torn-whole im (recoverStores g (reads im)) .each i) [ inl q ↦ inl q | inr x ↦ inr (mends (corrects-stored g (reads im) i _ .0 x)) ];
   }
 
   -- a reached node's locate word is its set word then
-  now-equal : {n : ℕ} → Reached g (reads im) n → locateAt g n < length im → reads (mendedImage g im) (locateAt g n) ≡ reads im (setAt g n)
+  pub now-equal : {n : ℕ} → Reached g (reads im) n → locateAt g n < length im → reads (mendedImage g im) (locateAt g n) ≡ reads im (setAt g n)
   now-equal {n} r l =
       settles im (recoverStores g (reads im)) (locateAt g n) (reads im (setAt g n)) l
-      (λ u x. let t = mends-stored g (reads im) (locateAt g n) u x in let e : t .node ≡ n = omega (arith, t .at) in t .is ∙ ap (λ k. reads im (setAt g k)) e)
-      (elim (ℕ-discrete (reads im (locateAt g n)) (reads im (setAt g n))) [ yes q ↦ inl q | no h ↦ inr (stored-differing g (reads im) r h) ])
+      (λ u x. let t = corrects-stored g (reads im) (locateAt g n) u .0 x in let e : t .node ≡ n = omega (arith, t .at) in t .is ∙ ap (λ k. reads im (setAt g k)) e)
+      (elim (ℕ-discrete (reads im (locateAt g n)) (reads im (setAt g n))) [ yes q ↦ inl q | no h ↦ inr (corrects-stored g (reads im) _ _ .1 (record { node = n; reached = r; at = refl; differs = h; is = refl })) ])
 
 -- ---- what recovery answers and leaves
 
-recover-refusals : (words : ℕ) (r : State) → refusals (recover words) r ≡
+pub recover-refusals : (words : ℕ) (r : State) → refusals (recover words) r ≡
     (badImage (length (r .image)) (geometryOf (reads (r .image))) gives 1)
     ∷ (ne (reads (r .image) editionAt) 1 gives 2)
     ∷ (badMap (geometryOf (reads (r .image))) words gives 3)
@@ -130,7 +146,7 @@ recover-answers {g} r v words =
           ∙ refused-here _ _ (said (badMap g words) (eqb-false words (mapWords g) e)))
     ])
 
-granted-recover : (words : ℕ) (r : State) → granted (recover words) r ≡ leaving (record {
+pub granted-recover : (words : ℕ) (r : State) → granted (recover words) r ≡ leaving (record {
   image = mendedImage (geometryOf (reads (r .image))) (r .image);
   pool = mapOf (geometryOf (reads (r .image))) (nodesOf (allTrees (geometryOf (reads (r .image))) (reads (r .image))));
   heads = idleHeads;

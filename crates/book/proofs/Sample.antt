@@ -1,13 +1,13 @@
 -- Books computed from a format on, and that histories come to them.
-use mathlib.Core.Path.{_≡_, refl, sym, _∙_, ap}
-use mathlib.Core.Logic.{inl, inr, _≢_}
+use mathlib.Core.Path.{_≡_, refl, sym, _∙_}
+use mathlib.Core.Logic.{inl, inr}
 use mathlib.Core.List.{List, [], _∷_, flatMap}
 use Prim.Native.Nat.{ℕ, zero, suc, _+_, _*_, _^_, _<_}
 use native.Mathlib.Omega.{arith}
 use lib.ListN.{replicate}
 use lib.Dec.{eqb}
-use Rattle.tree.specs.Memory.{field, withField, bit, isSet, withBit, byte, withByte, marked, first, stores, segmented, apply, reads, Fit}
-use Rattle.tree.specs.Layout.{locateAt, geometryOf}
+use Rattle.tree.specs.Memory.{field, withField, bit, isSet, withBit, byte, withByte, marked, first, stores, segmented, apply, Fit}
+use Rattle.tree.specs.Layout.{geometryOf}
 use Rattle.tree.specs.Lists.{upTo, range, keep, every, hasKey, distinct}
 use Rattle.tree.specs.Fingerprint.{fingerprint, editionOne, folded, tableEntry, ruleOf}
 use Rattle.tree.specs.Node.{formed, wellFormed, sizeAllowed}
@@ -29,7 +29,7 @@ use Rattle.book.specs.Histories.{done, replied, Follows, formatted, perf
 use Rattle.book.specs.Starred as starred
 use Rattle.book.specs.Starred.{run}
 use Rattle.book.specs.Demands.{Demand3}
-use Rattle.book.specs.Witnesses.{sample}
+use Rattle.book.specs.Witnesses.{sample, claimedTwice, locateWords, TwoToChange, OtherGeometry}
 use Rattle.book.proofs.Entries.{Each}
 use Rattle.book.proofs.Alike.{alike}
 
@@ -72,31 +72,14 @@ format-answers : (perform (format 1 1 1) (zeros 1 1) .answer ≡ 0) × (perform 
 unfolding perform refusals badImage refusal
 format-answers = (refl, refl, refl)
 
-again : replied (format 1 1 2) (starred.formatted 41 1) (emptyTable 41 1) .work .after ≡ emptyTable 1 2
-unfolding reply tableRefusals tableWork refusal badImage emptyTable
-again = refl
-
 pub sampled : (t : Table) × Follows sample t
 unfolding sample
 sampled = run-follows (openReel 1 50 7 ∷ claim 1 50 0 7 12 ∷ fill 50 0 ∷ []) (omega arith) (format-follows 1 1 (format-answers .0))
 
-pub other-geometry : Follows (done (format 1 1 2) (starred.formatted 41 1)) (emptyTable 1 2)
-other-geometry =
-    let f : Follows (done (format 1 1 2) (starred.formatted 41 1)) (replied (format 1 1 2) (starred.formatted 41 1) (emptyTable 41 1) .work .after) =
-    performed (format-follows 41 1 (format-answers .1)) (format 1 1 2) (words-fit (1 ∷ 2 ∷ []) (omega arith)) in
-    rw again at f
-
--- two heads have claimed, each in a reel of its own, and the locate words of nodes 0 and 1
-unfoldable pub claimed-twice : State
-claimed-twice = run (openReel 1 50 7 ∷ openReel 1 50 8 ∷ claim 1 50 0 7 12 ∷ claim 1 50 1 8 12 ∷ []) (starred.formatted 2 2)
-
-pub twice-follows : (t : Table) × Follows claimed-twice t
-unfolding claimed-twice
+pub twice-follows : (t : Table) × Follows claimedTwice t
+unfolding claimedTwice
 twice-follows =
     run-follows (openReel 1 50 7 ∷ openReel 1 50 8 ∷ claim 1 50 0 7 12 ∷ claim 1 50 1 8 12 ∷ []) (omega arith) (format-follows 2 2 (format-answers .2))
-
-abbrev pub locateWords : State → List ℕ
-locateWords s = let m = reads (s .image) in m (locateAt (geometryOf m) 0) ∷ m (locateAt (geometryOf m) 1) ∷ []
 
 pub record Computed : Type 0 where
   pub answered : perform (commit 50 0) sample .answer ≡ 0
@@ -104,22 +87,20 @@ pub record Computed : Type 0 where
   pub absent : perform (has 7 12) sample .work .value ≡ 0
   pub present : perform (has 7 12) (done (commit 50 0) sample) .work .value ≡ 1
   -- a recovery makes both locate words new, so one that is cut may leave either of them old
-  pub recovered : perform (recover 1) claimed-twice .answer ≡ 0
-  pub both-old : locateWords claimed-twice ≡ 1 ∷ 1 ∷ []
-  pub both-new : locateWords (perform (recover 1) claimed-twice .work .after) ≡ 0 ∷ 0 ∷ []
+  pub recovered : perform (recover 1) claimedTwice .answer ≡ 0
+  pub both-old : locateWords claimedTwice ≡ 1 ∷ 1 ∷ []
+  pub both-new : locateWords (perform (recover 1) claimedTwice .work .after) ≡ 0 ∷ 0 ∷ []
 
 pub computed : Computed
-unfolding sample claimed-twice run starred.formatted range upTo keep perform granted refusals badImage refusal geometryOf formatStores openScript roomScript claimScript fillScript apply segmented stores first marked isSet withBit byte withByte field withField bit slotOf emptySlot filled freeRun isFreeRun mark headAt stateOf wordsOf withHead busy pathFrom path wellFormed formed sizeAllowed clearSpot clearAt firstSpot roomOn find lookup foundAt matches fingerprint editionOne folded tableEntry ruleOf children subtree tree allTrees filledSlots walkable inPlace isSound heldPlaces distinct hasKey every recoverStores flatMap
+unfolding sample claimedTwice run starred.formatted range upTo keep perform granted refusals badImage refusal geometryOf formatStores openScript roomScript claimScript fillScript apply segmented stores first marked isSet withBit byte withByte field withField bit slotOf emptySlot filled freeRun isFreeRun mark headAt stateOf wordsOf withHead busy pathFrom path wellFormed formed sizeAllowed clearSpot clearAt firstSpot roomOn find lookup foundAt matches fingerprint editionOne folded tableEntry ruleOf children subtree tree allTrees filledSlots walkable inPlace isSound heldPlaces distinct hasKey every recoverStores flatMap
 computed = record { answered = refl; absent = refl; present = refl; recovered = refl; both-old = refl; both-new = refl }
 
-pub answered : perform (commit 50 0) sample .answer ≡ 0
-answered = computed .answered
+pub two-to-change : TwoToChange
+two-to-change = record { history = twice-follows; answered = computed .recovered; both-old = computed .both-old; both-new = computed .both-new }
 
--- a format to another geometry of the same image length, in mid-history: it is answered, and the table is the new one
-pub format-over : Follows (starred.formatted 41 1) (emptyTable 41 1) × (perform (format 1 1 2) (starred.formatted 41 1) .answer ≡ 0)
-    × (replied (format 1 1 2) (starred.formatted 41 1) (emptyTable 41 1) .work .after ≡ emptyTable 1 2)
-unfolding starred.formatted perform refusals badImage refusal granted leaves clears apply stores segmented formatStores range upTo geometryOf
-format-over = (format-follows 41 1 (format-answers .1), refl, again)
+pub other-geometry : OtherGeometry
+unfolding starred.formatted perform refusals badImage refusal granted leaves clears apply stores segmented formatStores range upTo geometryOf reply tableRefusals tableWork emptyTable
+other-geometry = record { history = format-follows 41 1 (format-answers .1); answered = refl; table = refl }
 
 -- ---- frame 12 of reel 7, before the commit and after it
 
@@ -152,10 +133,7 @@ module _ (kept : Demand3) (t : Table) (f : Follows sample t) where
       let g : Follows (done (commit 50 0) sample) then = performed f (commit 50 0) (words-fit (0 ∷ []) (omega arith)) in
       sym (said-alike (kept (done (commit 50 0) sample) then g .agrees)) ∙ computed .present
 
-  pub told-apart : then ≢ t
-  told-apart q = omega (arith, said-before, said-after, ap said q)
-
-  -- no recovered book agrees with both
-  pub one-of-two : (s' : State) → Agrees s' (allIdle t) → Agrees s' (allIdle then) → ⊥
-  one-of-two s' a b =
+  -- no book agrees with both
+  pub told-apart : (s' : State) → Agrees s' (allIdle t) → Agrees s' (allIdle then) → ⊥
+  told-apart s' a b =
       omega (arith, said-before, said-after, said-alike a ∙ said-idle t, said-alike b ∙ said-idle then)

@@ -1,7 +1,7 @@
 -- What an image shows, by membership: the form in which it is carried through the changes of one word.
 use mathlib.Core.Path.{_≡_}
 use mathlib.Core.Logic.{_↔_}
-use mathlib.Core.List.{List, map, List·Memᴰ}
+use mathlib.Core.List.{List, List·Memᴰ}
 use Prim.Native.Nat.{ℕ}
 use lib.ListN.{length}
 use Rattle.tree.specs.Memory.{Memory, reads, Fit}
@@ -12,7 +12,7 @@ use Rattle.tree.specs.Fingerprint.{ruleOf}
 use Rattle.tree.specs.Slots.{Filled}
 use Rattle.tree.specs.Reach.{FrameOf}
 use Rattle.tree.specs.Sound.{Sound}
-use Rattle.book.specs.Table.{Table, Reel}
+use Rattle.book.specs.Table.{Reel}
 use Rattle.book.specs.Ways.{SlotHas}
 
 -- an image of geometry g: its words fit, its header is right

@@ -2,7 +2,7 @@
 use mathlib.Core.Path.{_≡_, refl, _∙_, ap}
 use mathlib.Core.Logic.{_⊎_, inl, inr}
 use mathlib.Core.List.{List, [], _∷_, List·Memᴰ, List·Memᴰ·head, Memᴰ·append-right}
-use Prim.Native.Nat.{ℕ, _≤_, _<_}
+use Prim.Native.Nat.{ℕ, _<_}
 use native.Mathlib.Omega.{arith}
 use native.Mathlib.Decide.{ℕ-discrete, decLt}
 use lib.ListN.{length, set, length-set}
@@ -22,9 +22,9 @@ use Rattle.book.specs.Table.{Table, Fed, tableRefusals, tableWork, reply
 use Rattle.book.specs.Agrees.{Agrees}
 use Rattle.book.specs.Histories.{done, replied, Steady, Interrupted, Attempts, none-yet, interrupted, Recovered, Follows, performed, before, after}
 use Rattle.book.specs.Demands.{Demand3}
-use Rattle.book.specs.Witnesses.{CommitCut, Witnesses}
+use Rattle.book.specs.Witnesses.{CommitCut, GoesOn, Witnesses}
 use Rattle.book.proofs.Performed.{work-granted}
-use Rattle.book.proofs.Sample.{words-fit, sampled, answered, told-apart, other-geometry}
+use Rattle.book.proofs.Sample.{words-fit, sampled, computed, told-apart, two-to-change, other-geometry}
 
 -- ---- power lost within an operation
 
@@ -41,15 +41,6 @@ cut-first u = cut-script u (crash-laws .none-yet _ _ _ .1 refl)
 pub cut-itself : {op : Operation} {s : State} (im : List ℕ) → (Steady op (perform op s .answer) → ⊥) → length im ≡ length (s .image)
     → ((i : ℕ) → (reads im i ≡ reads (s .image) i) ⊎ (reads im i ≡ reads (perform op s .work .after .image) i)) → Interrupted op s 0 im
 cut-itself im u l e = record { unsteady = u; itself = im; same-length = l; old-or-new = e; script = crash-laws .none-yet im _ im .1 refl }
-
-one-new : (s : State) (words i : ℕ) → i < length (s .image)
-    → Interrupted (recover words) s 0 (set (s .image) i (reads (perform (recover words) s .work .after .image) i))
-one-new s words i l =
-    let v = reads (perform (recover words) s .work .after .image) i in
-    cut-itself (set (s .image) i v) (λ u. elim u [ ]) (length-set (s .image) i v) (λ j. elim (ℕ-discrete j i) [
-      | yes e ↦ inr (rw e (getD-set-same (s .image) i v 0 l))
-      | no e ↦ inl (getD-set-other (s .image) i j v 0 e)
-    ])
 
 second-crash : (s s' : State) (m m' : List ℕ) (words k : ℕ) → s .image ≡ m → Interrupted (recover words) s k m' → Recovered m' s' → Recovered m s'
 second-crash s s' m m' words k q c r = record {
@@ -106,14 +97,14 @@ module _ (s : State) (script h : ℕ) (e : perform (commit script h) s .answer �
   commit-done : Interrupted (commit script h) s 2 (done (commit script h) s .image)
   commit-done = let c = commit-store s script h e in cut-script (λ u. elim u [ ]) (rw (c .1, c .2) (cut-last (s .image) (c .0)))
 
-  -- its store carried out and lost
-  pub commit-lost : Interrupted (commit script h) s 1 (s .image)
+  -- its store issued and lost
+  commit-lost : Interrupted (commit script h) s 1 (s .image)
   commit-lost =
       let c = commit-store s script h e in
       cut-script (λ u. elim u [ ]) (rw (c .1) (crash-laws .torn-possible (s .image) (c .0 ∷ []) [] (s .image) (record { same-length = refl; each = λ i. inl refl })))
 
-  pub commit-left : (k : ℕ) → k ≤ 1 → passed (segmented (perform (commit script h) s .work .script)) k → ⊥
-  commit-left k l p = let c = commit-store s script h e in crash-laws .left-to-pass k (c .0 ∷ []) [] l (rw (c .1) at p)
+  commit-left : passed (segmented (perform (commit script h) s .work .script)) 1 → ⊥
+  commit-left p = let c = commit-store s script h e in crash-laws .left-to-pass 1 (c .0 ∷ []) [] (omega arith) (rw (c .1) at p)
 
 -- ---- every history agrees with its table: what follows from demand 3
 
@@ -124,48 +115,56 @@ has-after reel f x t = elim (test (eqb (refusal (tableRefusals (has reel f) x t)
 
 module _ (kept : Demand3) where
   -- after any crash and any attempts there is a recovery that ends, and a history goes on from it
-  pub goes-on : {s : State} {t : Table} → Follows s t → (op : Operation) → Fit (arguments op) → {k : ℕ} {m m' : List ℕ} → Interrupted op s k m
-      → Attempts m m' → (s' : State) × Recovered m s' × ((t' : Table) × Follows s' t')
-  goes-on {s} {t} f op fit {k} {m} {m'} c a =
+  goes-on : (s : State) (t : Table) → Follows s t → (op : Operation) → Fit (arguments op) → (k : ℕ) (m m' : List ℕ) → Interrupted op s k m
+      → Attempts m m' → GoesOn m'
+  goes-on s t f op fit k m m' c a =
       let v = kept s t f .survives op fit k m in
       let n = mapWords (geometryOf (reads m')) in
       let from : State = record { image = m'; pool = []; heads = [] } in
       let h : perform (recover n) from .answer ≡ 0 = v m' c a .accepted n from refl ∙ rw (eq-eqb n n refl) in
-      let r : Recovered m (done (recover n) from) = record { left = m'; attempts = a; words = n; from = from; image = refl; answered = h; is = refl } in (
-        done (recover n) from,
-        r,
-        elim (v m c none-yet .whole _ r) [
-          | inl p ↦ (allIdle t, before f op fit k c r (p .0) (p .1))
-          | inr q ↦ (allIdle (replied op s t .work .after), after f op fit k c r q)
-        ],
-      )
+      let r : Recovered m (done (recover n) from) = record { left = m'; attempts = a; words = n; from = from; image = refl; answered = h; is = refl } in
+      let end : (t' : Table) × Follows (done (recover n) from) t' = elim (v m c none-yet .whole _ r) [
+        | inl p ↦ (allIdle t, before f op fit k c r (p .0) (p .1))
+        | inr q ↦ (allIdle (replied op s t .work .after), after f op fit k c r q)
+      ] in
+      record {
+        state = done (recover n) from;
+        table = end .0;
+        recovered = record { left = m'; attempts = none-yet; words = n; from = from; image = refl; answered = h; is = refl };
+        follows = end .1;
+      }
 
   -- a recovery of the image that a history has come to: the table is as it was, every head idle
   recovery : {s : State} {t : Table} → Follows s t → (s' : State) × Recovered (s .image) s' × Agrees s' (allIdle t)
   recovery {s} {t} f =
       let fit = words-fit (0 ∷ 0 ∷ []) (omega arith) in
       let c = cut-first {op = has 0 0} {s = s} (λ u. elim u [ ]) in
-      let r = goes-on f (has 0 0) fit c none-yet in
-      (r .0, r .1, elim (kept s t f .survives (has 0 0) fit 0 _ _ c none-yet .whole _ (r .1)) [ inl p ↦ p .1 | inr a ↦ rw (has-after 0 0 _ t) at a ])
+      let r = goes-on s t f (has 0 0) fit 0 _ _ c none-yet in (
+        r .state,
+        r .recovered,
+        elim (kept s t f .survives (has 0 0) fit 0 _ _ c none-yet .whole _ (r .recovered)) [ inl p ↦ p .1 | inr a ↦ rw (has-after 0 0 _ t) at a ],
+      )
 
   commit-cut : (s : State) (t : Table) → Follows s t → (script h : ℕ) → h < 2 → perform (commit script h) s .answer ≡ 0 → CommitCut s t script h
   commit-cut s t f script h l e =
       let b = recovery f in
       let a = recovery (performed f (commit script h) (words-fit (h ∷ []) (omega arith))) in
       record {
-        before = (b .0, record { left = s .image; interrupted = cut-first (λ u. elim u [ ]); recovered = b .1 }, commit-left s script h e 0 (omega arith), b .2);
+        before = (b .0, record { left = s .image; interrupted = commit-lost s script h e; recovered = b .1 }, commit-left s script h e, b .2);
         after = (a .0, record { left = done (commit script h) s .image; interrupted = commit-done s script h e; recovered = a .1 }, a .2);
       }
 
 -- all of them, where every history agrees with its table through every crash
 pub witnesses-from : Demand3 → Witnesses
 witnesses-from kept = record {
-  sampled = sampled;
-  answered = answered;
   commit-cut = commit-cut kept;
+  sampled = sampled;
+  answered = computed .answered;
   told-apart = told-apart kept;
-  later-kept = λ s t f words script reel l h. later-kept s words script reel h;
-  one-new = one-new;
+  later-kept = later-kept;
+  mixed = λ s words image. cut-itself image (λ u. elim u [ ]);
+  two-to-change = two-to-change;
   second-crash = second-crash;
+  goes-on = goes-on kept;
   other-geometry = other-geometry;
 }

@@ -16,8 +16,9 @@ use Rattle.book.specs.declared.Target.{Target}
 use Rattle.book.specs.Room.{Room, clear, scaleUp, branchOut, needs, atLevel31}
 use Rattle.book.specs.Perform.{newNode, openScript, roomScript, claimScript, fillScript, bitOn, bitOff, removeScript}
 use Rattle.tree.proofs.Lists.{in-range}
+use Rattle.tree.proofs.Memory.{bit-laws, byte-laws}
 use Rattle.tree.proofs.Laws.{child-laws}
-use Rattle.book.proofs.Entries.{MemoryLaws, Each, each-flatMap, entries}
+use Rattle.book.proofs.Entries.{Each, each-flatMap, entries}
 use Rattle.book.proofs.Inside.{Sized, SpotInside, RoomInside, fanout-few, fingerprint-lt}
 
 -- a store to one of some words, of a value below 2^64
@@ -48,22 +49,22 @@ module _ {words : ℕ} {g : Geometry} (z : Sized words g) where
   pub good-retire : (slot : ℕ) → slot < g .slots → Good words (((rootAt slot, 0) ∷ []) ∷ [])
   good-retire slot a = record { each = omega arith; few = omega arith }
 
-  module _ (laws : MemoryLaws) (m : Memory) (fits : (i : ℕ) → m i < 2 ^ 64) where
+  module _ (m : Memory) (fits : (i : ℕ) → m i < 2 ^ 64) where
     pub good-claim : (r : Room) (start f : ℕ) → RoomInside g m r → atLevel31 r ≡ false → (0 < needs r → start + needs r ≤ g .nodes)
         → Good words (claimScript g m r start f)
     unfolding claimScript roomScript
     good-claim (clear t) start f a l h =
-        let v = laws .bit-on (m (locateAt g (t .node))) (t .place) (a .place) (fits _) in
+        let v = bit-laws .with-fits (m (locateAt g (t .node))) (t .place) 64 (a .place) (fits _) in
         record { each = omega (arith, a .node); few = omega arith }
     good-claim (scaleUp n size) start f a l h =
-        let v = laws .bit-on (m (locateAt g n)) size (a .1) (fits _) in
+        let v = bit-laws .with-fits (m (locateAt g n)) size 64 (a .1) (fits _) in
         record { each = omega arith; few = omega arith }
     good-claim (branchOut parent d) start f a l h =
         let low : d < 31 = omega (arith, eqb-false d 31 l) in
         let few = fanout-few d low in
         let run = h (few .0) in
         let c = child-laws .below d f low in
-        let v = laws .bit-on 0 0 (omega arith) (omega arith) in
+        let v = bit-laws .with-fits 0 0 64 (omega arith) (omega arith) in
         let group : Each (Writes words) (flatMap (λ n. newNode g n (suc d) 64) (range start (fanout d))) =
         each-flatMap (Writes words) _ _ (λ n y. new-node n (suc d) 64 (omega (arith, in-range start (fanout d) y)) (omega arith) (omega arith)) in
         record { each = (group, omega arith); few = omega (arith, group-length start (fanout d) (suc d)) }
@@ -71,19 +72,19 @@ module _ {words : ℕ} {g : Geometry} (z : Sized words g) where
     pub good-fill : (t : Target) → t .node < g .nodes → t .place < 64 → t .frame < 2 ^ 64 → Good words (fillScript (ruleOf m) g m t)
     unfolding fillScript
     good-fill t a b c =
-        let v = laws .byte-put (m (fingerprintsAt g (t .node) (t .place))) (t .place % 8) (fingerprint (ruleOf m) (t .frame))
-        (omega arith) (fingerprint-lt m (t .frame)) (fits _) in
+        let v = byte-laws .with-fits (m (fingerprintsAt g (t .node) (t .place))) (t .place % 8) (fingerprint (ruleOf m) (t .frame)) 64
+        (fingerprint-lt m (t .frame)) (omega arith) (fits _) in
         record { each = omega arith; few = omega arith }
 
     pub good-commit : (n p : ℕ) → n < g .nodes → p < 64 → Good words (bitOn m (setAt g n) p ∷ [])
-    good-commit n p a b = let v = laws .bit-on (m (setAt g n)) p b (fits _) in record { each = omega arith; few = omega arith }
+    good-commit n p a b = let v = bit-laws .with-fits (m (setAt g n)) p 64 b (fits _) in record { each = omega arith; few = omega arith }
 
     pub good-abandon : (n p : ℕ) → n < g .nodes → p < 64 → Good words (bitOff m (locateAt g n) p ∷ [])
-    good-abandon n p a b = let v = laws .bit-off (m (locateAt g n)) p b (fits _) in record { each = omega arith; few = omega arith }
+    good-abandon n p a b = let v = bit-laws .without-fits (m (locateAt g n)) p 64 (fits _) in record { each = omega arith; few = omega arith }
 
     pub good-remove : (t : Spot) → SpotInside g m t → Good words (removeScript g m t)
     unfolding removeScript
     good-remove t a =
-        let v = laws .bit-off (m (setAt g (t .node))) (t .place) (a .place) (fits _) in
-        let w = laws .bit-off (m (locateAt g (t .node))) (t .place) (a .place) (fits _) in
+        let v = bit-laws .without-fits (m (setAt g (t .node))) (t .place) 64 (fits _) in
+        let w = bit-laws .without-fits (m (locateAt g (t .node))) (t .place) 64 (fits _) in
         record { each = omega (arith, a .node); few = omega arith }

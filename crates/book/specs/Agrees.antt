@@ -1,6 +1,6 @@
 -- When a book and a plain table say the same.
 use mathlib.Core.Path.{_≡_}
-use mathlib.Core.Bool.{Bool, true, false}
+use mathlib.Core.Bool.{true, false}
 use mathlib.Core.Logic.{_⊎_, _↔_}
 use mathlib.Core.List.{List, map, List·Memᴰ}
 use Prim.Native.Nat.{ℕ, _*_, _^_, _<_}
@@ -21,7 +21,7 @@ use Rattle.book.specs.declared.Target.{Target}
 use Rattle.book.specs.declared.HeadState.{HeadState}
 use Rattle.book.specs.declared.HeadState.the-variants as heads
 use Rattle.book.specs.Heads.{headCount, headAt}
-use Rattle.book.specs.State.{State}
+use Rattle.book.specs.State.{State, memory, shape}
 use Rattle.book.specs.Table.{Table, TableHead, Reel, idle, claimed, filled, tableHead}
 
 -- two lists have the same numbers, each once
@@ -90,16 +90,16 @@ pub record ClaimsPlace (ws : List ℕ) (h n p : ℕ) : Type 0 where
 pub record Agrees (s : State) (t : Table) : Type 0 where
   pub shows : Shows (s .image) t
   -- the map marks exactly the nodes reached, and no spare bit
-  pub map-words : length (s .pool) ≡ mapWords (geometryOf (reads (s .image)))
-  pub marks : (n : ℕ) → (used (s .pool) n ≡ true) ↔ Reached (geometryOf (reads (s .image))) (reads (s .image)) n
+  pub map-words : length (s .pool) ≡ mapWords (shape s)
+  pub marks : (n : ℕ) → (used (s .pool) n ≡ true) ↔ Reached (shape s) (memory s) n
   -- heads one by one
   pub head-words : length (s .heads) ≡ 5 * headCount
   pub table-heads : length (t .heads) ≡ headCount
-  pub heads : (h : ℕ) → h < headCount → HeadAgrees (geometryOf (reads (s .image))) (reads (s .image)) (headAt (s .heads) h) (tableHead t h)
+  pub heads : (h : ℕ) → h < headCount → HeadAgrees (shape s) (memory s) (headAt (s .heads) h) (tableHead t h)
   -- no two heads at one place, nor with one frame of a slot
   pub apart : (h h' : ℕ) {a b : Target} → h < headCount → h' < headCount → About a (headAt (s .heads) h) → About b (headAt (s .heads) h')
       → ((a .node ≡ b .node) × (a .place ≡ b .place)) ⊎ ((a .slot ≡ b .slot) × (a .frame ≡ b .frame)) → h ≡ h'
   -- locate has the places held and those claimed
-  pub locates : (n p : ℕ) → Reached (geometryOf (reads (s .image))) (reads (s .image)) n → p < 64
-      → (isSet (reads (s .image) (locateAt (geometryOf (reads (s .image))) n)) p ≡ true)
-      ↔ ((held (geometryOf (reads (s .image))) (reads (s .image)) n p ≡ true) ⊎ ((h : ℕ) × ClaimsPlace (s .heads) h n p))
+  pub locates : (n p : ℕ) → Reached (shape s) (memory s) n → p < 64
+      → (isSet (memory s (locateAt (shape s) n)) p ≡ true)
+      ↔ ((held (shape s) (memory s) n p ≡ true) ⊎ ((h : ℕ) × ClaimsPlace (s .heads) h n p))

@@ -1,11 +1,11 @@
 -- The refusals of each operation, in the paper's sequence.
-use mathlib.Core.Bool.{Bool, true, false, not}
-use mathlib.Core.Option.{Option, none, some}
+use mathlib.Core.Bool.{false, not}
+use mathlib.Core.Option.{Option}
 use mathlib.Core.List.{List, [], _∷_}
 use Prim.Native.Nat.{ℕ}
 use lib.ListN.{length}
-use Rattle.tree.specs.Memory.{Memory, reads, isSome}
-use Rattle.tree.specs.Test.{Test, lt, le, eq, ne, is, _and_, _or_}
+use Rattle.tree.specs.Memory.{reads, isSome}
+use Rattle.tree.specs.Test.{Test, lt, le, ne, is, _and_, _or_}
 use Rattle.tree.specs.Layout.{Geometry, imageWords, mapWords, editionAt, geometryOf}
 use Rattle.tree.specs.Fingerprint.{ruleOf}
 use Rattle.tree.specs.Slots.{slotOf, emptySlot}

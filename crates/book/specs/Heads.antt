@@ -1,5 +1,5 @@
 -- Head records as the driver keeps them: five words each, state (0 idle, 1 claimed, 2 filled), slot, node, place, frame.
-use mathlib.Core.Bool.{Bool, true, false, cond, not}
+use mathlib.Core.Bool.{Bool, true, false, cond}
 use mathlib.Core.List.{List, [], _∷_, _++_}
 use Prim.Native.Nat.{ℕ, _+_, _*_}
 use lib.ListN.{take, drop, replicate}

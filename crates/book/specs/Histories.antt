@@ -2,10 +2,10 @@
 use mathlib.Core.Path.{_≡_}
 use mathlib.Core.Logic.{_⊎_, _≢_}
 use mathlib.Core.List.{List}
-use Prim.Native.Nat.{ℕ, _<_}
+use Prim.Native.Nat.{ℕ}
 use lib.ListN.{length}
 use Rattle.tree.specs.Memory.{reads, segmented, apply, CrashImage, passed, Fit}
-use Rattle.book.specs.State.{State, Operation, format, recover, arguments, Work}
+use Rattle.book.specs.State.{State, Operation, format, recover, arguments, Work, memory}
 use Rattle.book.specs.Perform.{perform}
 use Rattle.book.specs.Table.{Table, Reply, fed, reply, emptyTable, allIdle}
 use Rattle.book.specs.Agrees.{Agrees}
@@ -32,7 +32,7 @@ pub record Interrupted (op : Operation) (s : State) (k : ℕ) (m' : List ℕ) : 
   pub unsteady : Steady op (perform op s .answer) → ⊥
   pub itself : List ℕ
   pub same-length : length itself ≡ length (s .image)
-  pub old-or-new : (i : ℕ) → (reads itself i ≡ reads (s .image) i) ⊎ (reads itself i ≡ reads (perform op s .work .after .image) i)
+  pub old-or-new : (i : ℕ) → (reads itself i ≡ memory s i) ⊎ (reads itself i ≡ memory (perform op s .work .after) i)
   pub script : CrashImage itself (segmented (perform op s .work .script)) k m'
 
 -- recoveries after a crash that were refused, or interrupted themselves, each with any map and any heads: from image to image

@@ -12,3 +12,4 @@ pub mod Ways
 pub mod Demands
 pub mod Starred
 pub mod Witnesses
+pub mod Fixed

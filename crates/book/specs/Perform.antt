@@ -1,16 +1,16 @@
 -- The eleven operations, over any contents, any numbers and any lengths.
-use mathlib.Core.Bool.{Bool, true, false, cond, not, _||_}
+use mathlib.Core.Bool.{Bool, false, cond, not, _||_}
 use mathlib.Core.Option.{Option, none, some}
 use mathlib.Core.List.{List, [], _∷_, _++_, map, flatMap}
-use Prim.Native.Nat.{ℕ, suc, _+_, _-_, _*_, _%_}
+use Prim.Native.Nat.{ℕ, suc, _+_, _*_, _%_}
 use lib.ListN.{length}
 use lib.Dec.{eqb, ltb}
-use Rattle.tree.specs.Memory.{Memory, reads, withBit, withoutBit, withByte, Store, Entry, stores, segmented, apply, isSome}
+use Rattle.tree.specs.Memory.{Memory, reads, withBit, withoutBit, withByte, Store, stores, apply, isSome}
 use Rattle.tree.specs.Layout.{Geometry, mapWords, reelAt, rootAt, nextAt, locateAt, setAt, levelAt, sizeAt, fingerprintsAt, frameAt, geometryOf}
 use Rattle.tree.specs.Lists.{range, upTo, keep}
 use Rattle.tree.specs.Path.{fanout, child}
 use Rattle.tree.specs.Fingerprint.{Rule, fingerprint, ruleOf}
-use Rattle.tree.specs.Slots.{slotOf, emptySlot, rootOf}
+use Rattle.tree.specs.Slots.{slotOf, emptySlot}
 use Rattle.tree.specs.Lookup.{Spot, spot, pathFrom, find, freeRun}
 use Rattle.tree.specs.Subtree.{Visit, tree, allTrees, listing}
 use Rattle.tree.specs.Pool.{mark, markAll, unmarkAll, clearMap, mapOf}
@@ -97,10 +97,14 @@ bitOff m i p = (i, withoutBit (m i) p) ∷ []
 unfoldable pub removeScript : Geometry → Memory → Spot → List (List Store)
 removeScript g m t = bitOff m (setAt g (t .node)) (t .place) ∷ bitOff m (locateAt g (t .node)) (t .place) ∷ []
 
--- where the lookup found a frame
+-- the place where the lookup found a frame; any value where it found none: Remove is refused 10 before it is used
+abbrev pub foundSpot : Option Spot → Spot
+foundSpot none = spot 0 0
+foundSpot (some t) = t
+
+-- its former name, which proofs/StepRemove.antt still uses
 abbrev pub orNone : Option Spot → Spot
-orNone none = spot 0 0
-orNone (some t) = t
+orNone o = foundSpot o
 
 abbrev pub oneIf : Bool → ℕ
 oneIf b = cond b 1 0
@@ -151,7 +155,7 @@ granted op s =
           writing (fillScript (ruleOf m) g m (target h)) (putHead s h (Filled (target h)))
       | commit script h ↦ writing (bitOn m (setAt g (target h .node)) (target h .place) ∷ []) (putHead s h Idle)
       | abandon script h ↦ writing (bitOff m (locateAt g (target h .node)) (target h .place) ∷ []) (putHead s h Idle)
-      | remove script reel f ↦ writing (removeScript g m (orNone (find (ruleOf m) g m (slotOf g m reel) f))) s
+      | remove script reel f ↦ writing (removeScript g m (foundSpot (find (ruleOf m) g m (slotOf g m reel) f))) s
       | has reel f ↦ record { script = []; value = oneIf (isSome (find (ruleOf m) g m (slotOf g m reel) f)); listing = []; after = s }
       | list scratch room reel ↦
           let fs = listing g m (slotOf g m reel) in

@@ -1,5 +1,5 @@
 -- Refusals as a list: tests in the paper's sequence, each with its number.
-use mathlib.Core.Bool.{Bool, cond}
+use mathlib.Core.Bool.{cond}
 use mathlib.Core.List.{List, [], _∷_}
 use Prim.Native.Nat.{ℕ}
 use Rattle.tree.specs.Test.{Test, holds}

@@ -1,8 +1,8 @@
 -- Where there is room for a frame on its path: what a claim takes.
-use mathlib.Core.Bool.{Bool, true, false, cond}
+use mathlib.Core.Bool.{Bool, false, cond}
 use mathlib.Core.Option.{Option, none, some}
 use mathlib.Core.List.{List, [], _∷_}
-use Prim.Native.Nat.{ℕ, zero, suc, _-_}
+use Prim.Native.Nat.{ℕ, _-_}
 use lib.ListN.{length}
 use lib.Dec.{eqb, ltb}
 use Rattle.tree.specs.Memory.{Memory}
@@ -32,7 +32,7 @@ module _ (g : Geometry) (m : Memory) where
 
   -- the room on a path, where it is well formed
   unfoldable pub roomOn : Option (List ℕ) → Room
-  roomOn none = branchOut 0 0
+  roomOn none = branchOut 0 0  -- any value: a claim is refused 4 before it is used
   roomOn (some ns) = roomFor ns (clearSpot g m ns)
 
 -- how many nodes it takes from the pool

@@ -6,13 +6,13 @@ use Prim.Native.Nat.{ℕ, _+_, _-_, _*_, _^_}
 use lib.ListN.{replicate}
 use lib.Dec.{eqb}
 use Rattle.tree.specs.Memory.{reads}
-use Rattle.tree.specs.Layout.{nextAt, sizeAt, geometryOf}
+use Rattle.tree.specs.Layout.{nextAt, sizeAt}
 use Rattle.tree.specs.Lists.{upTo, every}
 use Rattle.tree.specs.Path.{child}
 use Rattle.tree.specs.Fingerprint.{fingerprint, editionOne}
 use Rattle.book.specs.declared.Target.{Target}
 use Rattle.book.specs.Heads.{headAt, targetOf}
-use Rattle.book.specs.State.{State, Operation, format, openReel, claim, fill, commit, retire}
+use Rattle.book.specs.State.{State, Operation, format, openReel, claim, fill, commit, retire, memory, shape}
 use Rattle.book.specs.Perform.{perform}
 use Rattle.book.specs.Histories.{done}
 
@@ -50,10 +50,10 @@ abbrev pub target : State → Target
 target s = targetOf (headAt (s .heads) 0)
 
 abbrev pub rootSize : State → ℕ
-rootSize s = reads (s .image) (sizeAt (geometryOf (reads (s .image))) 0)
+rootSize s = memory s (sizeAt (shape s) 0)
 
 abbrev pub firstChild : State → ℕ
-firstChild s = reads (s .image) (nextAt (geometryOf (reads (s .image))) 0) - 1
+firstChild s = memory s (nextAt (shape s) 0) - 1
 
 -- the book once frame k, the next one, is claimed
 abbrev pub next : (n k : ℕ) → State

@@ -1,14 +1,24 @@
 -- What the driver keeps, the eleven operations with their arguments, and what an operation answers.
-use mathlib.Core.Bool.{Bool}
-use mathlib.Core.List.{List, [], _∷_}
+use mathlib.Core.Bool.{Bool, cond}
+use mathlib.Core.List.{List, [], _∷_, _++_}
 use Prim.Native.Nat.{ℕ}
-use Rattle.tree.specs.Memory.{Store}
+use lib.ListN.{length, drop}
+use Rattle.tree.specs.Memory.{Memory, reads, Store}
+use Rattle.tree.specs.Layout.{Geometry, geometryOf}
+use Rattle.tree.specs.Pool.{clearMap}
 
 -- the image in persistent memory, the pool map, and the heads' words
 pub record State : Type 0 where
   pub image : List ℕ
   pub pool : List ℕ
   pub heads : List ℕ
+
+-- what the image has at an index, and its R and N
+abbrev pub memory : State → Memory
+memory s = reads (s .image)
+
+abbrev pub shape : State → Geometry
+shape s = geometryOf (memory s)
 
 -- the paper's orders, each with the lengths of the buffers that it borrows beside image and heads, and its numbers
 pub data Operation : Type 0 where
@@ -55,3 +65,11 @@ pub record Outcome : Type 0 where
   pub answer : ℕ
   pub work : Work
   pub cleared : Bool
+
+-- the borrowed list with List's frames at its start: its tail stays
+unfoldable pub listed : (frames buffer : List ℕ) → List ℕ
+listed frames buffer = frames ++ drop (length frames) buffer
+
+-- the borrowed scratch map at the end: all 0 of the same length where it is cleared, else as it was
+unfoldable pub scratchAfter : (cleared : Bool) (scratch : List ℕ) → List ℕ
+scratchAfter cleared scratch = cond cleared (clearMap (length scratch)) scratch

@@ -2,12 +2,12 @@
 -- of the book's answer whether it is 8.
 use mathlib.Core.Bool.{Bool, true, false, cond, not}
 use mathlib.Core.Option.{Option, none, some}
-use mathlib.Core.List.{List, [], _∷_, _++_, map}
-use Prim.Native.Nat.{ℕ, _-_}
+use mathlib.Core.List.{List, [], _∷_, map}
+use Prim.Native.Nat.{ℕ}
 use lib.ListN.{length, getD, set, replicate}
 use lib.Dec.{eqb}
 use Rattle.tree.specs.Memory.{isSome}
-use Rattle.tree.specs.Test.{Test, lt, le, is, _or_}
+use Rattle.tree.specs.Test.{lt, le, is, _or_}
 use Rattle.tree.specs.Lists.{keep, every, hasKey}
 use Rattle.tree.specs.Layout.{Geometry, imageWords}
 use Rattle.book.specs.Heads.{headCount}

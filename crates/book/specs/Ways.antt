@@ -1,14 +1,14 @@
 -- What the demands say of paths and nodes, by ways alone and not by the book's own searches.
 use mathlib.Core.Path.{_≡_}
 use mathlib.Core.Bool.{true, false}
-use mathlib.Core.List.{List, []}
+use mathlib.Core.List.{[]}
 use Prim.Native.Nat.{ℕ, suc, _+_, _*_, _≤_, _<_}
-use Rattle.tree.specs.Memory.{Memory, reads, isSet}
-use Rattle.tree.specs.Layout.{Geometry, nextAt, locateAt, sizeAt, geometryOf, reelAt}
+use Rattle.tree.specs.Memory.{Memory, isSet}
+use Rattle.tree.specs.Layout.{Geometry, nextAt, locateAt, sizeAt, reelAt}
 use Rattle.tree.specs.Path.{fanout, child, wayOf}
 use Rattle.tree.specs.Slots.{Filled}
 use Rattle.tree.specs.Reach.{Reaches}
-use Rattle.book.specs.State.{State, Operation, openReel, claim}
+use Rattle.book.specs.State.{State, Operation, openReel, claim, memory, shape}
 use Rattle.book.specs.Agrees.{Reached}
 
 module _ (g : Geometry) (m : Memory) where
@@ -57,8 +57,8 @@ pub record SlotHas (g : Geometry) (m : Memory) (reel s : ℕ) : Type 0 where
 
 -- the operation needs nodes that the book lacks
 pub data Lacks (s : State) : Operation → Type 0 where
-  no-node : {words script reel : ℕ} → ((a : ℕ) → UnreachedRun (geometryOf (reads (s .image))) (reads (s .image)) 1 a → ⊥)
+  no-node : {words script reel : ℕ} → ((a : ℕ) → UnreachedRun (shape s) (memory s) 1 a → ⊥)
       → Lacks s (openReel words script reel)
-  no-run : {words script h reel f slot d : ℕ} → SlotHas (geometryOf (reads (s .image))) (reads (s .image)) reel slot
-      → FullPath (geometryOf (reads (s .image))) (reads (s .image)) slot f d
-      → ((a : ℕ) → UnreachedRun (geometryOf (reads (s .image))) (reads (s .image)) (fanout d) a → ⊥) → Lacks s (claim words script h reel f)
+  no-run : {words script h reel f slot d : ℕ} → SlotHas (shape s) (memory s) reel slot
+      → FullPath (shape s) (memory s) slot f d
+      → ((a : ℕ) → UnreachedRun (shape s) (memory s) (fanout d) a → ⊥) → Lacks s (claim words script h reel f)

@@ -133,6 +133,10 @@ distinct-by key (onto {x} {xs} a d) h =
     onto (λ y z q. a y z (h y x (List·Memᴰ·tail z) (List·Memᴰ·head refl) q))
     (distinct-by key d (λ v y z z'. h v y (List·Memᴰ·tail z) (List·Memᴰ·tail z')))
 
+-- a list made from another, by the keys of what is made
+pub distinct-made : {A B : Type 0} (f : A → B) (key : B → ℕ) {xs : List A} → Distinct (λ x. key (f x)) xs → Distinct key (map f xs)
+distinct-made f key empty = empty
+distinct-made f key (onto {x} {xs} a d) = onto (λ y z q. let t = Memᴰ·of-map f xs z in a (t .0) (t .1) (ap key (t .2) ∙ q)) (distinct-made f key d)
+
 pub distinct-map : {A : Type 0} {f : A → ℕ} {xs : List A} → Distinct f xs → Distinct (λ k. k) (map f xs)
-distinct-map empty = empty
-distinct-map {f = f} (onto {x} {xs} a d) = onto (λ y z q. let t = Memᴰ·of-map f xs z in a (t .0) (t .1) (t .2 ∙ q)) (distinct-map d)
+distinct-map {f = f} d = distinct-made f (λ k. k) d

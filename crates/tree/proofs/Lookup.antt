@@ -9,7 +9,7 @@ use native.Mathlib.Omega.{arith}
 use lib.ListN.{length, getElem?}
 use Rattle.memory.specs.Words.{Memory}
 use Rattle.memory.specs.Apply.{isSome}
-use Rattle.tree.specs.Test.{Test, is, eq, _and_, holds}
+use Rattle.tree.specs.Test.{Test, is, eq, _and_}
 use Rattle.tree.specs.Layout.{Geometry}
 use Rattle.tree.specs.Path.{wayOf}
 use Rattle.tree.specs.Fingerprint.{Rule, fingerprint}
@@ -31,7 +31,7 @@ index-of : {n : ℕ} {ns : List ℕ} → List·Memᴰ n ns → (i : ℕ) × (get
 index-of (List·Memᴰ·head q) = (0, ap some (sym q))
 index-of (List·Memᴰ·tail z) = let t = index-of z in (suc (t .0), t .1)
 
-of-index : (ns : List ℕ) (i : ℕ) {n : ℕ} → getElem? ns i ≡ some n → List·Memᴰ n ns
+pub of-index : (ns : List ℕ) (i : ℕ) {n : ℕ} → getElem? ns i ≡ some n → List·Memᴰ n ns
 of-index [] i h = none-some h
 of-index (x ∷ ns) zero h = List·Memᴰ·head (sym (some-inj h))
 of-index (x ∷ ns) (suc i) h = List·Memᴰ·tail (of-index ns i h)

@@ -1,7 +1,7 @@
 -- The nodes on a frame's path are exactly those that the frame's ways reach.
 use mathlib.Core.Path.{_≡_, refl, ap, subst}
 use mathlib.Core.Bool.{true, false}
-use mathlib.Core.Logic.{_⊎_, inl, inr}
+use mathlib.Core.Logic.{inl, inr}
 use mathlib.Core.Option.{Option, none, some}
 use mathlib.Core.List.{List, [], _∷_}
 use Prim.Native.Nat.{ℕ, zero, suc, _+_, _<_}
@@ -19,23 +19,23 @@ use Rattle.tree.specs.Reach.{Reaches, root, down}
 use Rattle.tree.specs.Sound.{SoundTree}
 use Rattle.tree.specs.Lookup.{path, pathFrom}
 use Rattle.tree.specs.Laws.{Malformed, PathLaws}
-use Rattle.tree.proofs.Cases.{test, true-not-false, Seen, seen, nothing, just, some-inj, none-some, nonzero}
+use Rattle.tree.proofs.Cases.{test, true-not-false, seen, nothing, just, some-inj, none-some, nonzero}
 use Rattle.tree.proofs.Ways.{child-lt, length-way}
 use Rattle.tree.proofs.Nodes.{linked-depth}
 use Rattle.tree.proofs.Reach.{one-node, depth}
 
 module _ (g : Geometry) (m : Memory) (s f : ℕ) where
-  way-down : (d : ℕ) {n : ℕ} → Reaches g m s (wayOf d f) n → d < 31 → 0 < m (nextAt g n) → Reaches g m s (wayOf (suc d) f) (childOf g m n (child d f))
+  pub way-down : (d : ℕ) {n : ℕ} → Reaches g m s (wayOf d f) n → d < 31 → 0 < m (nextAt g n) → Reaches g m s (wayOf (suc d) f) (childOf g m n (child d f))
   unfolding wayOf
   way-down d r h l = let q = length-way d f in down {c = child d f} r l (rw q (child-lt d f h)) refl
 
   -- the step down to a level of the way
-  record Step (d n : ℕ) : Type 0 where
-    parent : ℕ
-    there : Reaches g m s (wayOf d f) parent
-    linked : 0 < m (nextAt g parent)
+  pub record Step (d n : ℕ) : Type 0 where
+    pub parent : ℕ
+    pub there : Reaches g m s (wayOf d f) parent
+    pub linked : 0 < m (nextAt g parent)
 
-  way-up : (d : ℕ) {n : ℕ} → Reaches g m s (wayOf (suc d) f) n → Step d n
+  pub way-up : (d : ℕ) {n : ℕ} → Reaches g m s (wayOf (suc d) f) n → Step d n
   unfolding wayOf
   way-up d (down {p = p} r k l e) = record { parent = p; there = r; linked = k }
 

@@ -95,6 +95,15 @@ module _ (g : Geometry) (m : Memory) where
   pub of-trees : {s : ℕ} → SoundTrees → SoundTree g m s
   of-trees a = record { well-formed = λ r. a .well-formed r; once = λ r r'. a .once r r' .1 }
 
+  -- no node is met twice in them
+  pub distinct-trees : SoundTrees → Distinct (λ v. v .node) (allTrees g m)
+  unfolding allTrees
+  distinct-trees a =
+      distinct-parts (tree g m) (distinct-slots g m) (λ s x. distinct-tree (of-trees a) (filled-slots g m .0 x)) (λ s s' v v' x x' z z' q.
+      let r = visited g m (filled-slots g m .0 x) (v .way) (v .node) .0 z in
+      let r' = visited g m (filled-slots g m .0 x') (v' .way) (v' .node) .0 z' in
+      a .once r (rw (sym q) at r') .0)
+
   pub decides-trees : (walkable g m (allTrees g m) ≡ true) ↔ SoundTrees
   unfolding allTrees
   decides-trees = (
@@ -102,11 +111,7 @@ module _ (g : Geometry) (m : Memory) where
       well-formed = λ r. formed-at h (together (tree g m) (slot r) (here r));
       once = λ {s} {s'} {w} {w'} {n} r r'. same s s' w w' n h r r' (same-part (tree g m) (walked-once h) (slot r) (here r) (slot r') (here r') refl);
     },
-    λ a. walks (allTrees g m) (λ v x. let t = within (tree g m) (filledSlots g m) x in a .well-formed (there t))
-        (distinct-parts (tree g m) (distinct-slots g m) (λ s x. distinct-tree (of-trees a) (filled-slots g m .0 x)) (λ s s' v v' x x' z z' q.
-        let r = visited g m (filled-slots g m .0 x) (v .way) (v .node) .0 z in
-        let r' = visited g m (filled-slots g m .0 x') (v' .way) (v' .node) .0 z' in
-        a .once r (rw (sym q) at r') .0)),
+    λ a. walks (allTrees g m) (λ v x. let t = within (tree g m) (filledSlots g m) x in a .well-formed (there t)) (distinct-trees a),
   )
     where
       slot : {s : ℕ} {w : List ℕ} {n : ℕ} → Reaches g m s w n → List·Memᴰ s (filledSlots g m)

@@ -1,0 +1,105 @@
+-- What document 01 fixes of single operations besides the demands: statements alone, over any state.
+use mathlib.Core.Path.{_≡_}
+use mathlib.Core.Bool.{true, false}
+use mathlib.Core.Logic.{_↔_, _≢_}
+use mathlib.Core.List.{[], _∷_, List·Memᴰ}
+use Prim.Native.Nat.{ℕ, _+_, _*_, _≤_, _<_}
+use lib.ListN.{length, replicate}
+use Rattle.tree.specs.Memory.{Memory}
+use Rattle.tree.specs.Test.{Says}
+use Rattle.tree.specs.Lists.{Distinct}
+use Rattle.tree.specs.Layout.{Geometry, inRange, imageWords, mapWords, editionAt, slotsAt, nodesAt, reelAt, rootAt, nextAt, locateAt, setAt, levelAt, sizeAt}
+use Rattle.tree.specs.Fingerprint.{ruleOf}
+use Rattle.tree.specs.Sound.{Sound}
+use Rattle.tree.specs.Pool.{used, mark, clearMap}
+use Rattle.book.specs.Heads.{headCount}
+use Rattle.book.specs.State.{State, format, recover, openReel, memory, shape}
+use Rattle.book.specs.Perform.{recoverStores, perform}
+use Rattle.book.specs.Agrees.{Reached}
+
+-- ---- Format
+
+-- an answered format, from a state to a state
+pub record FormatWrites (g : Geometry) (s s' : State) : Type 0 where
+  -- words 0 to 63
+  pub edition : memory s' editionAt ≡ 1
+  pub slots : memory s' slotsAt ≡ g .slots
+  pub nodes : memory s' nodesAt ≡ g .nodes
+  pub unread : (i : ℕ) → 3 ≤ i → i < 64 → memory s' i ≡ 0
+  -- the roots
+  pub roots : (k : ℕ) → k < g .slots → memory s' (rootAt k) ≡ 0
+  -- and no other word
+  pub others : (i : ℕ) → 64 ≤ i → ((k : ℕ) → k < g .slots → i ≢ rootAt k) → memory s' i ≡ memory s i
+  -- the map and the heads are all 0
+  pub map : s' .pool ≡ clearMap (mapWords g)
+  pub heads : s' .heads ≡ replicate (5 * headCount) 0
+
+-- ---- Recover
+
+-- a store of v to word i: the locate word of a reached node, whose set word is another, v
+pub record Corrects (g : Geometry) (m : Memory) (i v : ℕ) : Type 0 where
+  pub node : ℕ
+  pub reached : Reached g m node
+  pub at : i ≡ locateAt g node
+  pub differs : m (locateAt g node) ≢ m (setAt g node)
+  pub is : v ≡ m (setAt g node)
+
+-- an answered recovery, from a state to a state
+pub record RecoverWrites (s s' : State) : Type 0 where
+  -- it stores to the differing locate words of reached nodes, to each once, and to no other word
+  pub stores : (i v : ℕ) → List·Memᴰ (i, v) (recoverStores (shape s) (memory s)) ↔ Corrects (shape s) (memory s) i v
+  pub once : Distinct (λ (w : ℕ × ℕ). w .0) (recoverStores (shape s) (memory s))
+  -- so that every reached node's locate word is its set word then, and a word that changes is one of them
+  pub equal : (n : ℕ) → Reached (shape s) (memory s) n → memory s' (locateAt (shape s) n) ≡ memory s (setAt (shape s) n)
+  pub alone : (i : ℕ) → memory s' i ≢ memory s i → Corrects (shape s) (memory s) i (memory s' i)
+  -- the map marks the nodes reached
+  pub map-words : length (s' .pool) ≡ mapWords (shape s)
+  pub marks : (n : ℕ) → (used (s' .pool) n ≡ true) ↔ Reached (shape s) (memory s) n
+  -- the heads are all 0
+  pub heads : s' .heads ≡ replicate (5 * headCount) 0
+
+-- the header, the image's length and the map's length are right: none of 1, 2 and 3
+pub record Right (words : ℕ) (s : State) : Type 0 where
+  pub in-range : Says (inRange (shape s))
+  pub image-words : length (s .image) ≡ imageWords (shape s)
+  pub edition : memory s editionAt ≡ 1
+  pub map-words : words ≡ mapWords (shape s)
+
+-- ---- Open
+
+-- an answered opening of a reel
+pub record OpenTakes (words script reel : ℕ) (s : State) : Type 0 where
+  -- the lowest empty slot
+  pub slot : ℕ
+  pub slot-inside : slot < shape s .slots
+  pub slot-empty : memory s (rootAt slot) ≡ 0
+  pub slot-lowest : (k : ℕ) → k < slot → memory s (rootAt k) ≢ 0
+  -- the lowest free node of the map
+  pub node : ℕ
+  pub node-inside : node < shape s .nodes
+  pub node-free : used (s .pool) node ≡ false
+  pub node-lowest : (n : ℕ) → n < node → used (s .pool) n ≡ true
+  -- the node with size 16 and the reel number; then the root
+  pub script-is : perform (openReel words script reel) s .work .script ≡
+      ((nextAt (shape s) node, 0)
+      ∷ (locateAt (shape s) node, 0)
+      ∷ (setAt (shape s) node, 0)
+      ∷ (levelAt (shape s) node, 0)
+      ∷ (sizeAt (shape s) node, 16)
+      ∷ (reelAt slot, reel)
+      ∷ [])
+      ∷ ((rootAt slot, node + 1) ∷ [])
+      ∷ []
+  -- the node is marked
+  pub map : perform (openReel words script reel) s .work .after .pool ≡ mark (s .pool) node
+
+-- ---- all of them
+
+pub record Fixed : Type 0 where
+  pub formats : (words : ℕ) (g : Geometry) (s : State) → perform (format words (g .slots) (g .nodes)) s .answer ≡ 0
+      → FormatWrites g s (perform (format words (g .slots) (g .nodes)) s .work .after)
+  -- Recover is refused 4 exactly if the image is not sound
+  pub unsound : (words : ℕ) (s : State) → Right words s
+      → (perform (recover words) s .answer ≡ 4) ↔ (Sound (ruleOf (memory s)) (shape s) (memory s) → ⊥)
+  pub recovers : (words : ℕ) (s : State) → perform (recover words) s .answer ≡ 0 → RecoverWrites s (perform (recover words) s .work .after)
+  pub opens : (words script reel : ℕ) (s : State) → perform (openReel words script reel) s .answer ≡ 0 → OpenTakes words script reel s

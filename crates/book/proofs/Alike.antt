@@ -13,7 +13,8 @@ use borrow.Author.Tests.{ltb-false, leb-true, le-leb, lt-leb, not-false}
 use Rattle.tree.specs.Memory.{reads, isSome, Fit}
 use Rattle.tree.specs.Test.{Test, lt, le, ne, is, _and_, _or_, holds, Says}
 use Rattle.tree.specs.Lists.{empty}
-use Rattle.tree.specs.Layout.{Geometry, imageWords, editionAt}
+use Rattle.tree.specs.declared.layout.Geometry.{Geometry}
+use Rattle.tree.specs.Layout.{badImage, imageWords, editionAt}
 use Rattle.tree.specs.Slots.{slotOf, emptySlot}
 use Rattle.tree.specs.Lookup.{pathFrom, freeRun}
 use Rattle.tree.proofs.Cases.{test, true-not-false}
@@ -22,7 +23,7 @@ use Rattle.book.specs.Heads.{headCount, headAt, targetOf}
 use Rattle.book.specs.Refusals.{Refusal, _gives_, refusal}
 use Rattle.book.specs.Room.{roomOn, needs, atLevel31}
 use Rattle.book.specs.State.{State, Operation, format, recover, openReel, claim, fill, commit, abandon, remove, has, list, retire, arguments, Work, memory, shape}
-use Rattle.book.specs.Checks.{badImage, badMap, badScript, outside, noPath, refusals}
+use Rattle.book.specs.Checks.{badMap, badScript, outside, noPath, refusals}
 use Rattle.book.specs.Perform.{oneIf, granted, perform}
 use Rattle.book.specs.Table as table
 use Rattle.book.specs.Table.{Table, TableHead, TableWork, Fed, noRun, fed, isPresent, tableHead, tableRefusals, tableWork, reply}

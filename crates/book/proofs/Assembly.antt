@@ -8,7 +8,8 @@ use native.Mathlib.Decide.{ℕ-discrete}
 use lib.Seq.{ext-getD}
 use lib.Dec.{eqb}
 use Rattle.tree.specs.Memory.{reads, segmented, apply, CrashImage, passed, Fit}
-use Rattle.tree.specs.Layout.{Geometry, mapWords, geometryOf}
+use Rattle.tree.specs.declared.layout.Geometry.{Geometry}
+use Rattle.tree.specs.Layout.{mapWords, geometryOf}
 use Rattle.tree.proofs.Memory.{crash-laws}
 use Rattle.book.specs.State.{State, Operation, format, recover, openReel, claim, fill, commit, abandon, remove, has, list, retire, arguments}
 use Rattle.book.specs.Perform.{granted, perform}

@@ -8,7 +8,8 @@ use native.Mathlib.Omega.{arith}
 use native.Mathlib.Decide.{ℕ-discrete}
 use lib.ListN.{length}
 use Rattle.tree.specs.Memory.{reads, isSet}
-use Rattle.tree.specs.Layout.{Geometry, geometryOf, locateAt}
+use Rattle.tree.specs.declared.layout.Geometry.{Geometry}
+use Rattle.tree.specs.Layout.{geometryOf, locateAt}
 use Rattle.tree.specs.Node.{held}
 use Rattle.tree.specs.Reach.{FrameOf}
 use Rattle.book.specs.declared.Target.{Target}

@@ -8,7 +8,8 @@ use native.Mathlib.Decide.{ℕ-discrete, decLt}
 use lib.ListN.{length, set, length-set}
 use lib.Seq.{getD-set-same, getD-set-other, set-out, ext-getD}
 use Rattle.tree.specs.Memory.{Memory, reads, Store, stores, apply, Torn, FallsIn, after-all, here, later}
-use Rattle.tree.specs.Layout.{Geometry, editionAt, slotsAt, nodesAt}
+use Rattle.tree.specs.declared.layout.Geometry.{Geometry}
+use Rattle.tree.specs.Layout.{editionAt, slotsAt, nodesAt}
 use Rattle.book.specs.Table.{Reel}
 use Rattle.book.proofs.View.{Header, View}
 use Rattle.book.proofs.Stored.{header-same}

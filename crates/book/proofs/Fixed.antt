@@ -9,7 +9,8 @@ use borrow.Author.Tests.{not-false}
 use lib.ListN.{length}
 use Rattle.tree.specs.Memory.{reads}
 use Rattle.tree.specs.Test.{ne, is}
-use Rattle.tree.specs.Layout.{Geometry, inRange, imageWords, editionAt, slotsAt, nodesAt, rootAt}
+use Rattle.tree.specs.declared.layout.Geometry.{Geometry}
+use Rattle.tree.specs.Layout.{badImage, inRange, imageWords, editionAt, slotsAt, nodesAt, rootAt}
 use Rattle.tree.specs.Fingerprint.{ruleOf}
 use Rattle.tree.specs.Slots.{emptySlot}
 use Rattle.tree.specs.Sound.{Sound}
@@ -21,7 +22,7 @@ use Rattle.tree.proofs.Cases.{test, true-not-false}
 use Rattle.tree.proofs.Laws.{slot-laws, sound-laws, run-laws, node-laws, pool-laws}
 use Rattle.book.specs.Refusals.{_gives_, refusal}
 use Rattle.book.specs.State.{State, format, recover, openReel, memory, shape}
-use Rattle.book.specs.Checks.{badImage, badMap, refusals}
+use Rattle.book.specs.Checks.{badMap, refusals}
 use Rattle.book.specs.Perform.{formatStores, recoverStores, nodesOf, openScript, granted, perform}
 use Rattle.book.specs.Agrees.{Reached}
 use Rattle.book.specs.Fixed.{FormatWrites, RecoverWrites, Right, OpenTakes, Fixed}

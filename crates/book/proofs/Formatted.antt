@@ -9,7 +9,8 @@ use lib.ListN.{length}
 use Rattle.tree.specs.Memory.{Memory, reads, Store, stores, apply, Fit}
 use Rattle.tree.specs.Test.{Says}
 use Rattle.tree.specs.Lists.{range, upTo, empty}
-use Rattle.tree.specs.Layout.{Geometry, inRange, imageWords, mapWords, editionAt, slotsAt, nodesAt, geometryOf, rootAt}
+use Rattle.tree.specs.declared.layout.Geometry.{Geometry}
+use Rattle.tree.specs.Layout.{badImage, inRange, imageWords, mapWords, editionAt, slotsAt, nodesAt, geometryOf, rootAt}
 use Rattle.tree.specs.Fingerprint.{ruleOf}
 use Rattle.tree.specs.Slots.{Filled}
 use Rattle.tree.specs.Reach.{Reaches}
@@ -22,7 +23,7 @@ use Rattle.tree.proofs.Laws.{reach-laws, sound-laws}
 use Rattle.book.specs.Heads.{idleHeads}
 use Rattle.book.specs.Refusals.{_gives_, refusal}
 use Rattle.book.specs.State.{State, format, leaving}
-use Rattle.book.specs.Checks.{badImage, badMap, refusals}
+use Rattle.book.specs.Checks.{badMap, refusals}
 use Rattle.book.specs.Perform.{formatStores, granted, perform}
 use Rattle.book.specs.Table.{emptyTable}
 use Rattle.book.specs.Agrees.{Agrees}

@@ -11,14 +11,14 @@ use lib.ListN.{length}
 use lib.Dec.{eqb, ltb}
 use borrow.Author.Tests.{ltb-true, lt-ltb}
 use Rattle.tree.specs.Memory.{Memory, reads, isSome, Fit}
-use Rattle.tree.specs.Layout.{Geometry, imageWords, nextAt, sizeAt}
+use Rattle.tree.specs.declared.layout.Geometry.{Geometry}
+use Rattle.tree.specs.Layout.{badImage, imageWords, nextAt, sizeAt}
 use Rattle.tree.specs.Path.{levels, fanout, child}
 use Rattle.tree.specs.Fingerprint.{Rule, fingerprint, ruleOf, editionOne}
 use Rattle.tree.specs.Node.{childOf, wellFormed}
 use Rattle.tree.specs.Lookup.{Spot, firstSpot, path, pathFrom, clearAt, clearSpot, foundAt, lookup, find, freeRun}
 use Rattle.book.specs.Heads.{stateOf, headAt, targetOf}
 use Rattle.book.specs.Room.{Room, clear, scaleUp, branchOut, lastOf, fullRoom, roomOn}
-use Rattle.book.specs.Checks.{badImage}
 use Rattle.book.specs.Perform.{foundSpot}
 use Rattle.tree.proofs.Cases.{test, seen, nothing, just, some-inj, none-some, true-not-false}
 use Rattle.tree.proofs.Laws.{node-laws, spot-laws, run-laws, fingerprint-laws}

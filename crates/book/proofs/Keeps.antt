@@ -4,7 +4,8 @@ use mathlib.Core.Logic.{_⊎_, inl, inr}
 use mathlib.Core.List.{List}
 use Prim.Native.Nat.{ℕ}
 use Rattle.tree.specs.Memory.{Memory, reads, Store, segmented, CrashImage}
-use Rattle.tree.specs.Layout.{Geometry, reelAt}
+use Rattle.tree.specs.declared.layout.Geometry.{Geometry}
+use Rattle.tree.specs.Layout.{reelAt}
 use Rattle.tree.specs.Fingerprint.{Rule}
 use Rattle.tree.specs.Slots.{Filled}
 use Rattle.tree.specs.Reach.{Holds, FrameOf}

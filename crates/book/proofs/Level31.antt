@@ -11,7 +11,8 @@ use lib.ListN.{length}
 use lib.Pow.{shr-lt}
 use borrow.Author.Tests.{ne-eqb}
 use Rattle.tree.specs.Memory.{Memory, reads, isSet}
-use Rattle.tree.specs.Layout.{Geometry, geometryOf, locateAt, frameAt}
+use Rattle.tree.specs.declared.layout.Geometry.{Geometry}
+use Rattle.tree.specs.Layout.{geometryOf, locateAt, frameAt}
 use Rattle.tree.specs.Path.{fanout}
 use Rattle.tree.specs.Fingerprint.{Rule}
 use Rattle.tree.specs.Node.{held, frame}

@@ -6,7 +6,8 @@ use mathlib.Core.List.{List}
 use Prim.Native.Nat.{ℕ, _<_}
 use lib.ListN.{length}
 use Rattle.tree.specs.Memory.{reads, isSet}
-use Rattle.tree.specs.Layout.{Geometry, locateAt}
+use Rattle.tree.specs.declared.layout.Geometry.{Geometry}
+use Rattle.tree.specs.Layout.{locateAt}
 use Rattle.tree.specs.Node.{held}
 use Rattle.tree.specs.Slots.{Filled}
 use Rattle.tree.specs.Reach.{Reaches, root}

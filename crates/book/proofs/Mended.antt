@@ -7,7 +7,8 @@ use Prim.Native.Nat.{ℕ, _%_}
 use native.Mathlib.Omega.{arith}
 use lib.ListN.{length}
 use Rattle.tree.specs.Memory.{Memory, reads, byte, Fit}
-use Rattle.tree.specs.Layout.{Geometry, editionAt, slotsAt, nodesAt, reelAt, rootAt, nextAt, locateAt, setAt, levelAt, sizeAt, fingerprintsAt, frameAt}
+use Rattle.tree.specs.declared.layout.Geometry.{Geometry}
+use Rattle.tree.specs.Layout.{editionAt, slotsAt, nodesAt, reelAt, rootAt, nextAt, locateAt, setAt, levelAt, sizeAt, fingerprintsAt, frameAt}
 use Rattle.tree.specs.Node.{wellFormed}
 use Rattle.tree.specs.Same.{Same}
 use Rattle.tree.proofs.Laws.{node-laws}

@@ -6,7 +6,8 @@ use Prim.Native.Nat.{ℕ, zero, suc, _+_, _^_, _≤_, _<_}
 use native.Mathlib.Omega.{arith}
 use lib.ListN.{getD, set}
 use Rattle.tree.specs.Memory.{Memory, reads, Store, stores, apply, Torn}
-use Rattle.tree.specs.Layout.{Geometry, nodeAt, nextAt, locateAt, setAt, levelAt, sizeAt}
+use Rattle.tree.specs.declared.layout.Geometry.{Geometry}
+use Rattle.tree.specs.Layout.{nodeAt, nextAt, locateAt, setAt, levelAt, sizeAt}
 use Rattle.tree.specs.Reach.{Reaches}
 use Rattle.tree.specs.Same.{Same, SameWords}
 use Rattle.tree.proofs.Lists.{within, together}

@@ -7,7 +7,8 @@ use native.Mathlib.Omega.{arith}
 use lib.ListN.{length, set, length-set}
 use lib.Seq.{getD-set-same, getD-set-other}
 use Rattle.tree.specs.Memory.{reads, Store, stores, segmented, apply}
-use Rattle.tree.specs.Layout.{Geometry, reelAt, rootAt, nodeAt}
+use Rattle.tree.specs.declared.layout.Geometry.{Geometry}
+use Rattle.tree.specs.Layout.{reelAt, rootAt, nodeAt}
 use Rattle.tree.specs.Slots.{Filled, slotOf, emptySlot}
 use Rattle.tree.specs.Lookup.{freeRun}
 use Rattle.tree.specs.Pool.{mark}

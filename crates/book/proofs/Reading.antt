@@ -13,7 +13,8 @@ use borrow.Author.Tests.{eqb-true, eq-eqb}
 use Rattle.tree.specs.Memory.{Memory, reads, isSome}
 use Rattle.tree.specs.Test.{ne, holds}
 use Rattle.tree.specs.Lists.{Distinct, onto}
-use Rattle.tree.specs.Layout.{Geometry, inRange, editionAt, geometryOf, reelAt, rootAt, sizeAt}
+use Rattle.tree.specs.declared.layout.Geometry.{Geometry}
+use Rattle.tree.specs.Layout.{badImage, inRange, editionAt, geometryOf, reelAt, rootAt, sizeAt}
 use Rattle.tree.specs.Path.{wayOf}
 use Rattle.tree.specs.Fingerprint.{ruleOf}
 use Rattle.tree.specs.Slots.{Filled, filledSlots, reelsPresent, slotOf, emptySlot}
@@ -31,7 +32,6 @@ use Rattle.book.specs.declared.HeadState.{HeadState}
 use Rattle.book.specs.Heads as book
 use Rattle.book.specs.Heads.{targetOf, names, busy}
 use Rattle.book.specs.State.{State}
-use Rattle.book.specs.Checks.{badImage}
 use Rattle.book.specs.Table as table
 use Rattle.book.specs.Table.{Table, TableHead, Reel, geometry, framesIn, orEmpty, isPresent, framesOf, isHeld, isAbout, isBusy}
 use Rattle.book.specs.Agrees.{EachOnce, Shows, Claims, HeadAgrees, both-idle, both-claimed, both-filled, Agrees}

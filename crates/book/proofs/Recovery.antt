@@ -12,7 +12,8 @@ use lib.Dec.{eqb}
 use borrow.Author.Tests.{eqb-true, eqb-false, ne-eqb, not-true}
 use Rattle.tree.specs.Memory.{Memory, reads, Store, stores, apply}
 use Rattle.tree.specs.Test.{ne, is}
-use Rattle.tree.specs.Layout.{Geometry, inRange, mapWords, editionAt, geometryOf, locateAt, setAt}
+use Rattle.tree.specs.declared.layout.Geometry.{Geometry}
+use Rattle.tree.specs.Layout.{badImage, inRange, mapWords, editionAt, geometryOf, locateAt, setAt}
 use Rattle.tree.specs.Fingerprint.{Rule, ruleOf}
 use Rattle.tree.specs.Sound.{Sound}
 use Rattle.tree.specs.Lists.{Distinct}
@@ -32,7 +33,7 @@ use Rattle.tree.proofs.Laws.{slot-laws, tree-laws, reach-laws, sound-laws, node
 use Rattle.book.specs.Heads.{idleHeads}
 use Rattle.book.specs.Refusals.{_gives_}
 use Rattle.book.specs.State.{State, recover, Work, leaving}
-use Rattle.book.specs.Checks.{badImage, badMap, refusals}
+use Rattle.book.specs.Checks.{badMap, refusals}
 use Rattle.book.specs.Perform.{recoverStores, nodesOf, granted, perform}
 use Rattle.book.specs.Table.{Reel}
 use Rattle.book.specs.Agrees.{Agrees, Reached}

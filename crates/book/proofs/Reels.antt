@@ -10,7 +10,8 @@ use lib.Dec.{eqb}
 use borrow.Author.Tests.{eq-eqb, ne-eqb}
 use Rattle.tree.specs.Memory.{Memory}
 use Rattle.tree.specs.Lists.{keep}
-use Rattle.tree.specs.Layout.{Geometry, reelAt, rootAt, nodeAt}
+use Rattle.tree.specs.declared.layout.Geometry.{Geometry}
+use Rattle.tree.specs.Layout.{reelAt, rootAt, nodeAt}
 use Rattle.tree.specs.Fingerprint.{Rule}
 use Rattle.tree.specs.Slots.{Filled}
 use Rattle.tree.specs.Reach.{Holds, FrameOf}

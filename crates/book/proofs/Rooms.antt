@@ -11,7 +11,8 @@ use lib.ListN.{length, getElem?}
 use lib.Dec.{ltb}
 use borrow.Author.Tests.{ltb-true, ltb-false, not-true, not-false}
 use Rattle.tree.specs.Memory.{Memory, isSet}
-use Rattle.tree.specs.Layout.{Geometry, nextAt, locateAt, sizeAt}
+use Rattle.tree.specs.declared.layout.Geometry.{Geometry}
+use Rattle.tree.specs.Layout.{nextAt, locateAt, sizeAt}
 use Rattle.tree.specs.Path.{child, wayOf}
 use Rattle.tree.specs.Node.{childOf}
 use Rattle.tree.specs.Slots.{Filled, rootOf}

@@ -9,7 +9,8 @@ use native.Mathlib.Decide.{ℕ-discrete}
 use lib.ListN.{length, set}
 use lib.Pow.{pow-mono}
 use Rattle.tree.specs.Memory.{Memory, reads, byte, withByte}
-use Rattle.tree.specs.Layout.{Geometry, reelAt, rootAt, nodeAt, nextAt, locateAt, setAt, levelAt, sizeAt, fingerprintsAt, frameAt}
+use Rattle.tree.specs.declared.layout.Geometry.{Geometry}
+use Rattle.tree.specs.Layout.{reelAt, rootAt, nodeAt, nextAt, locateAt, setAt, levelAt, sizeAt, fingerprintsAt, frameAt}
 use Rattle.tree.specs.Fingerprint.{Rule}
 use Rattle.tree.specs.Node.{formed, wellFormed, held}
 use Rattle.tree.specs.Slots.{Filled}

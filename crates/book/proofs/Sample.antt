@@ -7,7 +7,7 @@ use native.Mathlib.Omega.{arith}
 use lib.ListN.{replicate}
 use lib.Dec.{eqb}
 use Rattle.tree.specs.Memory.{field, withField, bit, isSet, withBit, byte, withByte, marked, first, stores, segmented, apply, Fit}
-use Rattle.tree.specs.Layout.{geometryOf}
+use Rattle.tree.specs.Layout.{badImage, geometryOf}
 use Rattle.tree.specs.Lists.{upTo, range, keep, every, hasKey, distinct}
 use Rattle.tree.specs.Fingerprint.{fingerprint, editionOne, folded, tableEntry, ruleOf}
 use Rattle.tree.specs.Node.{formed, wellFormed, sizeAllowed}
@@ -21,7 +21,7 @@ use Rattle.book.specs.Heads.{stateOf, headAt, wordsOf, withHead, busy}
 use Rattle.book.specs.Refusals.{refusal}
 use Rattle.book.specs.Room.{roomOn}
 use Rattle.book.specs.State.{State, Operation, format, recover, openReel, claim, fill, commit, has, arguments}
-use Rattle.book.specs.Checks.{badImage, refusals}
+use Rattle.book.specs.Checks.{refusals}
 use Rattle.book.specs.Perform.{formatStores, openScript, roomScript, claimScript, fillScript, recoverStores, granted, leaves, clears, perform}
 use Rattle.book.specs.Table.{Table, Fed, nothing, fed, isPresent, framesOf, isHeld, tableRefusals, tableWork, reply, emptyTable, allIdle}
 use Rattle.book.specs.Agrees.{Agrees}

@@ -7,11 +7,12 @@ use native.Mathlib.Omega.{arith}
 use native.Mathlib.Decide.{ℕ-discrete}
 use lib.ListN.{length}
 use Rattle.tree.specs.Memory.{reads, Entry, encode, stores, segmented, apply, Inside, Fit}
-use Rattle.tree.specs.Layout.{Geometry, slotsAt, nodesAt, geometryOf}
+use Rattle.tree.specs.declared.layout.Geometry.{Geometry}
+use Rattle.tree.specs.Layout.{badImage, slotsAt, nodesAt, geometryOf}
 use Rattle.tree.specs.Fingerprint.{ruleOf}
 use Rattle.book.specs.Refusals.{refusal}
 use Rattle.book.specs.State.{State, Operation, format, recover, openReel, claim, fill, commit, abandon, remove, has, list, retire, arguments, Work}
-use Rattle.book.specs.Checks.{badImage, refusals}
+use Rattle.book.specs.Checks.{refusals}
 use Rattle.book.specs.CarryOut.{carry, carried}
 use Rattle.book.specs.Perform.{formatStores, recoverStores, granted, perform}
 use Rattle.book.specs.Demands.{WritesImage, by-format, by-recover, GoodScript, Scripts}

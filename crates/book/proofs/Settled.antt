@@ -6,7 +6,8 @@ use mathlib.Core.List.{List}
 use Prim.Native.Nat.{ℕ}
 use lib.ListN.{length, replicate, length-replicate}
 use Rattle.tree.specs.Memory.{reads}
-use Rattle.tree.specs.Layout.{Geometry, mapWords, geometryOf, locateAt, setAt}
+use Rattle.tree.specs.declared.layout.Geometry.{Geometry}
+use Rattle.tree.specs.Layout.{mapWords, geometryOf, locateAt, setAt}
 use Rattle.tree.specs.Pool.{used}
 use Rattle.book.specs.Heads.{headCount, headAt, idleHeads, isIdle}
 use Rattle.book.specs.Table.{Table, Reel, idle, allIdle}

@@ -5,7 +5,8 @@ use mathlib.Core.List.{List, [], _∷_, map, List·Memᴰ, Memᴰ·map, Memᴰ·
 use Prim.Native.Nat.{ℕ}
 use Rattle.tree.specs.Memory.{Memory, reads}
 use Rattle.tree.specs.Lists.{Distinct, empty, onto}
-use Rattle.tree.specs.Layout.{Geometry, geometryOf, reelAt}
+use Rattle.tree.specs.declared.layout.Geometry.{Geometry}
+use Rattle.tree.specs.Layout.{geometryOf, reelAt}
 use Rattle.tree.specs.Fingerprint.{Rule, ruleOf}
 use Rattle.tree.specs.Slots.{filledSlots, reelsPresent}
 use Rattle.tree.specs.Sound.{Sound}

@@ -2,7 +2,7 @@
 use mathlib.Core.Path.{refl}
 use mathlib.Core.List.{flatMap}
 use Rattle.tree.specs.Memory.{field, withField, bit, isSet, withBit, withoutBit, byte, withByte, marked, first, stores, segmented, apply}
-use Rattle.tree.specs.Layout.{geometryOf}
+use Rattle.tree.specs.Layout.{badImage, geometryOf}
 use Rattle.tree.specs.Lists.{upTo, range, keep, every, hasKey, distinct}
 use Rattle.tree.specs.Path.{child, fanout}
 use Rattle.tree.specs.Fingerprint.{fingerprint, editionOne, folded, tableEntry, ruleOf}
@@ -15,7 +15,7 @@ use Rattle.tree.specs.Pool.{mark, unmark, markAll, unmarkAll}
 use Rattle.book.specs.Heads.{stateOf, headAt, wordsOf, withHead, busy}
 use Rattle.book.specs.Refusals.{refusal}
 use Rattle.book.specs.Room.{lastOf, fullRoom, roomOn}
-use Rattle.book.specs.Checks.{badImage, refusals}
+use Rattle.book.specs.Checks.{refusals}
 use Rattle.book.specs.Perform.{formatStores, openScript, roomScript, claimScript, fillScript, nodesOf, granted, leaves, clears, perform}
 use Rattle.book.specs.Starred.{run, formatted, keeps, withFrames, withGaps, starred, Starred}
 

@@ -5,7 +5,8 @@ use mathlib.Core.List.{List, [], _∷_}
 use Prim.Native.Nat.{ℕ, _<_}
 use native.Mathlib.Omega.{arith}
 use Rattle.tree.specs.Memory.{Memory, reads, isSet, withoutBit, Store, Fit}
-use Rattle.tree.specs.Layout.{Geometry, geometryOf, locateAt, setAt}
+use Rattle.tree.specs.declared.layout.Geometry.{Geometry}
+use Rattle.tree.specs.Layout.{geometryOf, locateAt, setAt}
 use Rattle.tree.specs.Node.{held}
 use Rattle.tree.specs.Same.{Stores}
 use Rattle.tree.proofs.Memory.{bit-laws}

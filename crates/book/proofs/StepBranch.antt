@@ -7,7 +7,8 @@ use Prim.Native.Nat.{ℕ, suc, _+_, _*_, _%_, _<_}
 use native.Mathlib.Omega.{arith}
 use lib.ListN.{length, set}
 use Rattle.tree.specs.Memory.{Memory, reads, isSet, withBit, byte}
-use Rattle.tree.specs.Layout.{Geometry, nextAt, locateAt, setAt, sizeAt, fingerprintsAt, frameAt}
+use Rattle.tree.specs.declared.layout.Geometry.{Geometry}
+use Rattle.tree.specs.Layout.{nextAt, locateAt, setAt, sizeAt, fingerprintsAt, frameAt}
 use Rattle.tree.specs.Path.{fanout, child, wayOf}
 use Rattle.tree.specs.Node.{held}
 use Rattle.tree.specs.Reach.{Reaches}

@@ -8,7 +8,8 @@ use native.Mathlib.Omega.{arith}
 use native.Mathlib.Decide.{ℕ-discrete}
 use lib.ListN.{length, set}
 use Rattle.tree.specs.Memory.{Memory, reads, isSet, withBit}
-use Rattle.tree.specs.Layout.{Geometry, locateAt, setAt, sizeAt}
+use Rattle.tree.specs.declared.layout.Geometry.{Geometry}
+use Rattle.tree.specs.Layout.{locateAt, setAt, sizeAt}
 use Rattle.tree.specs.Path.{wayOf}
 use Rattle.tree.specs.Node.{held}
 use Rattle.tree.specs.Reach.{Reaches}

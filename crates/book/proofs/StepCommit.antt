@@ -8,7 +8,8 @@ use native.Mathlib.Omega.{arith}
 use lib.ListN.{length, set}
 use borrow.Author.Tests.{not-false}
 use Rattle.tree.specs.Memory.{Memory, reads, isSet, withBit, Store, Fit}
-use Rattle.tree.specs.Layout.{Geometry, geometryOf, locateAt, setAt}
+use Rattle.tree.specs.declared.layout.Geometry.{Geometry}
+use Rattle.tree.specs.Layout.{geometryOf, locateAt, setAt}
 use Rattle.tree.specs.Path.{wayOf}
 use Rattle.tree.specs.Fingerprint.{ruleOf}
 use Rattle.tree.specs.Node.{held}

@@ -7,7 +7,8 @@ use native.Mathlib.Omega.{arith}
 use lib.ListN.{set}
 use borrow.Author.Tests.{not-false}
 use Rattle.tree.specs.Memory.{Memory, reads, isSet, byte, withByte, Store, Fit}
-use Rattle.tree.specs.Layout.{Geometry, geometryOf, locateAt, setAt, fingerprintsAt, frameAt}
+use Rattle.tree.specs.declared.layout.Geometry.{Geometry}
+use Rattle.tree.specs.Layout.{geometryOf, locateAt, setAt, fingerprintsAt, frameAt}
 use Rattle.tree.specs.Fingerprint.{fingerprint, ruleOf}
 use Rattle.tree.specs.Node.{held}
 use Rattle.tree.specs.Same.{Stores}

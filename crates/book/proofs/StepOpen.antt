@@ -7,7 +7,8 @@ use Prim.Native.Nat.{ℕ, suc, _+_, _^_, _<_}
 use native.Mathlib.Omega.{arith}
 use lib.ListN.{length, set}
 use Rattle.tree.specs.Memory.{Memory, reads, isSet, Fit, Store, stores, apply, Torn}
-use Rattle.tree.specs.Layout.{Geometry, reelAt, rootAt, locateAt, setAt, sizeAt}
+use Rattle.tree.specs.declared.layout.Geometry.{Geometry}
+use Rattle.tree.specs.Layout.{reelAt, rootAt, locateAt, setAt, sizeAt}
 use Rattle.tree.specs.Fingerprint.{ruleOf}
 use Rattle.tree.specs.Node.{held}
 use Rattle.tree.specs.Slots.{Filled}

@@ -10,7 +10,8 @@ use native.Mathlib.Decide.{decLt}
 use lib.ListN.{length, set}
 use borrow.Author.Tests.{not-false}
 use Rattle.tree.specs.Memory.{Memory, reads, isSet, withoutBit, Store, isSome, Fit}
-use Rattle.tree.specs.Layout.{Geometry, geometryOf, reelAt, locateAt, setAt, sizeAt}
+use Rattle.tree.specs.declared.layout.Geometry.{Geometry}
+use Rattle.tree.specs.Layout.{geometryOf, reelAt, locateAt, setAt, sizeAt}
 use Rattle.tree.specs.Fingerprint.{ruleOf}
 use Rattle.tree.specs.Node.{held}
 use Rattle.tree.specs.Slots.{slotOf}

@@ -9,7 +9,8 @@ use lib.ListN.{length, set}
 use lib.Dec.{eqb}
 use Rattle.tree.specs.Memory.{Memory, reads, Fit, stores, segmented, apply}
 use Rattle.tree.specs.Lists.{keep}
-use Rattle.tree.specs.Layout.{Geometry, reelAt, rootAt}
+use Rattle.tree.specs.declared.layout.Geometry.{Geometry}
+use Rattle.tree.specs.Layout.{reelAt, rootAt}
 use Rattle.tree.specs.Fingerprint.{ruleOf}
 use Rattle.tree.specs.Slots.{Filled, slotOf}
 use Rattle.tree.specs.Reach.{Reaches}

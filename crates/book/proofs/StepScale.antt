@@ -6,7 +6,8 @@ use native.Mathlib.Omega.{arith}
 use native.Mathlib.Decide.{ℕ-discrete}
 use lib.ListN.{length, set}
 use Rattle.tree.specs.Memory.{Memory, reads, isSet, withBit}
-use Rattle.tree.specs.Layout.{Geometry, nextAt, locateAt, setAt, sizeAt}
+use Rattle.tree.specs.declared.layout.Geometry.{Geometry}
+use Rattle.tree.specs.Layout.{nextAt, locateAt, setAt, sizeAt}
 use Rattle.tree.specs.Reach.{Reaches}
 use Rattle.tree.specs.Same.{Same, Stores}
 use Rattle.tree.specs.Laws.{WellFormed}

@@ -5,7 +5,8 @@ use mathlib.Core.List.{List}
 use Prim.Native.Nat.{ℕ, _+_, _*_, _%_, _≤_, _<_}
 use native.Mathlib.Omega.{arith}
 use Rattle.tree.specs.Memory.{Memory, reads, isSet, byte}
-use Rattle.tree.specs.Layout.{Geometry, reelAt, rootAt, nodeAt, nextAt, locateAt, setAt, sizeAt, fingerprintsAt, frameAt}
+use Rattle.tree.specs.declared.layout.Geometry.{Geometry}
+use Rattle.tree.specs.Layout.{reelAt, rootAt, nodeAt, nextAt, locateAt, setAt, sizeAt, fingerprintsAt, frameAt}
 use Rattle.tree.specs.Reach.{Reaches}
 use Rattle.tree.specs.Same.{Same, SameWords, Stores}
 use Rattle.tree.proofs.Words.{same-next, same-frames}

@@ -7,7 +7,8 @@ use native.Mathlib.Decide.{ℕ-discrete}
 use lib.ListN.{length, set, length-set}
 use lib.Seq.{getD-set-same, getD-set-other}
 use Rattle.tree.specs.Memory.{Memory, reads, Fit}
-use Rattle.tree.specs.Layout.{Geometry, inRange, editionAt, slotsAt, nodesAt, geometryOf, rootAt, nodeAt}
+use Rattle.tree.specs.declared.layout.Geometry.{Geometry}
+use Rattle.tree.specs.Layout.{inRange, editionAt, slotsAt, nodesAt, geometryOf, rootAt, nodeAt}
 use Rattle.tree.specs.Fingerprint.{ruleOf}
 use Rattle.tree.specs.Same.{Stores}
 use Rattle.book.proofs.View.{Header}

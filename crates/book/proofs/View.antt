@@ -7,7 +7,8 @@ use lib.ListN.{length}
 use Rattle.tree.specs.Memory.{Memory, reads, Fit}
 use Rattle.tree.specs.Test.{Says}
 use Rattle.tree.specs.Lists.{Distinct}
-use Rattle.tree.specs.Layout.{Geometry, inRange, imageWords, editionAt, geometryOf, reelAt}
+use Rattle.tree.specs.declared.layout.Geometry.{Geometry}
+use Rattle.tree.specs.Layout.{inRange, imageWords, editionAt, geometryOf, reelAt}
 use Rattle.tree.specs.Fingerprint.{ruleOf}
 use Rattle.tree.specs.Slots.{Filled}
 use Rattle.tree.specs.Reach.{FrameOf}

@@ -9,7 +9,8 @@ use lib.ListN.{length}
 use lib.Dec.{eqb}
 use Rattle.tree.specs.Memory.{reads}
 use Rattle.tree.specs.Lists.{keep}
-use Rattle.tree.specs.Layout.{Geometry, reelAt, rootAt, nextAt, setAt}
+use Rattle.tree.specs.declared.layout.Geometry.{Geometry}
+use Rattle.tree.specs.Layout.{reelAt, rootAt, nextAt, setAt}
 use Rattle.tree.specs.Fingerprint.{ruleOf}
 use Rattle.tree.specs.Node.{wellFormed, frame}
 use Rattle.tree.specs.Slots.{Filled}

@@ -10,7 +10,8 @@ use lib.Seq.{getD-set-same, getD-set-other, set-out}
 use lib.Dec.{eqb}
 use borrow.Author.Tests.{eq-eqb}
 use Rattle.tree.specs.Memory.{reads, Store, store, stores, segmented, apply, CrashImage, Torn, passed, Fit}
-use Rattle.tree.specs.Layout.{Geometry, mapWords, reelAt, geometryOf}
+use Rattle.tree.specs.declared.layout.Geometry.{Geometry}
+use Rattle.tree.specs.Layout.{mapWords, reelAt, geometryOf}
 use Rattle.tree.specs.Slots.{emptySlot}
 use Rattle.tree.specs.Lookup.{freeRun}
 use Rattle.tree.proofs.Cases.{test}

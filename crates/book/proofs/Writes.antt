@@ -7,7 +7,8 @@ use native.Mathlib.Omega.{arith}
 use lib.ListN.{length}
 use borrow.Author.Tests.{eqb-false}
 use Rattle.tree.specs.Memory.{Memory, Store}
-use Rattle.tree.specs.Layout.{Geometry, rootAt, locateAt, setAt, fingerprintsAt}
+use Rattle.tree.specs.declared.layout.Geometry.{Geometry}
+use Rattle.tree.specs.Layout.{rootAt, locateAt, setAt, fingerprintsAt}
 use Rattle.tree.specs.Lists.{range}
 use Rattle.tree.specs.Path.{fanout}
 use Rattle.tree.specs.Fingerprint.{fingerprint, ruleOf}

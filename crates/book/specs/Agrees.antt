@@ -8,7 +8,8 @@ use lib.ListN.{length}
 use Rattle.tree.specs.Memory.{Memory, reads, isSet, Fit}
 use Rattle.tree.specs.Test.{Says}
 use Rattle.tree.specs.Lists.{Distinct}
-use Rattle.tree.specs.Layout.{Geometry, inRange, imageWords, mapWords, editionAt, geometryOf, reelAt, locateAt, sizeAt}
+use Rattle.tree.specs.declared.layout.Geometry.{Geometry}
+use Rattle.tree.specs.Layout.{inRange, imageWords, mapWords, editionAt, geometryOf, reelAt, locateAt, sizeAt}
 use Rattle.tree.specs.Path.{wayOf}
 use Rattle.tree.specs.Fingerprint.{fingerprint, ruleOf}
 use Rattle.tree.specs.Node.{held, frame, storedFingerprint}

@@ -5,8 +5,7 @@ use Prim.Native.Nat.{ℕ}
 use lib.ListN.{length}
 use Rattle.tree.specs.Memory.{reads, carryOut}
 use Rattle.tree.specs.Test.{holds}
-use Rattle.tree.specs.Layout.{geometryOf}
-use Rattle.book.specs.Checks.{badImage}
+use Rattle.tree.specs.Layout.{badImage, geometryOf}
 
 pub record Carried : Type 0 where
   pub answer : ℕ

@@ -6,7 +6,8 @@ use Prim.Native.Nat.{ℕ}
 use lib.ListN.{length}
 use Rattle.tree.specs.Memory.{reads, isSome}
 use Rattle.tree.specs.Test.{Test, lt, le, ne, is, _and_, _or_}
-use Rattle.tree.specs.Layout.{Geometry, imageWords, mapWords, editionAt, geometryOf}
+use Rattle.tree.specs.declared.layout.Geometry.{Geometry}
+use Rattle.tree.specs.Layout.{badImage, mapWords, editionAt, geometryOf}
 use Rattle.tree.specs.Fingerprint.{ruleOf}
 use Rattle.tree.specs.Slots.{slotOf, emptySlot}
 use Rattle.tree.specs.Lookup.{pathFrom, find, freeRun}
@@ -17,11 +18,6 @@ use Rattle.book.specs.Heads.{headCount, headAt, isIdle, isClaimed, isFil
 use Rattle.book.specs.Refusals.{Refusal, _gives_}
 use Rattle.book.specs.Room.{roomOn, needs, atLevel31}
 use Rattle.book.specs.State.{State, Operation, format, recover, openReel, claim, fill, commit, abandon, remove, has, list, retire}
-
--- 1: the image's length, R or N is wrong
-unfoldable pub badImage : ℕ → Geometry → Test
-badImage words g =
-    (lt (g .slots) 1 or lt 4096 (g .slots) or lt (g .nodes) 1 or lt 65536 (g .nodes)) or ne words (imageWords g)
 
 -- 3: a map, or a scratch map, is not of the map's length; a script is too short
 abbrev pub badMap : Geometry → ℕ → Test

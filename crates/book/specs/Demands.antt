@@ -8,7 +8,8 @@ use lib.ListN.{length}
 use lib.Dec.{eqb}
 use Rattle.tree.specs.Memory.{reads, Entry, barrier, encode, segmented, apply, passed, Inside, Fit, FitStores}
 use Rattle.tree.specs.Test.{Says}
-use Rattle.tree.specs.Layout.{Geometry, inRange, imageWords, mapWords, reelAt, geometryOf}
+use Rattle.tree.specs.declared.layout.Geometry.{Geometry}
+use Rattle.tree.specs.Layout.{inRange, imageWords, mapWords, reelAt, geometryOf}
 use Rattle.tree.specs.Reach.{Holds}
 use Rattle.book.specs.declared.Target.{Target}
 use Rattle.book.specs.declared.HeadState.the-variants.{Claimed, Filled}

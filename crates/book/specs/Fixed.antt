@@ -8,7 +8,8 @@ use lib.ListN.{length, replicate}
 use Rattle.tree.specs.Memory.{Memory}
 use Rattle.tree.specs.Test.{Says}
 use Rattle.tree.specs.Lists.{Distinct}
-use Rattle.tree.specs.Layout.{Geometry, inRange, imageWords, mapWords, editionAt, slotsAt, nodesAt, reelAt, rootAt, nextAt, locateAt, setAt, levelAt, sizeAt}
+use Rattle.tree.specs.declared.layout.Geometry.{Geometry}
+use Rattle.tree.specs.Layout.{inRange, imageWords, mapWords, editionAt, slotsAt, nodesAt, reelAt, rootAt, nextAt, locateAt, setAt, levelAt, sizeAt}
 use Rattle.tree.specs.Fingerprint.{ruleOf}
 use Rattle.tree.specs.Sound.{Sound}
 use Rattle.tree.specs.Pool.{used, mark, clearMap}

@@ -6,7 +6,8 @@ use Prim.Native.Nat.{ℕ, suc, _+_, _*_, _%_}
 use lib.ListN.{length}
 use lib.Dec.{eqb, ltb}
 use Rattle.tree.specs.Memory.{Memory, reads, withBit, withoutBit, withByte, Store, stores, apply, isSome}
-use Rattle.tree.specs.Layout.{Geometry, mapWords, reelAt, rootAt, nextAt, locateAt, setAt, levelAt, sizeAt, fingerprintsAt, frameAt, geometryOf}
+use Rattle.tree.specs.declared.layout.Geometry.{Geometry}
+use Rattle.tree.specs.Layout.{mapWords, reelAt, rootAt, nextAt, locateAt, setAt, levelAt, sizeAt, fingerprintsAt, frameAt, geometryOf}
 use Rattle.tree.specs.Lists.{range, upTo, keep}
 use Rattle.tree.specs.Path.{fanout, child}
 use Rattle.tree.specs.Fingerprint.{Rule, fingerprint, ruleOf}

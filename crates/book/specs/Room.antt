@@ -6,7 +6,8 @@ use Prim.Native.Nat.{ℕ, _-_}
 use lib.ListN.{length}
 use lib.Dec.{eqb, ltb}
 use Rattle.tree.specs.Memory.{Memory}
-use Rattle.tree.specs.Layout.{Geometry, sizeAt}
+use Rattle.tree.specs.declared.layout.Geometry.{Geometry}
+use Rattle.tree.specs.Layout.{sizeAt}
 use Rattle.tree.specs.Path.{fanout}
 use Rattle.tree.specs.Lookup.{Spot, clearSpot}
 

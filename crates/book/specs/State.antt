@@ -4,7 +4,8 @@ use mathlib.Core.List.{List, [], _∷_, _++_}
 use Prim.Native.Nat.{ℕ}
 use lib.ListN.{length, drop}
 use Rattle.tree.specs.Memory.{Memory, reads, Store}
-use Rattle.tree.specs.Layout.{Geometry, geometryOf}
+use Rattle.tree.specs.declared.layout.Geometry.{Geometry}
+use Rattle.tree.specs.Layout.{geometryOf}
 use Rattle.tree.specs.Pool.{clearMap}
 
 -- the image in persistent memory, the pool map, and the heads' words

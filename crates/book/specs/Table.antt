@@ -9,11 +9,12 @@ use lib.Dec.{eqb}
 use Rattle.tree.specs.Memory.{isSome}
 use Rattle.tree.specs.Test.{lt, le, is, _or_}
 use Rattle.tree.specs.Lists.{keep, every, hasKey}
-use Rattle.tree.specs.Layout.{Geometry, imageWords}
+use Rattle.tree.specs.declared.layout.Geometry.{Geometry}
+use Rattle.tree.specs.Layout.{badImage, imageWords}
 use Rattle.book.specs.Heads.{headCount}
 use Rattle.book.specs.Refusals.{Refusal, _gives_, refusal}
 use Rattle.book.specs.State.{Operation, format, recover, openReel, claim, fill, commit, abandon, remove, has, list, retire}
-use Rattle.book.specs.Checks.{badImage, badMap, badScript}
+use Rattle.book.specs.Checks.{badMap, badScript}
 
 -- per head idle, or claimed or filled with reel and frame
 pub data TableHead : Type 0 where

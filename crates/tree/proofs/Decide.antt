@@ -9,7 +9,8 @@ use lib.ListN.{length}
 use Rattle.memory.specs.Words.{Memory}
 use Rattle.tree.specs.Test.{eq, _and_}
 use Rattle.tree.specs.Lists.{every, distinct, Distinct}
-use Rattle.tree.specs.Layout.{Geometry, reelAt, rootAt}
+use Rattle.tree.specs.declared.layout.Geometry.{Geometry}
+use Rattle.tree.specs.Layout.{reelAt, rootAt}
 use Rattle.tree.specs.Path.{wayOf}
 use Rattle.tree.specs.Fingerprint.{Rule}
 use Rattle.tree.specs.Node.{frame}

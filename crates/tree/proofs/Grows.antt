@@ -10,7 +10,8 @@ use native.Mathlib.Decide.{ℕ-discrete}
 use lib.ListN.{length}
 use borrow.Author.Tests.{eqb-true}
 use Rattle.memory.specs.Words.{Memory, isSet, bit, field}
-use Rattle.tree.specs.Layout.{Geometry, reelAt, rootAt, nextAt, setAt}
+use Rattle.tree.specs.declared.layout.Geometry.{Geometry}
+use Rattle.tree.specs.Layout.{reelAt, rootAt, nextAt, setAt}
 use Rattle.tree.specs.Fingerprint.{Rule}
 use Rattle.tree.specs.Node.{wellFormed}
 use Rattle.tree.specs.Slots.{Filled}

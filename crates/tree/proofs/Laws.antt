@@ -1,6 +1,6 @@
 -- The laws that specs/Laws.antt states, by their names.
 use Rattle.memory.specs.Words.{Memory}
-use Rattle.tree.specs.Layout.{Geometry}
+use Rattle.tree.specs.declared.layout.Geometry.{Geometry}
 use Rattle.tree.specs.Fingerprint.{Rule}
 use Rattle.tree.specs.Sound.{Sound}
 use Rattle.tree.specs.Laws.{ChildLaws, ReachLaws, NodeLaws, ChangeLaws}

@@ -7,7 +7,8 @@ use lib.ListN.{length, length-map}
 use lib.Pow.{shr-lt, split}
 use Rattle.memory.specs.Words.{Memory}
 use Rattle.tree.specs.Lists.{Distinct}
-use Rattle.tree.specs.Layout.{Geometry, frameAt}
+use Rattle.tree.specs.declared.layout.Geometry.{Geometry}
+use Rattle.tree.specs.Layout.{frameAt}
 use Rattle.tree.specs.Fingerprint.{Rule}
 use Rattle.tree.specs.Node.{held, frame}
 use Rattle.tree.specs.Reach.{Reaches, Holds}

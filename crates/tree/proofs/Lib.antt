@@ -26,3 +26,5 @@ pub mod Level
 pub mod Pool
 pub mod Memory
 pub mod Laws
+pub mod NodeCode
+pub mod PoolLoops

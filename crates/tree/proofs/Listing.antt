@@ -4,7 +4,7 @@ use mathlib.Core.List.{List·Memᴰ, Memᴰ·of-map}
 use Prim.Native.Nat.{ℕ}
 use Rattle.memory.specs.Words.{Memory}
 use Rattle.tree.specs.Lists.{Distinct}
-use Rattle.tree.specs.Layout.{Geometry}
+use Rattle.tree.specs.declared.layout.Geometry.{Geometry}
 use Rattle.tree.specs.Fingerprint.{Rule}
 use Rattle.tree.specs.Node.{held, frame}
 use Rattle.tree.specs.Slots.{Filled}

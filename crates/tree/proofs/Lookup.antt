@@ -10,7 +10,7 @@ use lib.ListN.{length, getElem?}
 use Rattle.memory.specs.Words.{Memory}
 use Rattle.memory.specs.Apply.{isSome}
 use Rattle.tree.specs.Test.{Test, is, eq, _and_}
-use Rattle.tree.specs.Layout.{Geometry}
+use Rattle.tree.specs.declared.layout.Geometry.{Geometry}
 use Rattle.tree.specs.Path.{wayOf}
 use Rattle.tree.specs.Fingerprint.{Rule, fingerprint}
 use Rattle.tree.specs.Node.{held, frame, storedFingerprint}

@@ -5,7 +5,8 @@ use mathlib.Core.Logic.{inl, inr, _↔_}
 use Prim.Native.Nat.{ℕ, _<_}
 use native.Mathlib.Omega.{arith}
 use Rattle.memory.specs.Words.{Memory}
-use Rattle.tree.specs.Layout.{Geometry, nextAt}
+use Rattle.tree.specs.declared.layout.Geometry.{Geometry}
+use Rattle.tree.specs.Layout.{nextAt}
 use Rattle.tree.specs.Node.{sizeAllowed, formed, wellFormed}
 use Rattle.tree.specs.Laws.{WellFormed}
 use Rattle.tree.proofs.Tests.{says, said}

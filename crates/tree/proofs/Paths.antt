@@ -11,7 +11,8 @@ use lib.ListN.{getElem?}
 use lib.Dec.{eqb}
 use borrow.Author.Tests.{eqb-true}
 use Rattle.memory.specs.Words.{Memory}
-use Rattle.tree.specs.Layout.{Geometry, nextAt}
+use Rattle.tree.specs.declared.layout.Geometry.{Geometry}
+use Rattle.tree.specs.Layout.{nextAt}
 use Rattle.tree.specs.Path.{levels, child, wayOf}
 use Rattle.tree.specs.Node.{childOf, wellFormed}
 use Rattle.tree.specs.Slots.{Filled, rootOf}

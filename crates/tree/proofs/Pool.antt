@@ -11,7 +11,8 @@ use lib.Seq.{getD-set-same, getD-set-other, set-out, ext-getD}
 use Rattle.memory.specs.Words.{reads, isSet, marked}
 use Rattle.memory.specs.Laws.{Fit}
 use Rattle.memory.proofs.Laws.{bit-laws}
-use Rattle.tree.specs.Layout.{Geometry, mapWords}
+use Rattle.tree.specs.declared.layout.Geometry.{Geometry}
+use Rattle.tree.specs.Layout.{mapWords}
 use Rattle.tree.specs.Pool.{used, mark, unmark, markAll, unmarkAll, clearMap, mapOf}
 use Rattle.tree.specs.PoolLaws.{Mapped, PoolLaws}
 use Rattle.tree.proofs.Cases.{true-not-false}

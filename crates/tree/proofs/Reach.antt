@@ -5,7 +5,8 @@ use Prim.Native.Nat.{ℕ, _+_, _-_, _≤_}
 use native.Mathlib.Omega.{arith}
 use lib.ListN.{length}
 use Rattle.memory.specs.Words.{Memory}
-use Rattle.tree.specs.Layout.{Geometry, nextAt}
+use Rattle.tree.specs.declared.layout.Geometry.{Geometry}
+use Rattle.tree.specs.Layout.{nextAt}
 use Rattle.tree.specs.Slots.{Filled}
 use Rattle.tree.specs.Reach.{Reaches, root, down}
 use Rattle.tree.proofs.Ways.{fanout-depth}

@@ -8,7 +8,7 @@ use native.Mathlib.Decide.{decLt}
 use Rattle.memory.specs.Words.{Memory, marked}
 use Rattle.memory.specs.Search.{first}
 use Rattle.tree.specs.Test.{Test, le, eq, _and_}
-use Rattle.tree.specs.Layout.{Geometry}
+use Rattle.tree.specs.declared.layout.Geometry.{Geometry}
 use Rattle.tree.specs.Lookup.{isFreeRun, freeRun}
 use Rattle.tree.specs.Laws.{FreeRun, RunLaws}
 use Rattle.tree.proofs.Cases.{true-not-false}

@@ -8,7 +8,8 @@ use lib.ListN.{length}
 use lib.Dec.{eqb}
 use Rattle.memory.specs.Words.{Memory, isSet}
 use Rattle.tree.specs.Lists.{upTo, keep}
-use Rattle.tree.specs.Layout.{Geometry, reelAt}
+use Rattle.tree.specs.declared.layout.Geometry.{Geometry}
+use Rattle.tree.specs.Layout.{reelAt}
 use Rattle.tree.specs.Path.{levels, fanout}
 use Rattle.tree.specs.Fingerprint.{Rule}
 use Rattle.tree.specs.Node.{childOf, wellFormed, held, frame, storedFingerprint}

@@ -8,7 +8,8 @@ use native.Mathlib.Omega.{arith}
 use native.Mathlib.Decide.{ℕ-discrete}
 use lib.ListN.{length}
 use Rattle.memory.specs.Words.{Memory, isSet, byte}
-use Rattle.tree.specs.Layout.{Geometry, reelAt, rootAt, nextAt, locateAt, setAt, levelAt, sizeAt, frameAt, fingerprintsAt}
+use Rattle.tree.specs.declared.layout.Geometry.{Geometry}
+use Rattle.tree.specs.Layout.{reelAt, rootAt, nextAt, locateAt, setAt, levelAt, sizeAt, frameAt, fingerprintsAt}
 use Rattle.tree.specs.Fingerprint.{Rule}
 use Rattle.tree.specs.Node.{wellFormed, held, frame, storedFingerprint}
 use Rattle.tree.specs.Slots.{Filled}

@@ -11,7 +11,8 @@ use Rattle.memory.specs.Words.{Memory}
 use Rattle.memory.specs.Laws.{SearchLaws}
 use Rattle.tree.specs.Test.{Test, is, eq, _and_, holds}
 use Rattle.tree.specs.Lists.{upTo, Distinct}
-use Rattle.tree.specs.Layout.{Geometry, reelAt, rootAt}
+use Rattle.tree.specs.declared.layout.Geometry.{Geometry}
+use Rattle.tree.specs.Layout.{reelAt, rootAt}
 use Rattle.tree.specs.Fingerprint.{Rule}
 use Rattle.tree.specs.Slots.{filled, Filled, filledSlots, slotOf, emptySlot}
 use Rattle.tree.specs.Sound.{Sound}

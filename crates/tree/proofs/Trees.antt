@@ -9,7 +9,7 @@ use lib.ListN.{length, length-append, drop}
 use lib.Seq.{drop-append-seam}
 use Rattle.memory.specs.Words.{Memory}
 use Rattle.tree.specs.Lists.{upTo, every, distinct, Distinct, empty, onto}
-use Rattle.tree.specs.Layout.{Geometry}
+use Rattle.tree.specs.declared.layout.Geometry.{Geometry}
 use Rattle.tree.specs.Path.{levels}
 use Rattle.tree.specs.Node.{childOf, wellFormed}
 use Rattle.tree.specs.Slots.{Filled, filledSlots}

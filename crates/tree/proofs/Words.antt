@@ -4,7 +4,8 @@ use mathlib.Core.Logic.{_≢_}
 use Prim.Native.Nat.{ℕ, _+_, _*_, _%_, _≤_, _<_}
 use native.Mathlib.Omega.{arith}
 use Rattle.memory.specs.Words.{Memory, byte}
-use Rattle.tree.specs.Layout.{Geometry, rootAt, nodeAt, nextAt, locateAt, setAt, levelAt, sizeAt, fingerprintsAt, frameAt}
+use Rattle.tree.specs.declared.layout.Geometry.{Geometry}
+use Rattle.tree.specs.Layout.{rootAt, nodeAt, nextAt, locateAt, setAt, levelAt, sizeAt, fingerprintsAt, frameAt}
 use Rattle.tree.specs.Node.{formed, wellFormed}
 use Rattle.tree.specs.Same.{SameFrames, SameWords, Stores}
 

@@ -7,7 +7,8 @@ use mathlib.Core.List.{List, [], _∷_}
 use Prim.Native.Nat.{ℕ, suc, _+_, _^_, _≤_, _<_}
 use lib.ListN.{length}
 use Rattle.memory.specs.Words.{Memory, isSet}
-use Rattle.tree.specs.Layout.{Geometry, reelAt, rootAt, nextAt, setAt, sizeAt}
+use Rattle.tree.specs.declared.layout.Geometry.{Geometry}
+use Rattle.tree.specs.Layout.{reelAt, rootAt, nextAt, setAt, sizeAt}
 use Rattle.tree.specs.Path.{fanout, wayOf}
 use Rattle.tree.specs.Fingerprint.{Rule, fingerprint}
 use Rattle.tree.specs.Node.{wellFormed, frame, storedFingerprint}

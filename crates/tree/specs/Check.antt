@@ -7,7 +7,8 @@ use lib.ListN.{length}
 use Rattle.memory.specs.Words.{Memory}
 use Rattle.tree.specs.Test.{eq, _and_, holds}
 use Rattle.tree.specs.Lists.{every, distinct}
-use Rattle.tree.specs.Layout.{Geometry, reelAt}
+use Rattle.tree.specs.declared.layout.Geometry.{Geometry}
+use Rattle.tree.specs.Layout.{reelAt}
 use Rattle.tree.specs.Fingerprint.{Rule}
 use Rattle.tree.specs.Node.{wellFormed, frame}
 use Rattle.tree.specs.Slots.{filledSlots}

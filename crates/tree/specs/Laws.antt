@@ -11,7 +11,8 @@ use Rattle.memory.specs.Words.{Memory, marked}
 use Rattle.memory.specs.Search.{first}
 use Rattle.memory.specs.Apply.{isSome}
 use Rattle.tree.specs.Lists.{Distinct}
-use Rattle.tree.specs.Layout.{Geometry, reelAt, rootAt, nextAt, locateAt, setAt, levelAt, sizeAt}
+use Rattle.tree.specs.declared.layout.Geometry.{Geometry}
+use Rattle.tree.specs.Layout.{reelAt, rootAt, nextAt, locateAt, setAt, levelAt, sizeAt}
 use Rattle.tree.specs.Path.{fanout, child, wayOf, bitsTo}
 use Rattle.tree.specs.Fingerprint.{Rule, folded, tableEntry, OnceEach}
 use Rattle.tree.specs.Node.{childOf, wellFormed, held, frame}

@@ -1,12 +1,8 @@
 -- Layout of the image: the index of each word that has a meaning.
 use Prim.Native.Nat.{ℕ, _+_, _*_, _/_}
 use Rattle.memory.specs.Words.{Memory}
-use Rattle.tree.specs.Test.{Test, le, _and_}
-
--- the paper's R and N: how many reel slots and nodes an image has
-pub record Geometry : Type 0 where
-  pub slots : ℕ
-  pub nodes : ℕ
+use Rattle.tree.specs.Test.{Test, lt, le, ne, _and_, _or_}
+use Rattle.tree.specs.declared.layout.Geometry.{Geometry}
 
 -- R is 1 to 4,096, N is 1 to 65,536
 unfoldable pub inRange : Geometry → Test
@@ -14,6 +10,10 @@ inRange g = le 1 (g .slots) and le (g .slots) 4096 and le 1 (g .nodes) and le (g
 
 abbrev pub imageWords : Geometry → ℕ
 imageWords g = 64 + 2 * g .slots + 80 * g .nodes
+
+-- refusal 1: the image's length, R or N is wrong
+unfoldable pub badImage : ℕ → Geometry → Test
+badImage words g = (lt (g .slots) 1 or lt 4096 (g .slots) or lt (g .nodes) 1 or lt 65536 (g .nodes)) or ne words (imageWords g)
 
 -- the pool map's length; bit n of the map is `marked map n` of the layer below
 abbrev pub mapWords : Geometry → ℕ

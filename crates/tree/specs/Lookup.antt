@@ -7,7 +7,8 @@ use lib.Dec.{eqb, ltb}
 use Rattle.memory.specs.Words.{Memory, isSet, marked}
 use Rattle.memory.specs.Search.{first}
 use Rattle.tree.specs.Test.{is, le, eq, _and_, holds}
-use Rattle.tree.specs.Layout.{Geometry, nextAt, locateAt, sizeAt}
+use Rattle.tree.specs.declared.layout.Geometry.{Geometry}
+use Rattle.tree.specs.Layout.{nextAt, locateAt, sizeAt}
 use Rattle.tree.specs.Path.{levels, child}
 use Rattle.tree.specs.Fingerprint.{Rule, fingerprint}
 use Rattle.tree.specs.Node.{childOf, wellFormed, held, frame, storedFingerprint}

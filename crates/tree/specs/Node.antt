@@ -3,7 +3,8 @@ use mathlib.Core.Bool.{Bool}
 use Prim.Native.Nat.{ℕ, _+_, _-_, _%_, _^_}
 use Rattle.memory.specs.Words.{Memory, isSet, byte}
 use Rattle.tree.specs.Test.{Test, lt, le, eq, _and_, _or_, holds}
-use Rattle.tree.specs.Layout.{Geometry, nextAt, locateAt, setAt, levelAt, sizeAt, fingerprintsAt, frameAt}
+use Rattle.tree.specs.declared.layout.Geometry.{Geometry}
+use Rattle.tree.specs.Layout.{nextAt, locateAt, setAt, levelAt, sizeAt, fingerprintsAt, frameAt}
 use Rattle.tree.specs.Path.{fanout}
 
 -- a root, at depth 0, has size 16, 32 or 64; every other node has size 64

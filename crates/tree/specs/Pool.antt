@@ -4,7 +4,8 @@ use mathlib.Core.List.{List, [], _∷_}
 use Prim.Native.Nat.{ℕ, _/_, _%_}
 use lib.ListN.{set, replicate}
 use Rattle.memory.specs.Words.{reads, withBit, withoutBit, marked}
-use Rattle.tree.specs.Layout.{Geometry, mapWords}
+use Rattle.tree.specs.declared.layout.Geometry.{Geometry}
+use Rattle.tree.specs.Layout.{mapWords}
 
 -- node n is used
 abbrev pub used : List ℕ → ℕ → Bool

@@ -7,7 +7,8 @@ use Prim.Native.Nat.{ℕ, _*_, _<_}
 use lib.ListN.{length}
 use Rattle.memory.specs.Words.{reads}
 use Rattle.memory.specs.Laws.{Fit}
-use Rattle.tree.specs.Layout.{Geometry, mapWords}
+use Rattle.tree.specs.declared.layout.Geometry.{Geometry}
+use Rattle.tree.specs.Layout.{mapWords}
 use Rattle.tree.specs.Pool.{used, mark, unmark, markAll, unmarkAll, clearMap, mapOf}
 
 -- every node of a list has a bit in the map

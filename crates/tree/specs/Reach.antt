@@ -5,7 +5,8 @@ use mathlib.Core.List.{List, [], _∷_}
 use Prim.Native.Nat.{ℕ, _<_}
 use lib.ListN.{length}
 use Rattle.memory.specs.Words.{Memory}
-use Rattle.tree.specs.Layout.{Geometry, nextAt}
+use Rattle.tree.specs.declared.layout.Geometry.{Geometry}
+use Rattle.tree.specs.Layout.{nextAt}
 use Rattle.tree.specs.Path.{fanout}
 use Rattle.tree.specs.Node.{childOf, held, frame}
 use Rattle.tree.specs.Slots.{Filled, rootOf}

@@ -6,7 +6,8 @@ use mathlib.Core.Logic.{_≢_}
 use mathlib.Core.List.{List}
 use Prim.Native.Nat.{ℕ, _+_, _≤_, _<_}
 use Rattle.memory.specs.Words.{Memory}
-use Rattle.tree.specs.Layout.{Geometry, reelAt, rootAt, nodeAt, nextAt, setAt}
+use Rattle.tree.specs.declared.layout.Geometry.{Geometry}
+use Rattle.tree.specs.Layout.{reelAt, rootAt, nodeAt, nextAt, setAt}
 use Rattle.tree.specs.Node.{held, frame, storedFingerprint}
 use Rattle.tree.specs.Slots.{Filled}
 use Rattle.tree.specs.Reach.{Reaches}

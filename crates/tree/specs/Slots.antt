@@ -7,7 +7,8 @@ use Rattle.memory.specs.Words.{Memory}
 use Rattle.memory.specs.Search.{first}
 use Rattle.tree.specs.Test.{is, eq, _and_, holds}
 use Rattle.tree.specs.Lists.{upTo, keep}
-use Rattle.tree.specs.Layout.{Geometry, reelAt, rootAt}
+use Rattle.tree.specs.declared.layout.Geometry.{Geometry}
+use Rattle.tree.specs.Layout.{reelAt, rootAt}
 
 -- a slot with root 0 is empty
 unfoldable pub filled : Memory → ℕ → Bool

@@ -6,7 +6,8 @@ use lib.ListN.{length}
 use lib.Dec.{eqb}
 use Rattle.memory.specs.Words.{Memory}
 use Rattle.tree.specs.Lists.{upTo, keep}
-use Rattle.tree.specs.Layout.{Geometry, nextAt}
+use Rattle.tree.specs.declared.layout.Geometry.{Geometry}
+use Rattle.tree.specs.Layout.{nextAt}
 use Rattle.tree.specs.Path.{levels, fanout}
 use Rattle.tree.specs.Node.{childOf, held, frame}
 use Rattle.tree.specs.Slots.{rootOf, filledSlots}

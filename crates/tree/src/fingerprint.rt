@@ -1,7 +1,10 @@
-// The fingerprint table: every byte occurs once.
+// Fingerprints: the table, in which every byte occurs once, and a frame's fold over it.
 ghost use mathlib.Core.Path.{_≡_};
-ghost use Prim.Native.Nat.{_<_};
-ghost use Rattle.tree.specs.Fingerprint.{tableEntry};
+ghost use Prim.Native.Nat.{_%_, _<_};
+ghost use Rattle.memory.specs.Words.{withByte};
+ghost use Rattle.tree.specs.Fingerprint.{tableEntry, editionOne, fingerprint};
+use memory::words::byte_of;
+use memory::words::with_byte;
 
 const TABLE: [u64; 256] = [
     13,
@@ -268,4 +271,24 @@ pub fn entry(i: usize) -> u64
     ensures { λ r. ⌜ r ≡ tableEntry i ⌝ }
 {
     TABLE[i]
+}
+
+// A frame's fingerprint: its four low bytes, lowest first, folded over the table.
+pub fn fingerprint(frame: u64) -> u64
+    ensures { λ r. ⌜ r ≡ fingerprint editionOne frame ⌝ }
+{
+    let mut h: u64 = 0;
+    let mut k: u32 = 0;
+    while k < 4 {
+        h = entry((h ^ byte_of(frame, k)) as usize);
+        k += 1;
+    }
+    h
+}
+
+// The fingerprint word of a place with the frame's fingerprint in it, its seven other bytes kept.
+pub fn fingerprint_word(word: u64, place: usize, frame: u64) -> u64
+    ensures { λ r. ⌜ r ≡ withByte word (place % 8) (fingerprint editionOne frame) ⌝ }
+{
+    with_byte(word, (place % 8) as u32, fingerprint(frame))
 }

@@ -1,0 +1,102 @@
+-- What the code of fingerprints, paths and nodes computes, step by step, in the code's own terms.
+use mathlib.Core.Path.{_≡_, refl, sym, _∙_}
+use mathlib.Core.Bool.{Bool, true, false, _&&_, and-assoc}
+use mathlib.Core.Logic.{inl, inr}
+use Prim.Native.Nat.{ℕ, _+_, _-_, _*_, _/_, _^_, _≤_, _<_}
+use native.Mathlib.Numerals.{add-one}
+use native.Mathlib.Omega.{arith}
+use native.Mathlib.Nat.{lt-of-lt-of-le, div-eq-of-lt, div-lt-iff-lt-mul, one-mul}
+use native.Mathlib.Decide.{decLt}
+use borrow.Author.Tests.{lt-ltb, le-ltb, le-leb, lt-leb, eq-eqb, ne-eqb}
+use lib.Dec.{eqb, ltb, leb}
+use lib.Pow.{pow-mono, pow-pos}
+use lib.Bits.{bitXor}
+use Rattle.memory.specs.Words.{Memory, field, bit, byte}
+use Rattle.memory.proofs.Laws.{byte-laws}
+use Rattle.tree.specs.declared.layout.Geometry.{Geometry}
+use Rattle.tree.specs.Test.{Test, lt, le, eq, _and_, _or_, holds}
+use Rattle.tree.specs.Layout.{nextAt, locateAt, setAt, levelAt, sizeAt}
+use Rattle.tree.specs.Node.{sizeAllowed, formed, wellFormed}
+use Rattle.tree.specs.Path.{fanout, child}
+use Rattle.tree.specs.Fingerprint.{folded, tableEntry, fingerprint, editionOne}
+use Rattle.tree.proofs.Fingerprints.{fingerprint-laws}
+use Rattle.tree.proofs.Cases.{not-false}
+use Rattle.tree.proofs.Tests.{says}
+use Rattle.tree.proofs.Ways.{child-lt}
+
+-- ---- the path
+
+pub bit-small : {r : ℕ} (w k : ℕ) → r ≡ bit w k → r ≤ 1
+unfolding bit field
+bit-small w k e = omega arith
+
+pub child-low : (k f : ℕ) {r : ℕ} → k < 3 → r ≡ bit f k → r ≡ child k f
+unfolding child
+child-low k f h e = simp (lt-ltb k 3 h) e
+
+pub child-high : (k f : ℕ) {a b : ℕ} → 3 ≤ k → a ≡ bit f (2 * k - 3) → b ≡ bit f (2 * k - 2) → a + 2 * b ≡ child k f
+unfolding child
+child-high k f h p q = simp (le-ltb k 3 h, p, q)
+
+-- ---- the fingerprint
+
+pub byte-small : {b : ℕ} (w j : ℕ) → b ≡ byte w j → b < 256
+byte-small w j e = rw e (byte-laws .byte-fits w j)
+
+pub folded-small : {h : ℕ} (k f : ℕ) → h ≡ folded tableEntry k f → h < 256
+folded-small k f e = rw e (fingerprint-laws .fits (fingerprint-laws .table-once) k f)
+
+pub folded-step : (k f : ℕ) {h b e : ℕ} → h ≡ folded tableEntry k f → b ≡ byte f k → e ≡ tableEntry (bitXor h b) → e ≡ folded tableEntry (k + 1) f
+unfolding folded
+folded-step k f p q r = rw (add-one, ← p, ← q) r
+
+pub fingerprint-small : {h : ℕ} (f : ℕ) → h ≡ fingerprint editionOne f → h < 256
+unfolding fingerprint editionOne
+fingerprint-small f e = folded-small 4 f e
+
+-- ---- nodes
+
+-- a bitmap has no bit at or above a size: by the size of a word, or by a shift
+pub within-word : (w size : ℕ) → w < 2 ^ 64 → 64 ≤ size → true ≡ ltb w (2 ^ size)
+within-word w size h l = sym (lt-ltb w (2 ^ size) (lt-of-lt-of-le h (pow-mono l)))
+
+pub shifted-out : (w size : ℕ) → eqb (w / 2 ^ size) 0 ≡ ltb w (2 ^ size)
+shifted-out w size = elim (decLt w (2 ^ size)) [
+  | yes l ↦ eq-eqb (w / 2 ^ size) 0 (div-eq-of-lt l) ∙ sym (lt-ltb w (2 ^ size) l)
+  | no h ↦
+      ne-eqb (w / 2 ^ size) 0 (λ z. let l : w < 1 * 2 ^ size = div-lt-iff-lt-mul (pow-pos size) .0 (omega arith) in h (rw one-mul at l))
+      ∙ sym (le-ltb w (2 ^ size) (omega arith))
+]
+
+-- a node's children are inside the pool
+module _ (nodes d size next : ℕ) where
+  abbrev pub childrenInside : Test
+  childrenInside = eq next 0 or (eq size 64 and lt d 31 and le (next - 1 + fanout d) nodes)
+
+  pub no-children : next ≡ 0 → true ≡ holds childrenInside
+  no-children z = simp (eq-eqb next 0 z)
+
+  pub children-past : (next ≡ 0 → ⊥) → nodes ≤ next - 1 → false ≡ holds childrenInside
+  children-past z l = sym (not-false (λ h. elim (says childrenInside h) [ inl q ↦ z q | inr t ↦ omega (arith, child-lt d 0 (t .1 .0)) ]))
+
+  pub children-within : {r : ℕ} → (next ≡ 0 → ⊥) → next - 1 < nodes → r ≡ fanout d
+      → eqb size 64 && (ltb d 31 && leb r (nodes - (next - 1))) ≡ holds childrenInside
+  children-within z l e = let q = less-by (next - 1) (fanout d) nodes (omega arith) in rw (e, ne-eqb next 0 z, q) refl
+    where
+      less-by : (b f n : ℕ) → b ≤ n → leb f (n - b) ≡ leb (b + f) n
+      less-by b f n h = elim (decLt n (b + f)) [
+        | yes l ↦ lt-leb f (n - b) (omega arith) ∙ sym (lt-leb (b + f) n l)
+        | no l ↦ le-leb f (n - b) (omega arith) ∙ sym (le-leb (b + f) n (omega arith))
+      ]
+
+module _ (g : Geometry) (m : Memory) (d n : ℕ) where
+  pub formed-outside : g .nodes ≤ n → false ≡ wellFormed g m d n
+  unfolding wellFormed formed
+  formed-outside h = simp (le-ltb n (g .nodes) h)
+
+  pub formed-inside : {sized locate set next : Bool} → n < g .nodes → sized ≡ holds (sizeAllowed d (m (sizeAt g n)))
+      → locate ≡ ltb (m (locateAt g n)) (2 ^ m (sizeAt g n)) → set ≡ ltb (m (setAt g n)) (2 ^ m (sizeAt g n))
+      → next ≡ holds (childrenInside (g .nodes) d (m (sizeAt g n)) (m (nextAt g n)))
+      → eqb (m (levelAt g n)) d && sized && locate && set && next ≡ wellFormed g m d n
+  unfolding wellFormed formed
+  formed-inside h p q r s = rw (p, q, r, s) (simp (lt-ltb n (g .nodes) h, and-assoc))

@@ -1,0 +1,30 @@
+// The path of a frame: how many children a node has, and to which of them the frame goes.
+ghost use mathlib.Core.Path.{_≡_};
+ghost use Prim.Native.Nat.{_≤_};
+ghost use Rattle.tree.specs.Path.{fanout, child};
+use memory::words::bit_of;
+
+// Two children at levels 0 to 2, four at 3 to 30, none at 31.
+pub fn fanout(level: u64) -> usize
+    ensures { λ r. ⌜ r ≡ fanout level ⌝ }
+{
+    if level < 3 {
+        return 2;
+    }
+    if level < 31 {
+        return 4;
+    }
+    0
+}
+
+// A frame's bit k at levels 0 to 2, then its bits 2k − 3 and 2k − 2 as a number.
+pub fn child(level: u64, frame: u64) -> u64
+    requires { ⌜ level ≤ 31 ⌝ }
+    ensures { λ r. ⌜ r ≡ child level frame ⌝ }
+{
+    let k = level as u32;
+    if k < 3 {
+        return bit_of(frame, k);
+    }
+    bit_of(frame, 2 * k - 3) + 2 * bit_of(frame, 2 * k - 2)
+}

@@ -28,7 +28,7 @@ use Rattle.tree.proofs.Laws.{slot-laws, lookup-rule, change-laws}
 use Rattle.book.specs.declared.Target.{Target}
 use Rattle.book.specs.State.{State, remove, arguments}
 use Rattle.book.specs.Checks.{refusals}
-use Rattle.book.specs.Perform.{removeScript, orNone, granted, writing, perform}
+use Rattle.book.specs.Perform.{removeScript, foundSpot, granted, writing, perform}
 use Rattle.book.specs.Table.{Table, Reel, withReels, changeFrames, without, tableWork}
 use Rattle.book.specs.Agrees.{Reached, Claims, ClaimsPlace, Agrees}
 use Rattle.book.proofs.Refusals.{passes}
@@ -65,7 +65,7 @@ module _ (script reel f : ℕ) (s : State) where
       let p = passes (refusals (remove script reel f) s) (omega arith) (sym (answer-is (remove script reel f) s) ∙ e) in
       (p .1 .1 .1 .0, not-false _ (p .1 .1 .1 .1 .1 .1 .0))
 
-  remove-granted : granted (remove script reel f) s ≡ writing (single (removing (geometryOf (reads (s .image))) (reads (s .image)) (orNone found)))
+  remove-granted : granted (remove script reel f) s ≡ writing (single (removing (geometryOf (reads (s .image))) (reads (s .image)) (foundSpot found)))
       (record { image = s .image; pool = s .pool; heads = s .heads })
   unfolding granted removeScript
   remove-granted = refl
@@ -184,7 +184,7 @@ step-remove {s} {t} a script reel f fits e =
           let y = lookup-rule (ruleOf (reads (s .image))) (geometryOf (reads (s .image))) (reads (s .image)) (v .sound) (b .0) .at f (x .node) (x .place) .0 q .1 in
           step-of (removing (geometryOf (reads (s .image))) (reads (s .image)) x) (s .pool) (s .heads)
           (withReels t (changeFrames reel (without f) (t .reels))) (a .shows)
-          (remove-granted script reel f s ∙ ap (λ o. writing (single (removing (geometryOf (reads (s .image))) (reads (s .image)) (orNone o)))
+          (remove-granted script reel f s ∙ ap (λ o. writing (single (removing (geometryOf (reads (s .image))) (reads (s .image)) (foundSpot o)))
           (record { image = s .image; pool = s .pool; heads = s .heads })) q)
           (remove-table script reel f t) (
             left-new (a .shows) (rw (b .1) at (unset-view v x y)) refl refl (within-keeping (unset-within v x y)),

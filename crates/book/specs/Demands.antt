@@ -6,7 +6,7 @@ use mathlib.Core.List.{List, [], _∷_, _++_, List·Memᴰ}
 use Prim.Native.Nat.{ℕ, _≤_, _<_}
 use lib.ListN.{length}
 use lib.Dec.{eqb}
-use Rattle.tree.specs.Memory.{reads, Entry, barrier, encode, segmented, apply, passed, Inside, Fit, FitStores}
+use Rattle.tree.specs.Memory.{reads, Entry, barrier, encode, segmented, passed, Inside, Fit, FitStores}
 use Rattle.tree.specs.Test.{Says}
 use Rattle.tree.specs.declared.layout.Geometry.{Geometry}
 use Rattle.tree.specs.Layout.{inRange, imageWords, mapWords, reelAt, geometryOf}

@@ -103,10 +103,6 @@ abbrev pub foundSpot : Option Spot → Spot
 foundSpot none = spot 0 0
 foundSpot (some t) = t
 
--- its former name, which proofs/StepRemove.antt still uses
-abbrev pub orNone : Option Spot → Spot
-orNone o = foundSpot o
-
 abbrev pub oneIf : Bool → ℕ
 oneIf b = cond b 1 0
 

@@ -28,3 +28,4 @@ pub mod Memory
 pub mod Laws
 pub mod NodeCode
 pub mod PoolLoops
+pub mod Places

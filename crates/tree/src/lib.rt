@@ -3,5 +3,6 @@ pub mod fingerprint;
 pub mod layout;
 pub mod node;
 pub mod path;
+pub mod place;
 pub mod pool_map;
 pub mod reels;

@@ -1,8 +1,9 @@
 // The place of a node where the lookup finds a frame.
 ghost use mathlib.Core.Path.{_≡_};
-ghost use Prim.Native.Nat.{_≤_, _<_};
+ghost use Prim.Native.Nat.{ℕ, _+_, _*_, _≤_, _<_};
 ghost use lib.ListN.{length};
 ghost use Rattle.memory.specs.Words.{reads};
+ghost use Rattle.memory.specs.Search.{first};
 ghost use Rattle.tree.specs.Layout.{imageWords, setAt, fingerprintsAt};
 ghost use Rattle.tree.specs.Fingerprint.{editionOne, fingerprint};
 ghost use Rattle.tree.specs.Lookup.{matches, foundAt};
@@ -33,20 +34,48 @@ fn is_match(
     false
 }
 
-// The lowest place of a node of the pool that holds the frame, or 64.
+// The lowest of the eight places of fingerprint word j that holds the frame, or 8. Where none of their
+// set bits is 1, one comparison decides.
+fn found_in_word(
+    image: &[u64],
+    g: Geometry,
+    n: usize,
+    frame: u64,
+    print: u64,
+    set: u64,
+    j: usize,
+) -> usize
+    requires { ⌜ (length (now image) ≡ imageWords g) × (g .slots ≤ 4096) × (g .nodes ≤ 65536) × (n < g .nodes) × (j < 8) × (print ≡ fingerprint editionOne frame) × (set ≡ reads (now image) (setAt g n)) ⌝ }
+    ensures { λ r. ⌜ r ≡ first (λ (k : ℕ). matches editionOne g (reads (now (image .entry))) frame n (8 * j + k)) 8 ⌝ }
+{
+    if byte_of(set, j as u32) == 0 {
+        return 8;
+    }
+    let prints = image[64 + 2 * g.slots + 80 * n + 8 + j];
+    let mut k = 0;
+    while k < 8 {
+        if is_match(image, g, n, frame, print, set, prints, 8 * j + k) {
+            return k;
+        }
+        k += 1;
+    }
+    k
+}
+
+// The lowest place of a node of the pool that holds the frame, or 64: a step for each fingerprint word.
 pub fn found_place(image: &[u64], g: Geometry, n: usize, frame: u64) -> usize
     requires { ⌜ (length (now image) ≡ imageWords g) × (g .slots ≤ 4096) × (g .nodes ≤ 65536) × (n < g .nodes) ⌝ }
     ensures { λ r. ⌜ r ≡ foundAt editionOne g (reads (now (image .entry))) frame n ⌝ }
 {
     let print = fingerprint(frame);
-    let at = 64 + 2 * g.slots + 80 * n;
-    let set = image[at + 2];
-    let mut p = 0;
-    while p < 64 {
-        if is_match(image, g, n, frame, print, set, image[at + 8 + p / 8], p) {
-            return p;
+    let set = image[64 + 2 * g.slots + 80 * n + 2];
+    let mut j = 0;
+    while j < 8 {
+        let k = found_in_word(image, g, n, frame, print, set, j);
+        if k < 8 {
+            return 8 * j + k;
         }
-        p += 1;
+        j += 1;
     }
-    p
+    64
 }

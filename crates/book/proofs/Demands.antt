@@ -2,7 +2,6 @@
 use Rattle.book.specs.Demands.{Demand2, Demand3, Placed}
 pub use Rattle.book.proofs.Demand1.{demand1}
 pub use Rattle.book.proofs.Fixed.{fixed}
-pub use Rattle.book.proofs.Starred.{every-starred}
 pub use Rattle.book.proofs.Scripts.{scripts}
 use Rattle.book.proofs.Assembly.{Scripted, opens, claims, fills, commits, abandons, removes, asks, lists, retires, Steps, demand2-from, demand3-from}
 use Rattle.book.proofs.StepOpen.{step-open}

@@ -21,7 +21,7 @@ use Rattle.tree.proofs.Cases.{test, true-not-false}
 use Rattle.tree.proofs.Tests.{says, said}
 use Rattle.book.specs.Heads.{headCount, headAt, targetOf}
 use Rattle.book.specs.Refusals.{Refusal, _gives_, refusal}
-use Rattle.book.specs.Room.{roomOn, needs, atLevel31}
+use Rattle.tree.specs.Room.{roomOn, needs, atLevel31}
 use Rattle.book.specs.State.{State, Operation, format, recover, openReel, claim, fill, commit, abandon, remove, has, list, retire, arguments, Work, memory, shape}
 use Rattle.book.specs.Checks.{badMap, badScript, outside, noPath, refusals}
 use Rattle.book.specs.Perform.{oneIf, granted, perform}

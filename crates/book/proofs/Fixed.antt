@@ -23,7 +23,9 @@ use Rattle.tree.proofs.Laws.{slot-laws, sound-laws, run-laws, node-laws, pool-l
 use Rattle.book.specs.Refusals.{_gives_, refusal}
 use Rattle.book.specs.State.{State, format, recover, openReel, memory, shape}
 use Rattle.book.specs.Checks.{badMap, refusals}
-use Rattle.book.specs.Perform.{formatStores, recoverStores, nodesOf, openScript, granted, perform}
+use Rattle.tree.specs.Subtree.{nodesOf}
+use Rattle.tree.specs.Recovery.{recoverStores}
+use Rattle.book.specs.Perform.{formatStores, openScript, granted, perform}
 use Rattle.book.specs.Agrees.{Reached}
 use Rattle.book.specs.Fixed.{FormatWrites, RecoverWrites, Right, OpenTakes, Fixed}
 use Rattle.book.proofs.Refusals.{Denies, denied, passes, refused-later}

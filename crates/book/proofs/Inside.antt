@@ -16,9 +16,12 @@ use Rattle.tree.specs.Layout.{badImage, imageWords, nextAt, sizeAt}
 use Rattle.tree.specs.Path.{levels, fanout, child}
 use Rattle.tree.specs.Fingerprint.{Rule, fingerprint, ruleOf, editionOne}
 use Rattle.tree.specs.Node.{childOf, wellFormed}
-use Rattle.tree.specs.Lookup.{Spot, firstSpot, path, pathFrom, clearAt, clearSpot, foundAt, lookup, find, freeRun}
+use Rattle.tree.specs.declared.path.Spot.{Spot}
+use Rattle.tree.specs.Lookup.{firstSpot, path, pathFrom, clearAt, clearSpot, foundAt, lookup, find, freeRun}
 use Rattle.book.specs.Heads.{stateOf, headAt, targetOf}
-use Rattle.book.specs.Room.{Room, clear, scaleUp, branchOut, lastOf, fullRoom, roomOn}
+use Rattle.tree.specs.declared.path.Room.{Room}
+use Rattle.tree.specs.declared.path.Room.the-variants.{Clear, ScaleUp, BranchOut}
+use Rattle.tree.specs.Room.{lastOf, fullRoom, roomOn}
 use Rattle.book.specs.Perform.{foundSpot}
 use Rattle.tree.proofs.Cases.{test, seen, nothing, just, some-inj, none-some, true-not-false}
 use Rattle.tree.proofs.Laws.{node-laws, spot-laws, run-laws, fingerprint-laws}
@@ -120,9 +123,9 @@ module _ (g : Geometry) (m : Memory) where
   -- ---- where a claim takes its place
 
   abbrev pub RoomInside : Room → Type 0
-  RoomInside (clear t) = SpotInside t
-  RoomInside (scaleUp n size) = (n < g .nodes) × (size < 64)
-  RoomInside (branchOut parent d) = (parent < g .nodes) × (d < levels)
+  RoomInside (Clear t) = SpotInside t
+  RoomInside (ScaleUp n size) = (n < g .nodes) × (size < 64)
+  RoomInside (BranchOut parent d) = (parent < g .nodes) × (d < levels)
 
   room-inside : (ns : List ℕ) → PathNodes levels ns → RoomInside (roomOn g m (some ns))
   unfolding roomOn fullRoom clearSpot

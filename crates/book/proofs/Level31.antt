@@ -28,7 +28,9 @@ use Rattle.book.specs.declared.Target.{Target}
 use Rattle.book.specs.declared.HeadState.{HeadState}
 use Rattle.book.specs.Heads.{headCount}
 use Rattle.book.specs.State.{State, openReel, claim}
-use Rattle.book.specs.Room.{Room, clear, scaleUp, branchOut, roomOn, needs, atLevel31}
+use Rattle.tree.specs.declared.path.Room.{Room}
+use Rattle.tree.specs.declared.path.Room.the-variants.{Clear, ScaleUp, BranchOut}
+use Rattle.tree.specs.Room.{roomOn, needs, atLevel31}
 use Rattle.book.specs.Table.{Table}
 use Rattle.book.specs.Agrees.{About, by-claim, by-fill, ClaimsPlace, Agrees}
 use Rattle.book.specs.Ways.{UnreachedRun, LowestRun, FullPath, SlotHas, Lacks, no-node, no-run}
@@ -107,9 +109,9 @@ module _ {s : State} {t : Table} (agrees : Agrees s t) where
   never-level31 {slot} f ns o q = go (roomOn (shapeOf s) (imageOf s) (some ns)) (room-is f ns o q)
     where
       go : (r : Room) → RoomIs (shapeOf s) (imageOf s) slot f r → atLevel31 r ≡ false
-      go (clear u) c = refl
-      go (scaleUp n size) c = refl
-      go (branchOut parent d) c = ne-eqb d 31 (λ e. omega (arith, full-above-31 (c .path)))
+      go (Clear u) c = refl
+      go (ScaleUp n size) c = refl
+      go (BranchOut parent d) c = ne-eqb d 31 (λ e. omega (arith, full-above-31 (c .path)))
 
   -- ---- runs of nodes that no reel reaches: the map marks exactly the others
 
@@ -150,9 +152,9 @@ module _ {s : State} {t : Table} (agrees : Agrees s t) where
     where
       go : (r : Room) → RoomIs (shapeOf s) (imageOf s) slot f r → (0 < needs r) × (shapeOf s .nodes ≤ freeRun (shapeOf s) (reads (s .pool)) (needs r))
           → Lacks s (claim words script h reel f)
-      go (clear u) c x = absurd (omega arith)
-      go (scaleUp n size) c x = absurd (omega arith)
-      go (branchOut parent d) c x = no-run has (c .path) (no-free-run (fanout d) (x .0) .0 (x .1))
+      go (Clear u) c x = absurd (omega arith)
+      go (ScaleUp n size) c x = absurd (omega arith)
+      go (BranchOut parent d) c x = no-run has (c .path) (no-free-run (fanout d) (x .0) .0 (x .1))
 
       back : Lacks s (claim words script h reel f)
           → (0 < needs (roomOn (shapeOf s) (imageOf s) (some ns)))

@@ -34,7 +34,9 @@ use Rattle.book.specs.Heads.{idleHeads}
 use Rattle.book.specs.Refusals.{_gives_}
 use Rattle.book.specs.State.{State, recover, Work, leaving}
 use Rattle.book.specs.Checks.{badMap, refusals}
-use Rattle.book.specs.Perform.{recoverStores, nodesOf, granted, perform}
+use Rattle.tree.specs.Subtree.{nodesOf}
+use Rattle.tree.specs.Recovery.{recoverStores}
+use Rattle.book.specs.Perform.{granted, perform}
 use Rattle.book.specs.Table.{Reel}
 use Rattle.book.specs.Agrees.{Agrees, Reached}
 use Rattle.book.specs.Histories.{carriedOut, done, Interrupted, Attempts, none-yet, refused, interrupted, Recovered}

@@ -17,12 +17,15 @@ use Rattle.tree.specs.Path.{child, wayOf}
 use Rattle.tree.specs.Node.{childOf}
 use Rattle.tree.specs.Slots.{Filled, rootOf}
 use Rattle.tree.specs.Reach.{Reaches, root, down}
-use Rattle.tree.specs.Lookup.{Spot, pathFrom, clearAt, clearSpot}
+use Rattle.tree.specs.declared.path.Spot.{Spot}
+use Rattle.tree.specs.Lookup.{pathFrom, clearAt, clearSpot}
 use Rattle.tree.specs.Laws.{WellFormed, FirstAt}
 use Rattle.tree.proofs.Memory.{first-laws}
 use Rattle.tree.proofs.Cases.{test, true-not-false, seen, nothing, just, some-inj, none-some}
 use Rattle.tree.proofs.Laws.{child-laws, reach-laws, node-laws, path-laws, spot-laws}
-use Rattle.book.specs.Room.{Room, clear, scaleUp, branchOut, lastOf, fullRoom, roomOn}
+use Rattle.tree.specs.declared.path.Room.{Room}
+use Rattle.tree.specs.declared.path.Room.the-variants.{Clear, ScaleUp, BranchOut}
+use Rattle.tree.specs.Room.{lastOf, fullRoom, roomOn}
 use Rattle.book.specs.Ways.{Full, FullAbove, FullPath}
 
 -- ---- elements of a list by their numbers
@@ -94,9 +97,9 @@ module _ (g : Geometry) (m : Memory) where
       pub depth : d ≤ 31
 
     abbrev pub RoomIs : Room → Type 0
-    RoomIs (clear t) = ClearRoom t
-    RoomIs (scaleUp n size) = ScaleRoom n size
-    RoomIs (branchOut parent d) = BranchRoom parent d
+    RoomIs (Clear t) = ClearRoom t
+    RoomIs (ScaleUp n size) = ScaleRoom n size
+    RoomIs (BranchOut parent d) = BranchRoom parent d
 
 pub root-way : (f : ℕ) → wayOf 0 f ≡ []
 unfolding wayOf
@@ -214,19 +217,19 @@ module _ {g : Geometry} {m : Memory} {slot : ℕ} (f : ℕ) (ns : List ℕ) (ope
   ]
 
   -- and a path full to its end, with size 64 there, asks for a branch-out
-  pub room-branches : {d : ℕ} (t : FullPath g m slot f d) → roomOn g m (some ns) ≡ branchOut (t .last) d
+  pub room-branches : {d : ℕ} (t : FullPath g m slot f d) → roomOn g m (some ns) ≡ BranchOut (t .last) d
   room-branches {d} t = go (roomOn g m (some ns)) room-is
     where
-      go : (r : Room) → RoomIs g m slot f r → r ≡ branchOut (t .last) d
-      go (clear u) c =
+      go : (r : Room) → RoomIs g m slot f r → r ≡ BranchOut (t .last) d
+      go (Clear u) c =
           let k = way-ends f d (c .depth) (t .there) (t .ends) (c .there) in
           absurd (true-not-false (t .full (c .depth) (u .node) (omega arith) (c .there) (u .place) (c .place)) (c .clear-bit))
-      go (scaleUp n size) c =
+      go (ScaleUp n size) c =
           let top : Reaches g m slot (wayOf 0 f) n = rw (root-way f) (c .there) in
           let z : d ≡ 0 = omega (arith, way-ends f 0 d top (c .ends) (t .there)) in
           let q = ap (λ x. m (sizeAt g x)) (reach-laws g m .one-node top (rw z at (t .there))) in
           absurd (elim (c .small) [ inl e ↦ omega (arith, q, c .is, t .wide) | inr e ↦ omega (arith, q, c .is, t .wide) ])
-      go (branchOut parent d') c =
+      go (BranchOut parent d') c =
           let z : d ≡ d' =
           omega (arith, way-ends f d d' (t .there) (t .ends) (c .path .there), way-ends f d' d (c .path .there) (c .path .ends) (t .there)) in
           let q = reach-laws g m .one-node (c .path .there) (rw z at (t .there)) in

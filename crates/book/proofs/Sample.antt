@@ -19,10 +19,11 @@ use Rattle.tree.specs.Check.{walkable, inPlace, isSound}
 use Rattle.tree.proofs.Cases.{test}
 use Rattle.book.specs.Heads.{stateOf, headAt, wordsOf, withHead, busy}
 use Rattle.book.specs.Refusals.{refusal}
-use Rattle.book.specs.Room.{roomOn}
+use Rattle.tree.specs.Room.{roomOn}
 use Rattle.book.specs.State.{State, Operation, format, recover, openReel, claim, fill, commit, has, arguments}
 use Rattle.book.specs.Checks.{refusals}
-use Rattle.book.specs.Perform.{formatStores, openScript, roomScript, claimScript, fillScript, recoverStores, granted, leaves, clears, perform}
+use Rattle.tree.specs.Recovery.{recoverStores}
+use Rattle.book.specs.Perform.{formatStores, openScript, roomScript, claimScript, fillScript, granted, leaves, clears, perform}
 use Rattle.book.specs.Table.{Table, Fed, nothing, fed, isPresent, framesOf, isHeld, tableRefusals, tableWork, reply, emptyTable, allIdle}
 use Rattle.book.specs.Agrees.{Agrees}
 use Rattle.book.specs.Histories.{done, replied, Follows, formatted, performed}

@@ -14,7 +14,8 @@ use Rattle.book.specs.Refusals.{refusal}
 use Rattle.book.specs.State.{State, Operation, format, recover, openReel, claim, fill, commit, abandon, remove, has, list, retire, arguments, Work}
 use Rattle.book.specs.Checks.{refusals}
 use Rattle.book.specs.CarryOut.{carry, carried}
-use Rattle.book.specs.Perform.{formatStores, recoverStores, granted, perform}
+use Rattle.tree.specs.Recovery.{recoverStores}
+use Rattle.book.specs.Perform.{formatStores, granted, perform}
 use Rattle.book.specs.Demands.{WritesImage, by-format, by-recover, GoodScript, Scripts}
 use Rattle.tree.proofs.Memory.{script-laws, apply-laws}
 use Rattle.book.proofs.Refusals.{Denies, denied, passes}

@@ -13,7 +13,8 @@ use Rattle.tree.specs.Layout.{nextAt, locateAt, sizeAt}
 use Rattle.tree.specs.Path.{fanout, child}
 use Rattle.tree.specs.Fingerprint.{ruleOf}
 use Rattle.tree.specs.Slots.{slotOf}
-use Rattle.tree.specs.Lookup.{Spot, pathFrom, find, freeRun}
+use Rattle.tree.specs.declared.path.Spot.{Spot}
+use Rattle.tree.specs.Lookup.{pathFrom, find, freeRun}
 use Rattle.tree.specs.Pool.{markAll}
 use Rattle.tree.proofs.Cases.{true-not-false}
 use Rattle.tree.proofs.Memory.{apply-laws, crash-laws}
@@ -21,7 +22,9 @@ use Rattle.tree.proofs.Laws.{slot-laws, lookup-rule, child-laws}
 use Rattle.book.specs.declared.HeadState.the-variants.{Claimed}
 use Rattle.book.specs.Heads.{headCount, headAt, isIdle, busy, withHead}
 use Rattle.book.specs.State.{State, Work, claim}
-use Rattle.book.specs.Room.{Room, clear, scaleUp, branchOut, roomOn, needs}
+use Rattle.tree.specs.declared.path.Room.{Room}
+use Rattle.tree.specs.declared.path.Room.the-variants.{Clear, ScaleUp, BranchOut}
+use Rattle.tree.specs.Room.{roomOn, needs}
 use Rattle.book.specs.Checks.{refusals}
 use Rattle.book.specs.Perform.{placeIn, roomScript, claimScript, taken, group, writing, granted, perform}
 use Rattle.book.specs.Table.{Table, claimed, withTableHead, tableWork}
@@ -103,16 +106,16 @@ unfolding apply segmented
 apply-first im seg segs = apply-laws .in-turn im (stores seg) _
 
 module _ (g : Geometry) (m : Memory) (start f : ℕ) where
-  script-clear : (t : Spot) → claimScript g m (clear t) start f ≡ single ((locateAt g (t .node), withBit (m (locateAt g (t .node))) (t .place)) ∷ [])
+  script-clear : (t : Spot) → claimScript g m (Clear t) start f ≡ single ((locateAt g (t .node), withBit (m (locateAt g (t .node))) (t .place)) ∷ [])
   unfolding claimScript roomScript
   script-clear t = refl
 
-  script-scale : (n size : ℕ) → claimScript g m (scaleUp n size) start f
+  script-scale : (n size : ℕ) → claimScript g m (ScaleUp n size) start f
       ≡ single ((sizeAt g n, 2 * size) ∷ (locateAt g n, withBit (m (locateAt g n)) size) ∷ [])
   unfolding claimScript roomScript
   script-scale n size = refl
 
-  script-branch : (parent d : ℕ) → claimScript g m (branchOut parent d) start f
+  script-branch : (parent d : ℕ) → claimScript g m (BranchOut parent d) start f
       ≡ newNodes g (suc d) 64 (group start d) ∷ single ((nextAt g parent, start + 1) ∷ (locateAt g (start + child d f), withBit 0 0) ∷ [])
   unfolding claimScript roomScript
   script-branch parent d = refl
@@ -149,7 +152,7 @@ module _ {s : State} {t : Table} {h reel f slot : ℕ} (a : Asked s t h reel f s
   each : (zs : List Store) → AfterEach (Still g (t .reels) (s .image)) (s .image) zs → Through (Still g (t .reels) (s .image)) (s .image) (single zs)
   each zs b = through-each (Still g (t .reels) (s .image)) (s .image) zs start-view b
 
-  scaled : {n : ℕ} (start : ℕ) → ScaleRoom g m slot f n (m (sizeAt g n)) → ClaimStep s t h reel f slot (scaleUp n (m (sizeAt g n))) start
+  scaled : {n : ℕ} (start : ℕ) → ScaleRoom g m slot f n (m (sizeAt g n)) → ClaimStep s t h reel f slot (ScaleUp n (m (sizeAt g n))) start
   scaled {n} start c =
       let some : 0 < m (sizeAt g n) = elim (c .small) [ inl e ↦ omega arith | inr e ↦ omega arith ] in
       let small : m (sizeAt g n) < 64 = elim (c .small) [ inl e ↦ omega arith | inr e ↦ omega arith ] in
@@ -160,7 +163,7 @@ module _ {s : State} {t : Table} {h reel f slot : ℕ} (a : Asked s t h reel f s
         takes = scaled-up (c .there) (c .ends) small (c .full) (rw (script-scale, apply-single) (size-scaled a (c .there) (c .ends) some small));
       }
 
-  branched : {d start : ℕ} (x : FullPath g m slot f d) → d < 31 → LowestRun g m (fanout d) start → ClaimStep s t h reel f slot (branchOut (x .last) d) start
+  branched : {d start : ℕ} (x : FullPath g m slot f d) → d < 31 → LowestRun g m (fanout d) start → ClaimStep s t h reel f slot (BranchOut (x .last) d) start
   branched {d} {start} x deep l = record {
     final = rw (script-branch, apply-first, apply-single) (agrees-branched a x deep (l .run));
     through = rw script-branch (through-branched a x deep (l .run));
@@ -168,17 +171,17 @@ module _ {s : State} {t : Table} {h reel f slot : ℕ} (a : Asked s t h reel f s
   }
 
   by-room : (r : Room) → RoomIs g m slot f r → (needs r ≤ 0) ⊎ (startIn s r < g .nodes) → ClaimStep s t h reel f slot r (startIn s r)
-  by-room (clear u) c l = record {
+  by-room (Clear u) c l = record {
     final = rw (script-clear, apply-single, mark-none) (agrees-clear (c .depth) a (c .there) (c .place) (c .clear-bit));
     through = rw script-clear (each ((locateAt g (u .node), withBit (m (locateAt g (u .node))) (u .place)) ∷ [])
         (still-clear (c .depth) a (c .there) (c .place) (c .clear-bit), tt));
     takes = first-clear (c .there) (c .above) (c .place) (c .clear-bit) (c .lower);
   }
-  by-room (scaleUp n size) c l = rw (c .is) (scaled _ (rw (c .is) at c))
-  by-room (branchOut parent d) c l =
+  by-room (ScaleUp n size) c l = rw (c .is) (scaled _ (rw (c .is) at c))
+  by-room (BranchOut parent d) c l =
       let deep = full-above-31 (a .agrees) (c .path) in
       let some : 0 < fanout d = omega (arith, child-laws .below d f deep) in
-      let inside : startIn s (branchOut parent d) < g .nodes = elim l [ inl k ↦ absurd (omega arith) | inr k ↦ k ] in
+      let inside : startIn s (BranchOut parent d) < g .nodes = elim l [ inl k ↦ absurd (omega arith) | inr k ↦ k ] in
       rw (← c .is) (branched (c .path) deep (lowest-run (a .agrees) (fanout d) some inside))
 
 -- ---- the step

@@ -16,7 +16,8 @@ use Rattle.tree.specs.Fingerprint.{ruleOf}
 use Rattle.tree.specs.Node.{held}
 use Rattle.tree.specs.Slots.{slotOf}
 use Rattle.tree.specs.Reach.{Holds}
-use Rattle.tree.specs.Lookup.{Spot, find}
+use Rattle.tree.specs.declared.path.Spot.{Spot}
+use Rattle.tree.specs.Lookup.{find}
 use Rattle.tree.specs.Same.{Stores}
 use Rattle.tree.specs.Laws.{WellFormed}
 use Rattle.tree.specs.Changes.{Removes}

@@ -25,7 +25,8 @@ use Rattle.book.specs.declared.Target.{Target}
 use Rattle.book.specs.Heads.{headCount, headAt, busy}
 use Rattle.book.specs.State.{State, retire, arguments}
 use Rattle.book.specs.Checks.{refusals}
-use Rattle.book.specs.Perform.{perform, granted, writing, nodesOf}
+use Rattle.tree.specs.Subtree.{nodesOf}
+use Rattle.book.specs.Perform.{perform, granted, writing}
 use Rattle.book.specs.Table.{Table, withReels, tableWork}
 use Rattle.book.specs.Agrees.{Reached, Shows, About, Claims, Agrees}
 use Rattle.book.proofs.Refusals.{passes}

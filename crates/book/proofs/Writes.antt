@@ -12,9 +12,11 @@ use Rattle.tree.specs.Layout.{rootAt, locateAt, setAt, fingerprintsAt}
 use Rattle.tree.specs.Lists.{range}
 use Rattle.tree.specs.Path.{fanout}
 use Rattle.tree.specs.Fingerprint.{fingerprint, ruleOf}
-use Rattle.tree.specs.Lookup.{Spot}
+use Rattle.tree.specs.declared.path.Spot.{Spot}
 use Rattle.book.specs.declared.Target.{Target}
-use Rattle.book.specs.Room.{Room, clear, scaleUp, branchOut, needs, atLevel31}
+use Rattle.tree.specs.declared.path.Room.{Room}
+use Rattle.tree.specs.declared.path.Room.the-variants.{Clear, ScaleUp, BranchOut}
+use Rattle.tree.specs.Room.{needs, atLevel31}
 use Rattle.book.specs.Perform.{newNode, openScript, roomScript, claimScript, fillScript, bitOn, bitOff, removeScript}
 use Rattle.tree.proofs.Lists.{in-range}
 use Rattle.tree.proofs.Memory.{bit-laws, byte-laws}
@@ -54,13 +56,13 @@ module _ {words : ℕ} {g : Geometry} (z : Sized words g) where
     pub good-claim : (r : Room) (start f : ℕ) → RoomInside g m r → atLevel31 r ≡ false → (0 < needs r → start + needs r ≤ g .nodes)
         → Good words (claimScript g m r start f)
     unfolding claimScript roomScript
-    good-claim (clear t) start f a l h =
+    good-claim (Clear t) start f a l h =
         let v = bit-laws .with-fits (m (locateAt g (t .node))) (t .place) 64 (a .place) (fits _) in
         record { each = omega (arith, a .node); few = omega arith }
-    good-claim (scaleUp n size) start f a l h =
+    good-claim (ScaleUp n size) start f a l h =
         let v = bit-laws .with-fits (m (locateAt g n)) size 64 (a .1) (fits _) in
         record { each = omega arith; few = omega arith }
-    good-claim (branchOut parent d) start f a l h =
+    good-claim (BranchOut parent d) start f a l h =
         let low : d < 31 = omega (arith, eqb-false d 31 l) in
         let few = fanout-few d low in
         let run = h (few .0) in

@@ -16,7 +16,7 @@ use Rattle.tree.specs.Check.{isSoundTree, isSound}
 use Rattle.book.specs.declared.Target.{Target}
 use Rattle.book.specs.Heads.{headCount, headAt, isIdle, isClaimed, isFilled, targetOf, busy}
 use Rattle.book.specs.Refusals.{Refusal, _gives_}
-use Rattle.book.specs.Room.{roomOn, needs, atLevel31}
+use Rattle.tree.specs.Room.{roomOn, needs, atLevel31}
 use Rattle.book.specs.State.{State, Operation, format, recover, openReel, claim, fill, commit, abandon, remove, has, list, retire}
 
 -- 3: a map, or a scratch map, is not of the map's length; a script is too short

@@ -15,7 +15,8 @@ use Rattle.tree.specs.Sound.{Sound}
 use Rattle.tree.specs.Pool.{used, mark, clearMap}
 use Rattle.book.specs.Heads.{headCount}
 use Rattle.book.specs.State.{State, format, recover, openReel, memory, shape}
-use Rattle.book.specs.Perform.{recoverStores, perform}
+use Rattle.tree.specs.Recovery.{recoverStores}
+use Rattle.book.specs.Perform.{perform}
 use Rattle.book.specs.Agrees.{Reached}
 
 -- ---- Format

@@ -1,7 +1,6 @@
 pub mod Heads
 pub mod Refusals
 pub mod State
-pub mod Room
 pub mod Checks
 pub mod Perform
 pub mod Table

@@ -12,15 +12,19 @@ use Rattle.tree.specs.Lists.{range, upTo, keep}
 use Rattle.tree.specs.Path.{fanout, child}
 use Rattle.tree.specs.Fingerprint.{Rule, fingerprint, ruleOf}
 use Rattle.tree.specs.Slots.{slotOf, emptySlot}
-use Rattle.tree.specs.Lookup.{Spot, spot, pathFrom, find, freeRun}
-use Rattle.tree.specs.Subtree.{Visit, tree, allTrees, listing}
+use Rattle.tree.specs.declared.path.Spot.{Spot}
+use Rattle.tree.specs.Lookup.{spot, pathFrom, find, freeRun}
+use Rattle.tree.specs.Subtree.{tree, allTrees, nodesOf, listing}
+use Rattle.tree.specs.Recovery.{recoverStores}
 use Rattle.tree.specs.Pool.{mark, markAll, unmarkAll, clearMap, mapOf}
 use Rattle.book.specs.declared.Target.{Target}
 use Rattle.book.specs.declared.HeadState.{HeadState}
 use Rattle.book.specs.declared.HeadState.the-variants.{Idle, Claimed, Filled}
 use Rattle.book.specs.Heads.{headAt, targetOf, withHead, idleHeads}
 use Rattle.book.specs.Refusals.{refusal}
-use Rattle.book.specs.Room.{Room, clear, scaleUp, branchOut, roomOn, needs}
+use Rattle.tree.specs.declared.path.Room.{Room}
+use Rattle.tree.specs.declared.path.Room.the-variants.{Clear, ScaleUp, BranchOut}
+use Rattle.tree.specs.Room.{roomOn, needs}
 use Rattle.book.specs.State.{State, Operation, format, recover, openReel, claim, fill, commit, abandon, remove, has, list, retire, Work, leaving, Outcome}
 use Rattle.book.specs.Checks.{refusals}
 
@@ -31,12 +35,6 @@ unfoldable pub formatStores : Geometry → List Store
 formatStores g =
     (0, 1) ∷ (1, g .slots) ∷ (2, g .nodes)
     ∷ (map (λ i. (i, 0)) (range 3 61) ++ map (λ s. (rootAt s, 0)) (upTo (g .slots)))
-
--- Recover: every differing locate word of a reached node becomes its set word
-unfoldable pub recoverStores : Geometry → Memory → List Store
-recoverStores g m =
-    map (λ v. (locateAt g (v .node), m (setAt g (v .node))))
-    (keep (λ v. not (eqb (m (locateAt g (v .node))) (m (setAt g (v .node))))) (allTrees g m))
 
 -- a node made anew: next, locate and set 0, its level, its size
 abbrev pub newNode : Geometry → (node level size : ℕ) → List Store
@@ -52,22 +50,22 @@ group start d = range start (fanout d)
 
 -- the place that a claim takes; start is the new group's first node
 abbrev pub placeIn : Room → (start f : ℕ) → Spot
-placeIn (clear t) start f = t
-placeIn (scaleUp n size) start f = spot n size
-placeIn (branchOut parent d) start f = spot (start + child d f) 0
+placeIn (Clear t) start f = t
+placeIn (ScaleUp n size) start f = spot n size
+placeIn (BranchOut parent d) start f = spot (start + child d f) 0
 
 -- the scale-up or branch-out that comes before the locate store
 unfoldable pub roomScript : Geometry → Room → (start : ℕ) → List (List Store)
-roomScript g (clear t) start = []
-roomScript g (scaleUp n size) start = ((sizeAt g n, 2 * size) ∷ []) ∷ []
-roomScript g (branchOut parent d) start =
+roomScript g (Clear t) start = []
+roomScript g (ScaleUp n size) start = ((sizeAt g n, 2 * size) ∷ []) ∷ []
+roomScript g (BranchOut parent d) start =
     flatMap (λ n. newNode g n (suc d) 64) (group start d) ∷ ((nextAt g parent, start + 1) ∷ []) ∷ []
 
 -- the locate word of the place that a claim takes, as it is then: 0 in a node made anew
 abbrev pub locateThen : Geometry → Memory → Room → ℕ → ℕ
-locateThen g m (clear t) n = m (locateAt g n)
-locateThen g m (scaleUp n' size) n = m (locateAt g n)
-locateThen g m (branchOut parent d) n = 0
+locateThen g m (Clear t) n = m (locateAt g n)
+locateThen g m (ScaleUp n' size) n = m (locateAt g n)
+locateThen g m (BranchOut parent d) n = 0
 
 -- Claim: room is made, then locate with the bit
 unfoldable pub claimScript : Geometry → Memory → Room → (start f : ℕ) → List (List Store)
@@ -77,9 +75,9 @@ claimScript g m r start f =
 
 -- the nodes that a claim takes
 abbrev pub taken : Room → (start : ℕ) → List ℕ
-taken (clear t) start = []
-taken (scaleUp n size) start = []
-taken (branchOut parent d) start = group start d
+taken (Clear t) start = []
+taken (ScaleUp n size) start = []
+taken (BranchOut parent d) start = group start d
 
 -- Fill: the frame, then the fingerprint word with its other seven bytes kept
 unfoldable pub fillScript : Rule → Geometry → Memory → Target → List (List Store)
@@ -105,10 +103,6 @@ foundSpot (some t) = t
 
 abbrev pub oneIf : Bool → ℕ
 oneIf b = cond b 1 0
-
--- the nodes of a walk
-unfoldable pub nodesOf : List Visit → List ℕ
-nodesOf vs = map (λ v. v .node) vs
 
 -- ---- what an answered operation does
 

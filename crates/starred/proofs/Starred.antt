@@ -14,9 +14,10 @@ use Rattle.tree.specs.Check.{walkable, isSoundTree}
 use Rattle.tree.specs.Pool.{mark, unmark, markAll, unmarkAll}
 use Rattle.book.specs.Heads.{stateOf, headAt, wordsOf, withHead, busy}
 use Rattle.book.specs.Refusals.{refusal}
-use Rattle.book.specs.Room.{lastOf, fullRoom, roomOn}
+use Rattle.tree.specs.Room.{lastOf, fullRoom, roomOn}
 use Rattle.book.specs.Checks.{refusals}
-use Rattle.book.specs.Perform.{formatStores, openScript, roomScript, claimScript, fillScript, nodesOf, granted, leaves, clears, perform}
+use Rattle.tree.specs.Subtree.{nodesOf}
+use Rattle.book.specs.Perform.{formatStores, openScript, roomScript, claimScript, fillScript, granted, leaves, clears, perform}
 use Rattle.book.specs.Starred.{run, formatted, keeps, withFrames, withGaps, starred, Starred}
 
 pub every-starred : Starred

@@ -17,7 +17,8 @@ use Rattle.tree.specs.Node.{frame}
 use Rattle.tree.specs.Slots.{Filled, filledSlots}
 use Rattle.tree.specs.Reach.{Holds}
 use Rattle.tree.specs.Sound.{Sound}
-use Rattle.tree.specs.Lookup.{Spot, spot, find}
+use Rattle.tree.specs.declared.path.Spot.{Spot}
+use Rattle.tree.specs.Lookup.{spot, find}
 use Rattle.tree.specs.Subtree.{tree, allTrees, heldPlaces}
 use Rattle.tree.specs.Check.{isAt, walkable, inPlace, isSound}
 use Rattle.tree.specs.Laws.{SoundLaws}

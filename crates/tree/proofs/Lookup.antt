@@ -17,7 +17,8 @@ use Rattle.tree.specs.Node.{held, frame, storedFingerprint}
 use Rattle.tree.specs.Slots.{Filled}
 use Rattle.tree.specs.Reach.{Reaches, Holds}
 use Rattle.tree.specs.Sound.{Sound, SoundTree}
-use Rattle.tree.specs.Lookup.{Spot, spot, pathFrom, matches, foundAt, lookup, lookupOn, find}
+use Rattle.tree.specs.declared.path.Spot.{Spot}
+use Rattle.tree.specs.Lookup.{spot, pathFrom, matches, foundAt, lookup, lookupOn, find}
 use Rattle.tree.specs.Laws.{Match, LookupSays, LookupRule}
 use Rattle.tree.proofs.Cases.{true-not-false, seen, nothing, just, some-inj, none-some}
 use Rattle.tree.proofs.Tests.{says, said}

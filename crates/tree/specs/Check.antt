@@ -12,7 +12,8 @@ use Rattle.tree.specs.Layout.{reelAt}
 use Rattle.tree.specs.Fingerprint.{Rule}
 use Rattle.tree.specs.Node.{wellFormed, frame}
 use Rattle.tree.specs.Slots.{filledSlots}
-use Rattle.tree.specs.Lookup.{Spot, find}
+use Rattle.tree.specs.declared.path.Spot.{Spot}
+use Rattle.tree.specs.Lookup.{find}
 use Rattle.tree.specs.Subtree.{Visit, tree, allTrees, heldPlaces}
 
 -- an answer of the lookup is this place

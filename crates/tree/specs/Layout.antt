@@ -1,5 +1,8 @@
 -- Layout of the image: the index of each word that has a meaning.
-use Prim.Native.Nat.{ℕ, _+_, _*_, _/_}
+use mathlib.Core.Path.{_≡_}
+use mathlib.Core.List.{List}
+use Prim.Native.Nat.{ℕ, _+_, _*_, _/_, _≤_}
+use lib.ListN.{length}
 use Rattle.memory.specs.Words.{Memory}
 use Rattle.tree.specs.Test.{Test, lt, le, ne, _and_, _or_}
 use Rattle.tree.specs.declared.layout.Geometry.{Geometry}
@@ -14,6 +17,12 @@ imageWords g = 64 + 2 * g .slots + 80 * g .nodes
 -- refusal 1: the image's length, R or N is wrong
 unfoldable pub badImage : ℕ → Geometry → Test
 badImage words g = (lt (g .slots) 1 or lt 4096 (g .slots) or lt (g .nodes) 1 or lt 65536 (g .nodes)) or ne words (imageWords g)
+
+-- what refusal 1 leaves: an image of its geometry's length, R and N not above their limits
+pub record Sized (image : List ℕ) (g : Geometry) : Type 0 where
+  pub words : length image ≡ imageWords g
+  pub slots-limit : g .slots ≤ 4096
+  pub nodes-limit : g .nodes ≤ 65536
 
 -- the pool map's length; bit n of the map is `marked map n` of the layer below
 abbrev pub mapWords : Geometry → ℕ

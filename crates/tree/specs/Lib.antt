@@ -8,8 +8,10 @@ pub mod Slots
 pub mod Reach
 pub mod Sound
 pub mod Lookup
+pub mod Room
 pub mod Subtree
 pub mod Check
+pub mod Recovery
 pub mod Same
 pub mod Changes
 pub mod Laws

@@ -8,17 +8,14 @@ use Rattle.memory.specs.Words.{Memory, isSet, marked}
 use Rattle.memory.specs.Search.{first}
 use Rattle.tree.specs.Test.{is, le, eq, _and_, holds}
 use Rattle.tree.specs.declared.layout.Geometry.{Geometry}
+use Rattle.tree.specs.declared.path.Spot.{Spot}
 use Rattle.tree.specs.Layout.{nextAt, locateAt, sizeAt}
 use Rattle.tree.specs.Path.{levels, child}
 use Rattle.tree.specs.Fingerprint.{Rule, fingerprint}
 use Rattle.tree.specs.Node.{childOf, wellFormed, held, frame, storedFingerprint}
 use Rattle.tree.specs.Slots.{rootOf}
 
--- a place of a node
-pub record Spot : Type 0 where
-  pub node : ℕ
-  pub place : ℕ
-
+-- a place of a node, by its numbers
 abbrev pub spot : ℕ → ℕ → Spot
 spot n p = record { node = n; place = p }
 

@@ -20,6 +20,10 @@ pub record Visit : Type 0 where
 abbrev pub visit : List ℕ → ℕ → Visit
 visit w n = record { way = w; node = n }
 
+-- the nodes of a walk
+unfoldable pub nodesOf : List Visit → List ℕ
+nodesOf vs = map (λ v. v .node) vs
+
 module _ (g : Geometry) (m : Memory) where
   -- how many children a node at a depth has
   unfoldable pub children : ℕ → ℕ → ℕ

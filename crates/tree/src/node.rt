@@ -5,7 +5,7 @@ ghost use lib.ListN.{length};
 ghost use lib.Dec.{ltb};
 ghost use Rattle.memory.specs.Words.{reads};
 ghost use Rattle.tree.specs.Test.{lt, le, eq, _and_, _or_, holds};
-ghost use Rattle.tree.specs.Layout.{imageWords, sizeAt};
+ghost use Rattle.tree.specs.Layout.{Sized, sizeAt};
 ghost use Rattle.tree.specs.Path.{fanout};
 ghost use Rattle.tree.specs.Node.{sizeAllowed, wellFormed};
 ghost use Rattle.tree.specs.Lookup.{clearAt};
@@ -47,7 +47,7 @@ fn children_inside(nodes: usize, depth: u64, size: u64, next: u64) -> bool
 
 // Is node n well formed at a depth? Outside the pool it is not, and is not read.
 pub fn well_formed(image: &[u64], g: Geometry, depth: u64, n: usize) -> bool
-    requires { ⌜ (length (now image) ≡ imageWords g) × (g .slots ≤ 4096) × (g .nodes ≤ 65536) ⌝ }
+    requires { ⌜ Sized (now image) g ⌝ }
     ensures { λ r. ⌜ r ≡ wellFormed g (reads (now (image .entry))) depth n ⌝ }
 {
     let nodes = g.nodes;
@@ -65,7 +65,7 @@ pub fn well_formed(image: &[u64], g: Geometry, depth: u64, n: usize) -> bool
 
 // The lowest clear place of a node of the pool: its locate bit is 0. Its size where there is none.
 pub fn clear_place(image: &[u64], g: Geometry, n: usize) -> usize
-    requires { ⌜ (length (now image) ≡ imageWords g) × (g .slots ≤ 4096) × (g .nodes ≤ 65536) × (n < g .nodes) × (reads (now image) (sizeAt g n) ≤ 64) ⌝ }
+    requires { ⌜ Sized (now image) g × (n < g .nodes) × (reads (now image) (sizeAt g n) ≤ 64) ⌝ }
     ensures { λ r. ⌜ r ≡ clearAt g (reads (now (image .entry))) n ⌝ }
 {
     let at = 64 + 2 * g.slots + 80 * n;

@@ -4,6 +4,22 @@ ghost use Prim.Native.Nat.{_≤_};
 ghost use Rattle.tree.specs.Path.{fanout, child};
 use memory::words::bit_of;
 
+// A place of a node.
+pub struct Spot {
+    pub node: usize,
+    pub place: usize,
+}
+
+// Where there is room for a frame on its path.
+pub enum Room {
+    // The first node of the path with a clear place, and the lowest such place.
+    Clear(Spot),
+    // The root is the only node, full, with size 16 or 32.
+    ScaleUp { node: usize, size: u64 },
+    // Every node is full, and the last has size 64.
+    BranchOut { parent: usize, depth: u64 },
+}
+
 // Two children at levels 0 to 2, four at 3 to 30, none at 31.
 pub fn fanout(level: u64) -> usize
     ensures { λ r. ⌜ r ≡ fanout level ⌝ }

@@ -4,7 +4,7 @@ ghost use Prim.Native.Nat.{ℕ, _+_, _*_, _≤_, _<_};
 ghost use lib.ListN.{length};
 ghost use Rattle.memory.specs.Words.{reads};
 ghost use Rattle.memory.specs.Search.{first};
-ghost use Rattle.tree.specs.Layout.{imageWords, setAt, fingerprintsAt};
+ghost use Rattle.tree.specs.Layout.{Sized, setAt, fingerprintsAt};
 ghost use Rattle.tree.specs.Fingerprint.{editionOne, fingerprint};
 ghost use Rattle.tree.specs.Lookup.{matches, foundAt};
 use crate::fingerprint::fingerprint;
@@ -24,7 +24,7 @@ fn is_match(
     prints: u64,
     p: usize,
 ) -> bool
-    requires { ⌜ (length (now image) ≡ imageWords g) × (g .slots ≤ 4096) × (g .nodes ≤ 65536) × (n < g .nodes) × (p < 64) × (print ≡ fingerprint editionOne frame) × (set ≡ reads (now image) (setAt g n)) × (prints ≡ reads (now image) (fingerprintsAt g n p)) ⌝ }
+    requires { ⌜ Sized (now image) g × (n < g .nodes) × (p < 64) × (print ≡ fingerprint editionOne frame) × (set ≡ reads (now image) (setAt g n)) × (prints ≡ reads (now image) (fingerprintsAt g n p)) ⌝ }
     ensures { λ r. ⌜ r ≡ matches editionOne g (reads (now (image .entry))) frame n p ⌝ }
 {
     let likely = is_set(set, p as u32) & (byte_of(prints, (p % 8) as u32) == print);
@@ -45,7 +45,7 @@ fn found_in_word(
     set: u64,
     j: usize,
 ) -> usize
-    requires { ⌜ (length (now image) ≡ imageWords g) × (g .slots ≤ 4096) × (g .nodes ≤ 65536) × (n < g .nodes) × (j < 8) × (print ≡ fingerprint editionOne frame) × (set ≡ reads (now image) (setAt g n)) ⌝ }
+    requires { ⌜ Sized (now image) g × (n < g .nodes) × (j < 8) × (print ≡ fingerprint editionOne frame) × (set ≡ reads (now image) (setAt g n)) ⌝ }
     ensures { λ r. ⌜ r ≡ first (λ (k : ℕ). matches editionOne g (reads (now (image .entry))) frame n (8 * j + k)) 8 ⌝ }
 {
     if byte_of(set, j as u32) == 0 {
@@ -64,7 +64,7 @@ fn found_in_word(
 
 // The lowest place of a node of the pool that holds the frame, or 64: a step for each fingerprint word.
 pub fn found_place(image: &[u64], g: Geometry, n: usize, frame: u64) -> usize
-    requires { ⌜ (length (now image) ≡ imageWords g) × (g .slots ≤ 4096) × (g .nodes ≤ 65536) × (n < g .nodes) ⌝ }
+    requires { ⌜ Sized (now image) g × (n < g .nodes) ⌝ }
     ensures { λ r. ⌜ r ≡ foundAt editionOne g (reads (now (image .entry))) frame n ⌝ }
 {
     let print = fingerprint(frame);

@@ -4,13 +4,13 @@ ghost use Prim.Native.Nat.{_≤_, _<_};
 ghost use lib.ListN.{length};
 ghost use Rattle.memory.specs.Words.{reads};
 ghost use Rattle.tree.specs.Test.{is, eq, _and_, holds};
-ghost use Rattle.tree.specs.Layout.{imageWords, reelAt};
+ghost use Rattle.tree.specs.Layout.{Sized, reelAt};
 ghost use Rattle.tree.specs.Slots.{filled, slotOf, emptySlot};
 use crate::layout::Geometry;
 
 // Does slot s have a root?
 pub fn is_filled(image: &[u64], g: Geometry, s: usize) -> bool
-    requires { ⌜ (length (now image) ≡ imageWords g) × (g .slots ≤ 4096) × (g .nodes ≤ 65536) × (s < g .slots) ⌝ }
+    requires { ⌜ Sized (now image) g × (s < g .slots) ⌝ }
     ensures { λ r. ⌜ r ≡ filled (reads (now (image .entry))) s ⌝ }
 {
     image[64 + 2 * s + 1] != 0
@@ -18,7 +18,7 @@ pub fn is_filled(image: &[u64], g: Geometry, s: usize) -> bool
 
 // Is slot s filled with this reel's number? An empty slot's number means nothing.
 pub fn is_reel(image: &[u64], g: Geometry, s: usize, reel: u64) -> bool
-    requires { ⌜ (length (now image) ≡ imageWords g) × (g .slots ≤ 4096) × (g .nodes ≤ 65536) × (s < g .slots) ⌝ }
+    requires { ⌜ Sized (now image) g × (s < g .slots) ⌝ }
     ensures { λ r. ⌜ r ≡ holds (is (filled (reads (now (image .entry))) s) and eq (reads (now (image .entry)) (reelAt s)) reel) ⌝ }
 {
     let has_root = is_filled(image, g, s);
@@ -28,7 +28,7 @@ pub fn is_reel(image: &[u64], g: Geometry, s: usize, reel: u64) -> bool
 
 // A reel's slot: the lowest that is filled with its number; the number of slots where there is none.
 pub fn slot_of(image: &[u64], g: Geometry, reel: u64) -> usize
-    requires { ⌜ (length (now image) ≡ imageWords g) × (g .slots ≤ 4096) × (g .nodes ≤ 65536) ⌝ }
+    requires { ⌜ Sized (now image) g ⌝ }
     ensures { λ r. ⌜ r ≡ slotOf g (reads (now (image .entry))) reel ⌝ }
 {
     let mut s = 0;
@@ -43,7 +43,7 @@ pub fn slot_of(image: &[u64], g: Geometry, reel: u64) -> usize
 
 // The lowest empty slot; the number of slots where there is none.
 pub fn empty_slot(image: &[u64], g: Geometry) -> usize
-    requires { ⌜ (length (now image) ≡ imageWords g) × (g .slots ≤ 4096) × (g .nodes ≤ 65536) ⌝ }
+    requires { ⌜ Sized (now image) g ⌝ }
     ensures { λ r. ⌜ r ≡ emptySlot g (reads (now (image .entry))) ⌝ }
 {
     let mut s = 0;

@@ -20,13 +20,13 @@ returns : tie.Need-returns Inv-loop μ-loop
 returns c =
     let start = c .before .before .before in
     let a = start .args in
-    word-unset (a .g) (readsWords (a .image .now)) (a .frame) (a .n) (a .j) (start .pre .6) (c .before .byte-of .ensures) (c .if1 .taken)
+    word-unset (a .g) (readsWords (a .image .now)) (a .frame) (a .n) (a .j) (start .pre .4) (c .before .byte-of .ensures) (c .if1 .taken)
 
 -- all eight places have their fingerprints in word j
 is-match-requires : tie.Need-is-match-requires Inv-loop μ-loop
 is-match-requires c κs =
     let a = c .before .before .before .before .before .before .before .args in
-    (search needs, search needs, search needs, search needs, search needs, search needs, search needs, ap (readsWords (a .image .now)) (omega arith))
+    (search needs, search needs, search needs, search needs, search needs, ap (readsWords (a .image .now)) (omega arith))
 
 returns-2 : tie.Need-returns-2 Inv-loop μ-loop
 returns-2 c =

@@ -12,7 +12,7 @@ returns c =
     let set = byte .before in
     let start = set .before .before in
     let a = start .args in
-    match-likely (a .g) (readsWords (a .image .now)) (a .frame) (a .n) (a .p) (start .pre .5) (start .pre .6) (start .pre .7)
+    match-likely (a .g) (readsWords (a .image .now)) (a .frame) (a .n) (a .p) (start .pre .3) (start .pre .4) (start .pre .5)
     (set .is-set .ensures) (byte .byte-of .ensures) (likely .if1 .taken)
 
 returns-2 : tie.Need-returns-2
@@ -21,7 +21,7 @@ returns-2 c =
     let set = byte .before in
     let start = set .before .before in
     let a = start .args in
-    match-not (a .g) (readsWords (a .image .now)) (a .frame) (a .n) (a .p) (start .pre .5) (start .pre .6) (start .pre .7)
+    match-not (a .g) (readsWords (a .image .now)) (a .frame) (a .n) (a .p) (start .pre .3) (start .pre .4) (start .pre .5)
     (set .is-set .ensures) (byte .byte-of .ensures) (c .if1 .left)
 
 pub is-match-spec : {M : Type 1} → statement M

@@ -1,8 +1,8 @@
 -- What the driver keeps, the eleven operations with their arguments, and what an operation answers.
 use mathlib.Core.Bool.{Bool, cond}
-use mathlib.Core.List.{List, [], _∷_, _++_}
+use mathlib.Core.List.{List, [], _∷_}
 use Prim.Native.Nat.{ℕ}
-use lib.ListN.{length, drop}
+use lib.ListN.{length}
 use Rattle.tree.specs.Memory.{Memory, reads, Store}
 use Rattle.tree.specs.declared.layout.Geometry.{Geometry}
 use Rattle.tree.specs.Layout.{geometryOf}
@@ -66,10 +66,6 @@ pub record Outcome : Type 0 where
   pub answer : ℕ
   pub work : Work
   pub cleared : Bool
-
--- the borrowed list with List's frames at its start: its tail stays
-unfoldable pub listed : (frames buffer : List ℕ) → List ℕ
-listed frames buffer = frames ++ drop (length frames) buffer
 
 -- the borrowed scratch map at the end: all 0 of the same length where it is cleared, else as it was
 unfoldable pub scratchAfter : (cleared : Bool) (scratch : List ℕ) → List ℕ

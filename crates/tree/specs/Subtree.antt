@@ -1,8 +1,8 @@
 -- The nodes reached from a slot, in the order of List, and its frames.
 use mathlib.Core.Bool.{cond}
-use mathlib.Core.List.{List, [], _∷_, map, flatMap}
+use mathlib.Core.List.{List, [], _∷_, _++_, map, flatMap}
 use Prim.Native.Nat.{ℕ, zero, suc}
-use lib.ListN.{length}
+use lib.ListN.{length, drop}
 use lib.Dec.{eqb}
 use Rattle.memory.specs.Words.{Memory}
 use Rattle.tree.specs.Lists.{upTo, keep}
@@ -23,6 +23,10 @@ visit w n = record { way = w; node = n }
 -- the nodes of a walk
 unfoldable pub nodesOf : List Visit → List ℕ
 nodesOf vs = map (λ v. v .node) vs
+
+-- a borrowed list with frames written at its start: its tail stays
+unfoldable pub listed : (frames buffer : List ℕ) → List ℕ
+listed frames buffer = frames ++ drop (length frames) buffer
 
 module _ (g : Geometry) (m : Memory) where
   -- how many children a node at a depth has

@@ -11,12 +11,12 @@ use Rattle.tree.specs.Layout.{nodeAt, nextAt, locateAt, setAt, levelAt, sizeAt}
 use Rattle.tree.specs.Reach.{Reaches}
 use Rattle.tree.specs.Same.{Same, SameWords}
 use Rattle.tree.proofs.Lists.{within, together}
+use Rattle.tree.proofs.Memory.{settles}
 use Rattle.book.specs.Perform.{newNode}
 use Rattle.book.specs.Table.{Reel}
 use Rattle.book.specs.Agrees.{Reached}
 use Rattle.book.proofs.View.{Header, View}
 use Rattle.book.proofs.Stored.{node-inside}
-use Rattle.book.proofs.StoreLists.{settles}
 use Rattle.book.proofs.Sames.{of-node}
 use Rattle.book.proofs.Crashed.{view-torn}
 use Rattle.book.proofs.Keeps.{within-same}

@@ -1,14 +1,14 @@
 -- Laws of `apply`: what entries that are carried out leave in each word.
-use mathlib.Core.Path.{_≡_, refl, _∙_}
+use mathlib.Core.Path.{_≡_, refl, _∙_, ap}
 use mathlib.Core.Logic.{_⊎_, inl, inr}
-use mathlib.Core.List.{List, [], _∷_, _++_, List·Memᴰ, List·Memᴰ·head, List·Memᴰ·tail, List·Memᴰ·append-cases, Memᴰ·append-left}
+use mathlib.Core.List.{List, [], _∷_, _++_, List·Memᴰ, List·Memᴰ·head, List·Memᴰ·tail, List·Memᴰ·cases-cons, List·Memᴰ·not-nil, List·Memᴰ·append-cases, Memᴰ·append-left}
 use Prim.Native.Nat.{ℕ, _^_, _<_}
 use native.Mathlib.Omega.{arith}
 use native.Mathlib.Decide.{ℕ-discrete, decLt}
 use lib.ListN.{length, set, length-set}
 use lib.Seq.{getD-set-same, getD-set-other, set-out}
 use Rattle.memory.specs.Words.{reads}
-use Rattle.memory.specs.Script.{Entry, store, barrier}
+use Rattle.memory.specs.Script.{Entry, store, barrier, Store, stores}
 use Rattle.memory.specs.Crash.{apply, fenced, unfenced}
 use Rattle.memory.specs.Laws.{Avoids, FitStores, ApplyLaws}
 
@@ -66,6 +66,20 @@ unfolding apply
 content m [] i = inl refl
 content m (store j w ∷ es) i = elim (content (set m j w) es i) [ inl q ↦ rw q (set-content m j w i) | inr x ↦ inr (List·Memᴰ·tail x) ]
 content m (barrier ∷ es) i = elim (content m es i) [ inl q ↦ inl q | inr x ↦ inr (List·Memᴰ·tail x) ]
+
+-- a word that has a value, or gets it by a store, and gets no other, has it in the end
+pub settles : (m : List ℕ) (seg : List Store) (i v : ℕ) → i < length m → ((u : ℕ) → List·Memᴰ (i, u) seg → u ≡ v)
+    → (reads m i ≡ v) ⊎ List·Memᴰ (i, v) seg → reads (apply m (stores seg)) i ≡ v
+unfolding apply stores
+settles m [] i v l h (inl q) = q
+settles m [] i v l h (inr x) = absurd (List·Memᴰ·not-nil x)
+settles m ((j, w) ∷ seg) i v l h o = settles (set m j w) seg i v (rw length-set l) (λ u x. h u (List·Memᴰ·tail x)) (elim (ℕ-discrete i j) [
+  | yes q ↦ inl (rw q (getD-set-same m j w 0 (rw (← q) l)) ∙ h w (List·Memᴰ·head (ap (λ k. (k, w)) q)))
+  | no n ↦ elim o [
+    | inl q ↦ inl (getD-set-other m j i w 0 n ∙ q)
+    | inr x ↦ elim (List·Memᴰ·cases-cons x) [ inl q ↦ absurd (n (ap (λ t. t .0) q)) | inr y ↦ inr y ]
+  ]
+])
 
 -- word i may hold v where power is lost after all of es
 abbrev pub Possible : List ℕ → List Entry → ℕ → ℕ → Type 0

@@ -49,13 +49,19 @@ written-append es fs buffer =
     let two : 2 * length (es ++ fs) ≡ 2 * length es + 2 * length fs = simp length-append (omega arith) in
     rw (take-written es buffer, drop-written es buffer, two, encode-append es fs, ← drop-drop (2 * length fs) (2 * length es) buffer, append-assoc) refl
 
--- the rest of the buffer is lent on, as `&mut script[n..]`, and more is written there
+-- `&mut buffer[n..]` lends what is left of a buffer, and puts it back behind what stands before it
+pub rest-lent : (n : ℕ) (xs : List ℕ) → midOf n (length xs - n) xs ≡ drop n xs
+rest-lent n xs = take-all (length xs - n) (drop n xs) (le-of-eq (length-drop n xs))
+
+pub rest-back : (n : ℕ) (xs ys : List ℕ) → putMid n (length xs - n) xs ys ≡ take n xs ++ ys
+rest-back n xs ys =
+    let none : postOf n (length xs - n) xs ≡ [] = drop-of-length-le (drop n xs) (le-of-eq (length-drop n xs)) in
+    rw (none, append-nil) refl
+
+-- the rest of the buffer is lent on, and more is written there
 pub written-rest : (es fs : List Entry) (n : ℕ) (buffer xs ys : List ℕ) → 2 * length es ≡ n → xs ≡ written es buffer
     → ys ≡ written fs (midOf n (length xs - n) xs) → putMid n (length xs - n) xs ys ≡ written (es ++ fs) buffer
-written-rest es fs n buffer xs ys l ex ey =
-    let rest : midOf n (length xs - n) xs ≡ drop n xs = take-all (length xs - n) (drop n xs) (le-of-eq (length-drop n xs)) in
-    let none : postOf n (length xs - n) xs ≡ [] = drop-of-length-le (drop n xs) (le-of-eq (length-drop n xs)) in
-    rw (none, append-nil, ey, rest, ex, ← l) (written-append es fs buffer)
+written-rest es fs n buffer xs ys l ex ey = rw (rest-back n xs ys, ey, rest-lent n xs, ex, ← l) (written-append es fs buffer)
 
 -- two words set at the start
 pub set-two : (buffer : List ℕ) (a b : ℕ) → 2 ≤ length buffer → set (set buffer 0 a) 1 b ≡ a ∷ b ∷ drop 2 buffer

@@ -64,11 +64,11 @@ module _ (g : Geometry) (m : Memory) where
   -- ---- the tests
 
   -- every node is well formed at its depth, as a test of a list
-  formed-at : {vs : List Visit} {w : List ℕ} {n : ℕ} → walkable g m vs ≡ true → List·Memᴰ (visit w n) vs → wellFormed g m (length w) n ≡ true
+  pub formed-at : {vs : List Visit} {w : List ℕ} {n : ℕ} → walkable g m vs ≡ true → List·Memᴰ (visit w n) vs → wellFormed g m (length w) n ≡ true
   unfolding walkable
   formed-at {vs} h x = every-at _ (and-true _ (distinct (λ v. v .node) vs) h .0) x
 
-  walked-once : {vs : List Visit} → walkable g m vs ≡ true → Distinct (λ v. v .node) vs
+  pub walked-once : {vs : List Visit} → walkable g m vs ≡ true → Distinct (λ v. v .node) vs
   unfolding walkable
   walked-once {vs} h = distinct-says (λ v. v .node) vs (and-true (every (λ v. wellFormed g m (length (v .way)) (v .node)) vs) _ h .1)
 

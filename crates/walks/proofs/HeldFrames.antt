@@ -1,0 +1,67 @@
+-- The test of a node's frames, place by place.
+use mathlib.Core.Path.{_≡_, refl, sym, _∙_, ap}
+use mathlib.Core.Bool.{Bool, true, false, cond, not, _&&_}
+use mathlib.Core.Logic.{inl, inr}
+use mathlib.Core.List.{List, [], _∷_}
+use Prim.Native.Nat.{ℕ, zero, suc, _+_, _-_, _≤_, _<_}
+use native.Mathlib.Numerals.{add-one}
+use native.Mathlib.Omega.{arith}
+use borrow.Author.Tests.{not-true, not-false}
+use Rattle.memory.specs.Words.{Memory, isSet}
+use Rattle.tree.specs.Lists.{range, upTo, keep, every}
+use Rattle.tree.specs.declared.layout.Geometry.{Geometry}
+use Rattle.tree.specs.Layout.{setAt}
+use Rattle.tree.specs.Fingerprint.{editionOne}
+use Rattle.tree.specs.Node.{held, frame}
+use Rattle.tree.specs.Lookup.{find}
+use Rattle.tree.specs.Subtree.{visit, heldPlaces}
+use Rattle.tree.specs.Check.{isAt, inPlace}
+use Rattle.tree.proofs.Cases.{test}
+use Rattle.walks.specs.declared.descent.Found.{Found}
+use Rattle.walks.specs.Answers.{foundFrom}
+use Rattle.walks.specs.Descent.{placePasses}
+use Rattle.walks.proofs.PathSteps.{spotIn, find-spot}
+
+-- a test of the elements kept, one element at a time
+every-kept : {A : Type 0} (q h : A → Bool) (x : A) (xs : List A) → every q (keep h (x ∷ xs)) ≡ cond (h x) (q x) true && every q (keep h xs)
+unfolding every keep
+every-kept q h x xs = elim (test (h x)) [ inl e ↦ rw e refl | inr e ↦ rw e refl ]
+
+module _ (g : Geometry) (m : Memory) (s n : ℕ) where
+  abbrev foundThere : ℕ → Bool
+  foundThere p = isAt n p (find editionOne g m s (frame g m n p))
+
+  -- the test of the places from p on
+  unfoldable pub passesFrom : ℕ → Bool
+  passesFrom p = every foundThere (keep (held g m n) (range p (64 - p)))
+
+  -- a place that holds no frame passes; one that holds a frame passes if the lookup finds it there
+  pub passes-clear : (p : ℕ) {set : Bool} → set ≡ isSet (m (setAt g n)) p → not set ≡ true → true ≡ placePasses g m s n p
+  unfolding placePasses
+  passes-clear p e z = rw (sym e ∙ not-true _ z) refl
+
+  pub passes-held : (p : ℕ) {set : Bool} {r x : Found} → set ≡ isSet (m (setAt g n)) p → not set ≡ false → r ≡ foundFrom g m s (frame g m n p) → r ≡ x
+      → isAt n p (spotIn x) ≡ placePasses g m s n p
+  unfolding placePasses
+  passes-held p e z q t =
+      rw (sym e ∙ not-false _ z) (ap (λ (y : Found). isAt n p (spotIn y)) (sym t ∙ q) ∙ ap (isAt n p) (sym (find-spot g m s (frame g m n p))))
+
+  pub passes-start : inPlace editionOne g m s (visit [] n) ≡ passesFrom 0
+  unfolding inPlace heldPlaces upTo passesFrom
+  passes-start = refl
+
+  passes-step : (p : ℕ) → p < 64 → passesFrom p ≡ placePasses g m s n p && passesFrom (p + 1)
+  unfolding passesFrom placePasses range
+  passes-step p l =
+      let e : 64 - p ≡ suc (64 - suc p) = omega arith in
+      rw (e, add-one) (every-kept foundThere (held g m n) p (range (suc p) (64 - suc p)))
+
+  pub passes-not : (p : ℕ) {ok : Bool} → p < 64 → ok ≡ placePasses g m s n p → not ok ≡ true → false ≡ passesFrom p
+  passes-not p l e z = sym (passes-step p l ∙ rw (sym e ∙ not-true _ z) refl)
+
+  pub passes-on : (p : ℕ) {ok : Bool} → p < 64 → ok ≡ placePasses g m s n p → not ok ≡ false → passesFrom p ≡ passesFrom (p + 1)
+  passes-on p l e z = passes-step p l ∙ rw (sym e ∙ not-false _ z) refl
+
+  pub passes-end : (p : ℕ) → 64 ≤ p → true ≡ passesFrom p
+  unfolding passesFrom range keep every
+  passes-end p l = let e : 64 - p ≡ 0 = omega arith in rw e refl

@@ -1,0 +1,19 @@
+-- The laws that specs/Laws.antt states, by their name.
+use mathlib.Core.List.{List}
+use Prim.Native.Nat.{ℕ}
+use Rattle.memory.specs.Words.{reads}
+use Rattle.tree.specs.declared.layout.Geometry.{Geometry}
+use Rattle.walks.specs.Laws.{WalkLaws}
+use Rattle.walks.proofs.SlotWalks.{slot-law, slots-law}
+use Rattle.walks.proofs.MarkedNodesCount.{count-law}
+use Rattle.walks.proofs.MarkedNodesFree.{free-law}
+use Rattle.walks.proofs.MarkedNodesMend.{mend-law}
+
+pub walk-laws : (g : Geometry) (image : List ℕ) → WalkLaws g image
+walk-laws g image = record {
+  slot = slot-law g image;
+  slots = slots-law g image;
+  count = count-law g (reads image);
+  free = free-law g;
+  mend = mend-law g image;
+}

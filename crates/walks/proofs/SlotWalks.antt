@@ -1,0 +1,167 @@
+-- A slot's walk decides that its tree is sound, all slots' walk that the image is; each leaves the map of the nodes reached.
+use mathlib.Core.Path.{_≡_, refl, sym, _∙_, ap, ap₂}
+use mathlib.Core.Bool.{Bool, true, false, cond, _&&_}
+use mathlib.Core.Bool as bool
+use mathlib.Core.Logic.{inl, inr}
+use mathlib.Core.Option.{none}
+use mathlib.Core.List.{List, [], _∷_, map, map-map, flatMap, List·Memᴰ, Memᴰ·of-map}
+use Prim.Native.Nat.{ℕ, _<_}
+use native.Mathlib.Omega.{arith}
+use lib.ListN.{length}
+use lib.Dec.{eqb}
+use borrow.Author.Tests.{eqb-true, eq-eqb}
+use Rattle.memory.specs.Words.{Memory, reads}
+use Rattle.tree.specs.Lists.{upTo, keep, every, distinct, Distinct}
+use Rattle.tree.specs.declared.layout.Geometry.{Geometry}
+use Rattle.tree.specs.Layout.{mapWords, reelAt}
+use Rattle.tree.specs.Path.{levels}
+use Rattle.tree.specs.Fingerprint.{editionOne}
+use Rattle.tree.specs.Node.{wellFormed}
+use Rattle.tree.specs.Slots.{filled, rootOf, filledSlots, slotOf}
+use Rattle.tree.specs.Subtree.{Visit, nodesOf, tree, allTrees}
+use Rattle.tree.specs.Check.{walkable, isSoundTree, inPlace, isSound}
+use Rattle.tree.specs.Pool.{clearMap, mapOf}
+use Rattle.tree.proofs.Cases.{test, and-true}
+use Rattle.tree.proofs.Lists.{flatMap-cong, every-at, at-every}
+use Rattle.tree.proofs.Distinct.{distinct-says, distinct-said, same-element, distinct-by}
+use Rattle.tree.proofs.Laws.{node-laws, slot-laws}
+use Rattle.walks.specs.declared.visit.Check.the-variants.{Nodes, Frames}
+use Rattle.walks.specs.Walk.{Stop, stop, stops, formedAt, passes, walked, kept, walkedSlot, walkedSlots}
+use Rattle.walks.proofs.ListTests.{same-test, every-cong, every-and, every-flatMap, every-map, distinct-tests, map-flatMap}
+use Rattle.walks.proofs.Stops.{stops-subtree}
+use Rattle.walks.proofs.Walked.{met, walked-tests, walked-append, walked-then, met-clear}
+
+abbrev stopOf : Visit → Stop
+stopOf v = stop (length (v .way)) (v .node)
+
+module _ (g : Geometry) (m : Memory) where
+  abbrev isFormed : Visit → Bool
+  isFormed v = wellFormed g m (length (v .way)) (v .node)
+
+  -- the stops of a slot's walk
+  abbrev slotStops : ℕ → List Stop
+  slotStops s = stops g m levels 0 (rootOf m s)
+
+  slot-stops : (s : ℕ) → slotStops s ≡ map stopOf (tree g m s)
+  unfolding tree
+  slot-stops s = sym (stops-subtree g m levels [] (rootOf m s))
+
+  -- a walk over well-formed nodes from a clear map on
+  met-formed : (vs : List Visit) → every isFormed vs ≡ true
+      → met (map stopOf vs) (clearMap (mapWords g)) ≡ kept (distinct (λ v. v .node) vs) (mapOf g (nodesOf vs))
+  unfolding nodesOf
+  met-formed vs h =
+      met-clear g (map stopOf vs) inside
+      ∙ ap₂ (λ d ns. kept d (mapOf g ns)) (distinct-tests (λ x. x .node) stopOf vs) (map-map (λ x. x .node) stopOf vs)
+    where
+      inside : (x : Stop) → List·Memᴰ x (map stopOf vs) → x .node < g .nodes
+      inside x z =
+          let t = Memᴰ·of-map stopOf vs z in
+          rw (← ap (λ y. y .node) (t .2)) (node-laws g m .facts (length (t .0 .way)) (t .0 .node) .0 (every-at isFormed h (t .1)) .inside)
+
+  -- with a test that asks for them
+  walk-tested : (b : Bool) (vs : List Visit) → (b ≡ true → every isFormed vs ≡ true)
+      → cond b (met (map stopOf vs) (clearMap (mapWords g))) none ≡ kept (b && distinct (λ v. v .node) vs) (mapOf g (nodesOf vs))
+  walk-tested true vs h = met-formed vs (h refl)
+  walk-tested false vs h = refl
+
+  -- ---- one slot
+
+  nodes-pass : (s : ℕ) → every (passes g m Nodes s) (map stopOf (tree g m s)) ≡ every isFormed (tree g m s)
+  unfolding passes formedAt
+  nodes-pass s = every-map _ stopOf (tree g m s) ∙ every-cong _ isFormed (tree g m s) (λ v. bool.and-true (isFormed v))
+
+  walked-slot : (s : ℕ) → walkedSlot g m Nodes s (clearMap (mapWords g)) ≡ kept (isSoundTree g m s) (mapOf g (nodesOf (tree g m s)))
+  unfolding walkedSlot isSoundTree walkable
+  walked-slot s =
+      rw (slot-stops s, walked-tests (passes g m Nodes s) (map stopOf (tree g m s)) (clearMap (mapWords g)), nodes-pass s)
+      (walk-tested (every isFormed (tree g m s)) (tree g m s) (λ e. e))
+
+  -- ---- all slots
+
+  -- a slot is its reel's
+  abbrev isOwn : ℕ → Bool
+  isOwn s = eqb (slotOf g m (m (reelAt s))) s
+
+  own-slots : every isOwn (filledSlots g m) ≡ distinct (λ s. m (reelAt s)) (filledSlots g m)
+  own-slots = same-test (
+    λ h. distinct-said _ (distinct-by _ (slot-laws g m .listed-once) (λ s s' x y q.
+        sym (eqb-true _ s (every-at isOwn h x)) ∙ ap (slotOf g m) q ∙ eqb-true _ s' (every-at isOwn h y))),
+    λ h. at-every isOwn (filledSlots g m) (λ s x. eq-eqb _ s (lowest s x (distinct-says _ (filledSlots g m) h))),
+  )
+    where
+      lowest : (s : ℕ) → List·Memᴰ s (filledSlots g m) → Distinct (λ s. m (reelAt s)) (filledSlots g m) → slotOf g m (m (reelAt s)) ≡ s
+      lowest s x d =
+          let l = slot-laws g m in
+          let b = l .listed .0 x in
+          let t = l .reel (m (reelAt s)) (omega (arith, l .lowest b, b .inside)) in
+          same-element d (l .listed .1 (t .0)) x (t .1)
+
+  -- a filled slot is its reel's, and its tree's nodes pass
+  abbrev slotPasses : ℕ → Bool
+  slotPasses s = isOwn s && every (passes g m Frames s) (slotStops s)
+
+  walked-slots : (ss pool : List ℕ)
+      → walkedSlots g m ss pool ≡ cond (every slotPasses (keep (filled m) ss)) (met (flatMap slotStops (keep (filled m) ss)) pool) none
+  unfolding walkedSlots walkedSlot keep every flatMap walked
+  walked-slots [] pool = refl
+  walked-slots (s ∷ ss) pool = elim (test (filled m s)) [
+    | inl e ↦
+        let rest = keep (filled m) ss in
+        let good = passes g m Frames s in
+        let here = slotStops s in
+        rw (e, walked-tests good here pool, walked-append (λ x. true) here (flatMap slotStops rest) pool)
+        (walked-then (isOwn s) (every good here) (every slotPasses rest) (met here pool) (walkedSlots g m ss) (met (flatMap slotStops rest)) (walked-slots ss))
+    | inr e ↦ rw e (walked-slots ss pool)
+  ]
+
+  -- what is asked of all slots, clause by clause
+  frames-pass : (s : ℕ) → every (passes g m Frames s) (slotStops s) ≡ every isFormed (tree g m s) && every (inPlace editionOne g m s) (tree g m s)
+  unfolding passes formedAt inPlace
+  frames-pass s = rw (slot-stops s) (every-map (passes g m Frames s) stopOf (tree g m s) ∙ every-and isFormed (inPlace editionOne g m s) (tree g m s))
+
+  slots-pass : every slotPasses (filledSlots g m)
+      ≡ distinct (λ s. m (reelAt s)) (filledSlots g m)
+      && (every isFormed (allTrees g m) && every (λ s. every (inPlace editionOne g m s) (tree g m s)) (filledSlots g m))
+  unfolding allTrees
+  slots-pass =
+      let fs = filledSlots g m in
+      let placed : ℕ → Bool = λ s. every (inPlace editionOne g m s) (tree g m s) in
+      every-and isOwn _ fs
+      ∙ ap₂ _&&_ own-slots (every-cong _ _ fs frames-pass ∙ every-and _ placed fs ∙ ap (λ t. t && every placed fs) (sym (every-flatMap isFormed (tree g m) fs)))
+
+  all-stops : flatMap slotStops (filledSlots g m) ≡ map stopOf (allTrees g m)
+  unfolding allTrees
+  all-stops = flatMap-cong slotStops _ (filledSlots g m) (λ s x. slot-stops s) ∙ sym (map-flatMap stopOf (tree g m) (filledSlots g m))
+
+  walked-filled : (pool : List ℕ)
+      → walkedSlots g m (upTo (g .slots)) pool ≡ cond (every slotPasses (filledSlots g m)) (met (map stopOf (allTrees g m)) pool) none
+  unfolding filledSlots
+  walked-filled pool = rw (← all-stops) (walked-slots (upTo (g .slots)) pool)
+
+  walked-all : walkedSlots g m (upTo (g .slots)) (clearMap (mapWords g)) ≡ kept (isSound editionOne g m) (mapOf g (nodesOf (allTrees g m)))
+  unfolding isSound walkable
+  walked-all =
+      let reels = distinct (λ s. m (reelAt s)) (filledSlots g m) in
+      let formed = every isFormed (allTrees g m) in
+      let placed = every (λ s. every (inPlace editionOne g m s) (tree g m s)) (filledSlots g m) in
+      rw (walked-filled (clearMap (mapWords g)), slots-pass)
+      (walk-tested (reels && (formed && placed)) (allTrees g m) (λ e. and-true formed placed (and-true reels (formed && placed) e .1) .0)
+      ∙ ap (λ t. kept t (mapOf g (nodesOf (allTrees g m)))) (regroup reels formed placed (distinct (λ v. v .node) (allTrees g m))))
+    where
+      regroup : (r w p d : Bool) → r && (w && p) && d ≡ w && d && r && p
+      regroup true false p d = refl
+      regroup false false p d = refl
+      regroup r true p true = bool.and-true (r && p)
+      regroup r true p false = bool.and-false (r && p)
+
+-- ---- the laws
+
+module _ (g : Geometry) (image : List ℕ) where
+  pub slot-law : (s : ℕ) → walkedSlot g (reads image) Nodes s (clearMap (mapWords g))
+      ≡ kept (isSoundTree g (reads image) s) (mapOf g (nodesOf (tree g (reads image) s)))
+  slot-law s = walked-slot g (reads image) s
+
+  pub slots-law : walkedSlots g (reads image) (upTo (g .slots)) (clearMap (mapWords g))
+      ≡ kept (isSound editionOne g (reads image)) (mapOf g (nodesOf (allTrees g (reads image))))
+  slots-law = walked-all g (reads image)

@@ -1,0 +1,61 @@
+use mathlib.Core.Path.{ap}
+use Prim.Native.Nat.{_-_, _^_, _<_}
+use native.Mathlib.Omega.{arith}
+use lib.ListN.{length}
+use borrow.Author.Needs.{needs}
+use lib.Count.{trailingZeros}
+use Rattle.memory.proofs.Laws.{bit-laws}
+use Rattle.tree.specs.Layout.{nodeAt}
+use Rattle.walks.proofs.Listings.{Writing, starts, ends, one-more}
+use Rattle.walks.proofs.ListingsPlaces.{lowest-in, framesOf, frames-in, frames-none, frames-next}
+use Rattle.walks.proofs.listing.list_places.Statement.{statement}
+use Rattle.walks.proofs.listing.list_places.Tie as tie
+
+abbrev Inv-loop : tie.InvT-loop
+Inv-loop image list₀ n at left₀ k₀ list left k = (left < 2 ^ 64) × Writing (framesOf image at left₀) list₀ k (framesOf image at left) list
+
+abbrev μ-loop : tie.MeasureT-loop
+μ-loop image list₀ n at left₀ k₀ list left k = length (framesOf image at left)
+
+-- the lowest set bit is a place, and the list has room for its frame
+low : (c : tie.In-loop Inv-loop μ-loop) → trailingZeros 64 (c .before .loop .left) < 64
+low c = lowest-in _ (c .loop-test .taken) (c .before .loop .inv .0)
+
+room : (c : tie.In-loop Inv-loop μ-loop) → c .before .loop .k < length (c .before .loop .list)
+room c =
+    let l = c .before .loop in
+    let a = c .before .before .before .before .before .before .args in
+    omega (arith, ap length (frames-next (a .image .now) (nodeAt (a .g) (a .n)) (l .left) (c .loop-test .taken) (l .inv .0)), ap length (frames-in (a .g) (a .image .now) (a .n)))
+
+pub list-places-spec : {M : Type 1} → statement M
+list-places-spec =
+    tie.close
+    (tie.spec
+    Inv-loop
+    μ-loop
+    (λ c. search needs)
+    (λ c. search needs)
+    (λ c. search needs)
+    (λ c. search needs)
+    (λ c. search needs)
+    (λ c. search needs)
+    (λ c. search needs)
+    (λ c. (c .shared-slice-known2 .given _ .fits, starts _ _))
+    (λ c. search needs)
+    (λ c. search (needs, low c))
+    (λ c. search (needs, low c))
+    (λ c. search (needs, low c))
+    (λ c. search (needs, low (c .before)))
+    (λ c. search (needs, room (c .before)))
+    (λ c. search (needs, room (c .before)))
+    (λ c κs. low (c .before))
+    (λ c. search (needs, room (c .before .before)))
+    (λ c. let l = c .before .before .before .loop in
+    let a = c .before .before .before .before .before .before .before .before .args in
+    rw (c .without-bit .ensures) (omega (arith, ap length (frames-next (a .image .now) (nodeAt (a .g) (a .n)) (l .left) (c .before .before .loop-test .taken) (l .inv .0)))))
+    (λ c. let l = c .before .before .before .loop in
+    (rw (c .without-bit .ensures) (bit-laws .without-fits _ _ 64 (l .inv .0)), rw (c .without-bit .ensures) (one-more (room (c .before .before)) (rw (frames-next _ _ (l .left) (c .before .before .loop-test .taken) (l .inv .0)) at (l .inv .1)))))
+    (λ c. search needs)
+    (λ c. let l = c .before .loop in
+    let w = rw (frames-none _ _ (l .left) (c .loop-test .left)) at (l .inv .1) in
+    rw (frames-in _ _ _) (ends w)))

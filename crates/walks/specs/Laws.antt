@@ -1,0 +1,39 @@
+-- What the walks mean: the statements alone.
+use mathlib.Core.Path.{_≡_}
+use mathlib.Core.Bool.{true}
+use mathlib.Core.List.{List, List·Memᴰ}
+use Prim.Native.Nat.{ℕ, _<_}
+use lib.ListN.{length}
+use Rattle.memory.specs.Words.{reads}
+use Rattle.memory.specs.Laws.{Fit}
+use Rattle.memory.specs.Script.{stores}
+use Rattle.memory.specs.Crash.{apply}
+use Rattle.tree.specs.declared.layout.Geometry.{Geometry}
+use Rattle.tree.specs.Layout.{mapWords, Sized}
+use Rattle.tree.specs.Lists.{upTo}
+use Rattle.tree.specs.Fingerprint.{editionOne}
+use Rattle.tree.specs.Slots.{Filled}
+use Rattle.tree.specs.Subtree.{tree, allTrees, nodesOf, listing}
+use Rattle.tree.specs.Check.{isSoundTree, isSound}
+use Rattle.tree.specs.Recovery.{recoverStores}
+use Rattle.tree.specs.Pool.{unmarkAll, clearMap, mapOf}
+use Rattle.walks.specs.declared.visit.Check.the-variants.{Nodes}
+use Rattle.walks.specs.Walk.{kept, walkedSlot, walkedSlots}
+use Rattle.walks.specs.Marked.{withoutMarked, heldBelow, mendedBelow}
+
+pub record WalkLaws (g : Geometry) (image : List ℕ) : Type 0 where
+  -- a slot's tree is walked through exactly if no node is malformed or met twice, and then exactly its nodes are marked
+  pub slot : (s : ℕ) → walkedSlot g (reads image) Nodes s (clearMap (mapWords g))
+      ≡ kept (isSoundTree g (reads image) s) (mapOf g (nodesOf (tree g (reads image) s)))
+  -- all slots are walked through exactly if the image is sound, and then exactly the nodes reached are marked
+  pub slots : walkedSlots g (reads image) (upTo (g .slots)) (clearMap (mapWords g))
+      ≡ kept (isSound editionOne g (reads image)) (mapOf g (nodesOf (allTrees g (reads image))))
+  -- with the map of a sound tree, the frames of the marked nodes are those listed
+  pub count : (s : ℕ) → isSoundTree g (reads image) s ≡ true
+      → heldBelow g (reads image) (mapOf g (nodesOf (tree g (reads image) s))) (g .nodes) ≡ length (listing g (reads image) s)
+  -- with the map of some nodes of the pool, taking the marked ones out frees exactly these
+  pub free : (pool ns : List ℕ) → length pool ≡ mapWords g → Fit pool → ((n : ℕ) → List·Memᴰ n ns → n < g .nodes)
+      → withoutMarked pool (mapOf g ns) ≡ unmarkAll pool ns
+  -- with the map of a sound image, mending the marked nodes is what recovery writes
+  pub mend : Sized image g → isSound editionOne g (reads image) ≡ true
+      → mendedBelow g (mapOf g (nodesOf (allTrees g (reads image)))) image (g .nodes) ≡ apply image (stores (recoverStores g (reads image)))

@@ -1,0 +1,5 @@
+pub mod Answers
+pub mod Descent
+pub mod Walk
+pub mod Marked
+pub mod Laws

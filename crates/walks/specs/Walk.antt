@@ -1,0 +1,78 @@
+-- A walk over a tree's nodes: it marks each in a map, and ends where one fails its test or is marked already.
+use mathlib.Core.Bool.{Bool, true, cond, not, _&&_}
+use mathlib.Core.Option.{Option, none, some}
+use mathlib.Core.List.{List, [], _∷_, flatMap}
+use Prim.Native.Nat.{ℕ, zero, suc, _+_}
+use lib.Dec.{eqb}
+use Rattle.memory.specs.Words.{Memory}
+use Rattle.tree.specs.declared.layout.Geometry.{Geometry}
+use Rattle.tree.specs.Lists.{upTo}
+use Rattle.tree.specs.Layout.{reelAt}
+use Rattle.tree.specs.Path.{levels}
+use Rattle.tree.specs.Fingerprint.{editionOne}
+use Rattle.tree.specs.Node.{childOf, wellFormed}
+use Rattle.tree.specs.Slots.{filled, rootOf, slotOf}
+use Rattle.tree.specs.Subtree.{visit, children, framesIn}
+use Rattle.tree.specs.Check.{inPlace}
+use Rattle.tree.specs.Pool.{used, mark}
+use Rattle.walks.specs.declared.visit.Check.{Check}
+use Rattle.walks.specs.declared.visit.Check.the-variants.{Nodes, Frames}
+
+-- a node at a depth, as a walk comes to it
+pub record Stop : Type 0 where
+  pub depth : ℕ
+  pub node : ℕ
+
+abbrev pub stop : ℕ → ℕ → Stop
+stop d n = record { depth = d; node = n }
+
+module _ (g : Geometry) (m : Memory) where
+  -- a node, then each child's subtree in turn, levels left: tree's `subtree`, by depths instead of ways
+  unfoldable pub stops : (left depth node : ℕ) → List Stop
+  stops zero d n = []
+  stops (suc left) d n = stop d n ∷ flatMap (λ c. stops left (suc d) (childOf g m n c)) (upTo (children g m d n))
+
+  -- the subtrees of adjacent nodes in turn
+  unfoldable pub groupStops : (left depth start count : ℕ) → List Stop
+  groupStops left d start count = flatMap (λ c. stops left d (start + c)) (upTo count)
+
+  unfoldable pub formedAt : Stop → Bool
+  formedAt x = wellFormed g m (x .depth) (x .node)
+
+  -- the frames held in nodes, in turn
+  unfoldable pub framesAt : List Stop → List ℕ
+  framesAt xs = flatMap (λ x. framesIn g m (x .node)) xs
+
+  -- what a walk from a slot asks of a node's frames: nothing, or that the lookup finds each where it is held
+  abbrev pub framesPass : Check → (slot node : ℕ) → Bool
+  framesPass Nodes s n = true
+  framesPass Frames s n = inPlace editionOne g m s (visit [] n)
+
+  unfoldable pub passes : Check → (slot : ℕ) → Stop → Bool
+  passes c s x = formedAt x && framesPass c s (x .node)
+
+-- the map with every node marked; none where one fails or is marked already
+unfoldable pub walked : (Stop → Bool) → List Stop → (pool : List ℕ) → Option (List ℕ)
+walked good [] pool = some pool
+walked good (x ∷ xs) pool = cond (good x && not (used pool (x .node))) (walked good xs (mark pool (x .node))) none
+
+-- a map that a walk leaves, where it went through
+abbrev pub kept : Bool → List ℕ → Option (List ℕ)
+kept ok pool = cond ok (some pool) none
+
+abbrev pub thenWalk : (List ℕ → Option (List ℕ)) → Option (List ℕ) → Option (List ℕ)
+thenWalk more none = none
+thenWalk more (some pool) = more pool
+
+module _ (g : Geometry) (m : Memory) where
+  -- the walk of a slot's tree
+  unfoldable pub walkedSlot : Check → (slot : ℕ) → (pool : List ℕ) → Option (List ℕ)
+  walkedSlot c s pool = walked (passes g m c s) (stops g m levels 0 (rootOf m s)) pool
+
+  -- recovery's: every filled slot is its reel's lowest, and its tree is walked, frames and all
+  unfoldable pub walkedSlots : (slots : List ℕ) → (pool : List ℕ) → Option (List ℕ)
+  walkedSlots [] pool = some pool
+  walkedSlots (s ∷ ss) pool =
+      cond (filled m s)
+      (cond (eqb (slotOf g m (m (reelAt s))) s) (thenWalk (walkedSlots ss) (walkedSlot Frames s pool)) none)
+      (walkedSlots ss pool)

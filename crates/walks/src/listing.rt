@@ -1,0 +1,85 @@
+// A tree's frames listed, by a walk over nodes that are known to be well formed.
+ghost use mathlib.Core.Path.{_≡_};
+ghost use mathlib.Core.Bool.{true};
+ghost use Prim.Native.Nat.{_+_, _-_, _≤_, _<_};
+ghost use lib.ListN.{length};
+ghost use Rattle.memory.specs.Words.{reads};
+ghost use Rattle.tree.specs.Lists.{every};
+ghost use Rattle.tree.specs.Layout.{Sized};
+ghost use Rattle.tree.specs.Path.{levels};
+ghost use Rattle.tree.specs.Slots.{Filled};
+ghost use Rattle.tree.specs.Subtree.{framesIn, listing, listed};
+ghost use Rattle.tree.specs.Check.{isSoundTree};
+ghost use Rattle.walks.specs.Walk.{stops, groupStops, formedAt, framesAt};
+use memory::words::without_bit;
+use tree::layout::Geometry;
+use tree::path::fanout;
+
+// Writes a node's frames, places rising, to the start of a list; answers how many.
+fn list_places(image: &[u64], list: &mut [u64], g: Geometry, n: usize) -> usize
+    requires { ⌜ Sized (now image) g × (n < g .nodes) × (length (framesIn g (reads (now image)) n) ≤ length (now list)) ⌝ }
+    ensures { λ r. ⌜ (r ≡ length (framesIn g (reads (now (image .entry))) n)) × (now (list .exit) ≡ listed (framesIn g (reads (now (image .entry))) n) (now (list .entry))) ⌝ }
+{
+    let at = 64 + 2 * g.slots + 80 * n;
+    // The set bits of the places not yet listed.
+    let mut left = image[at + 2];
+    let mut k = 0;
+    while left != 0 {
+        let p = u64::trailing_zeros(left);
+        list[k] = image[at + 16 + p as usize];
+        left = without_bit(left, p);
+        k += 1;
+    }
+    k
+}
+
+// Writes the frames of a node and of all below it, levels left, to the start of a list; answers how many.
+fn list_node(image: &[u64], list: &mut [u64], g: Geometry, left: u64, n: usize) -> usize
+    requires { ⌜ Sized (now image) g × (1 ≤ left) × (left ≤ 32) × (every (formedAt g (reads (now image))) (stops g (reads (now image)) left (levels - left) n) ≡ true) × (length (framesAt g (reads (now image)) (stops g (reads (now image)) left (levels - left) n)) ≤ length (now list)) ⌝ }
+    ensures { λ r. ⌜ (r ≡ length (framesAt g (reads (now (image .entry))) (stops g (reads (now (image .entry))) left (levels - left) n))) × (now (list .exit) ≡ listed (framesAt g (reads (now (image .entry))) (stops g (reads (now (image .entry))) left (levels - left) n)) (now (list .entry))) ⌝ }
+{
+    let own = list_places(image, list, g, n);
+    let next = image[64 + 2 * g.slots + 80 * n] as usize;
+    if next == 0 {
+        return own;
+    }
+    own
+        + list_group(
+            image,
+            &mut list[own..],
+            g,
+            left - 1,
+            next - 1,
+            fanout(32 - left),
+        )
+}
+
+// Writes the frames of a group of children and of all below them in turn.
+fn list_group(
+    image: &[u64],
+    list: &mut [u64],
+    g: Geometry,
+    left: u64,
+    start: usize,
+    count: usize,
+) -> usize
+    requires { ⌜ Sized (now image) g × (1 ≤ left) × (left ≤ 32) × (start + count ≤ 65536) × (every (formedAt g (reads (now image))) (groupStops g (reads (now image)) left (levels - left) start count) ≡ true) × (length (framesAt g (reads (now image)) (groupStops g (reads (now image)) left (levels - left) start count)) ≤ length (now list)) ⌝ }
+    ensures { λ r. ⌜ (r ≡ length (framesAt g (reads (now (image .entry))) (groupStops g (reads (now (image .entry))) left (levels - left) start count))) × (now (list .exit) ≡ listed (framesAt g (reads (now (image .entry))) (groupStops g (reads (now (image .entry))) left (levels - left) start count)) (now (list .entry))) ⌝ }
+{
+    let mut written = 0;
+    let mut c = 0;
+    while c < count {
+        written += list_node(image, &mut list[written..], g, left, start + c);
+        c += 1;
+    }
+    written
+}
+
+// Writes the frames of a filled slot's tree, which is known to be well formed, to the start of a list; answers how many.
+pub fn list_slot(image: &[u64], list: &mut [u64], g: Geometry, slot: usize) -> usize
+    requires { ⌜ Sized (now image) g × Filled g (reads (now image)) slot × (isSoundTree g (reads (now image)) slot ≡ true) × (length (listing g (reads (now image)) slot) ≤ length (now list)) ⌝ }
+    ensures { λ r. ⌜ (r ≡ length (listing g (reads (now (image .entry))) slot)) × (now (list .exit) ≡ listed (listing g (reads (now (image .entry))) slot) (now (list .entry))) ⌝ }
+{
+    let root = image[64 + 2 * slot + 1] as usize;
+    list_node(image, list, g, 32, root - 1)
+}

@@ -1,0 +1,85 @@
+// Recovery: the check of a whole image, which builds the pool map, and what is written to it then.
+ghost use mathlib.Core.Path.{_≡_};
+ghost use mathlib.Core.Bool.{true, cond};
+ghost use Prim.Native.Nat.{_≤_, _<_};
+ghost use lib.ListN.{length};
+ghost use Rattle.memory.specs.Words.{reads};
+ghost use Rattle.tree.specs.Layout.{Sized, mapWords};
+ghost use Rattle.memory.specs.Script.{stores};
+ghost use Rattle.memory.specs.Crash.{apply};
+ghost use Rattle.tree.specs.Lists.{upTo};
+ghost use Rattle.tree.specs.Fingerprint.{editionOne};
+ghost use Rattle.tree.specs.Subtree.{allTrees, nodesOf};
+ghost use Rattle.tree.specs.Check.{isSound};
+ghost use Rattle.tree.specs.Recovery.{recoverStores};
+ghost use Rattle.tree.specs.Pool.{clearMap, mapOf};
+ghost use Rattle.walks.specs.Walk.{kept, walkedSlots};
+ghost use Rattle.walks.specs.Marked.{mendedBelow};
+use crate::visit::Check;
+use crate::visit::visit_slot;
+use tree::layout::Geometry;
+use tree::pool_map::clear_map;
+use tree::pool_map::is_used;
+use tree::reels::is_filled;
+use tree::reels::slot_of;
+
+// Walks the trees of all filled slots, frames and all, and marks their nodes. Each slot must be its reel's lowest.
+fn visit_slots(image: &[u64], pool: &mut [u64], g: Geometry) -> bool
+    requires { ⌜ Sized (now image) g × (length (now pool) ≡ mapWords g) ⌝ }
+    ensures { λ r. ⌜ kept r (now (pool .exit)) ≡ walkedSlots g (reads (now (image .entry))) (upTo (g .slots)) (now (pool .entry)) ⌝ }
+{
+    let mut s = 0;
+    while s < g.slots {
+        if !is_filled(image, g, s) {
+            s += 1;
+            continue;
+        }
+        if slot_of(image, g, image[64 + 2 * s]) != s {
+            return false;
+        }
+        if !visit_slot(image, pool, g, s, Check::Frames) {
+            return false;
+        }
+        s += 1;
+    }
+    true
+}
+
+// Sets each locate word of a marked node to the node's set word where the two differ. The store in this loop is the
+// only one that recovery makes to an image, and it comes once to each such word. A word of the map that marks no node is
+// passed over whole.
+fn mend(image: &mut [u64], pool: &[u64], g: Geometry)
+    requires { ⌜ Sized (now image) g × (length (now pool) ≡ mapWords g) ⌝ }
+    ensures { λ _. ⌜ now (image .exit) ≡ mendedBelow g (now (pool .entry)) (now (image .entry)) (g .nodes) ⌝ }
+{
+    let mut n = 0;
+    while n < g.nodes {
+        if n % 64 == 0 && pool[n / 64] == 0 {
+            n += 64;
+            continue;
+        }
+        if is_used(pool, n) {
+            let at = 64 + 2 * g.slots + 80 * n;
+            let set = image[at + 2];
+            if image[at + 1] != set {
+                image[at + 1] = set;
+            }
+        }
+        n += 1;
+    }
+}
+
+// Is the image sound? Then each differing locate word of a reached node is set to its set word, and the map marks exactly the nodes
+// reached. Else the image stays, and the map is all 0.
+pub fn recover_image(image: &mut [u64], pool: &mut [u64], g: Geometry) -> bool
+    requires { ⌜ Sized (now image) g × (length (now pool) ≡ mapWords g) ⌝ }
+    ensures { λ r. ⌜ (r ≡ isSound editionOne g (reads (now (image .entry)))) × (now (image .exit) ≡ cond (isSound editionOne g (reads (now (image .entry)))) (apply (now (image .entry)) (stores (recoverStores g (reads (now (image .entry)))))) (now (image .entry))) × (now (pool .exit) ≡ cond (isSound editionOne g (reads (now (image .entry)))) (mapOf g (nodesOf (allTrees g (reads (now (image .entry)))))) (clearMap (mapWords g))) ⌝ }
+{
+    clear_map(pool);
+    if !visit_slots(image, pool, g) {
+        clear_map(pool);
+        return false;
+    }
+    mend(image, pool, g);
+    true
+}

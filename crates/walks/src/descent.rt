@@ -2,17 +2,16 @@
 ghost use mathlib.Core.Path.{_≡_};
 ghost use mathlib.Core.Bool.{true};
 ghost use mathlib.Core.List.{[], _∷_};
-ghost use Prim.Native.Nat.{_<_};
+ghost use Prim.Native.Nat.{_<_, _≤_};
 ghost use Rattle.memory.specs.Words.{reads};
-ghost use Rattle.memory.specs.Apply.{isSome};
-ghost use Rattle.tree.specs.Layout.{Sized};
+ghost use Rattle.tree.specs.Layout.{Sized, sizeAt};
 ghost use Rattle.tree.specs.Fingerprint.{editionOne};
 ghost use Rattle.tree.specs.Node.{wellFormed};
 ghost use Rattle.tree.specs.Slots.{Filled};
-ghost use Rattle.tree.specs.Lookup.{lookup, pathFrom};
-ghost use Rattle.tree.specs.Room.{roomOn, atLevel31};
+ghost use Rattle.tree.specs.Lookup.{lookup, clearSpot};
+ghost use Rattle.tree.specs.Room.{atLevel31};
 ghost use Rattle.walks.specs.Answers.{foundAs, foundFrom, placementFrom};
-ghost use Rattle.walks.specs.Descent.{stepFrom, orElse};
+ghost use Rattle.walks.specs.Descent.{stepFrom, orElse, roomAt, placementAs};
 use tree::layout::Geometry;
 use tree::node::clear_place;
 use tree::node::well_formed;
@@ -99,34 +98,37 @@ pub fn find(image: &[u64], g: Geometry, slot: usize, frame: u64) -> Found
     }
 }
 
-// The room on a path without a malformed node: the first clear place, or else the last node decides.
-fn room_on(image: &[u64], g: Geometry, slot: usize, frame: u64) -> Room
-    requires { ⌜ Sized (now image) g × Filled g (reads (now image)) slot × (isSome (pathFrom g (reads (now image)) slot frame) ≡ true) ⌝ }
-    ensures { λ r. ⌜ r ≡ roomOn g (reads (now (image .entry))) (pathFrom g (reads (now (image .entry))) slot frame) ⌝ }
+// What was clear so far, or else the lowest clear place of a node.
+fn clear_on(image: &[u64], g: Geometry, n: usize, clear: Found) -> Found
+    requires { ⌜ Sized (now image) g × (n < g .nodes) × (reads (now image) (sizeAt g n) ≤ 64) ⌝ }
+    ensures { λ r. ⌜ r ≡ orElse clear (foundAs (clearSpot g (reads (now (image .entry))) (n ∷ []))) ⌝ }
 {
-    let mut n = image[64 + 2 * slot + 1] as usize - 1;
-    let mut level: u64 = 0;
-    loop {
-        let size = image[64 + 2 * g.slots + 80 * n + 4];
-        let place = clear_place(image, g, n);
-        if place < size as usize {
-            return Room::Clear(Spot { node: n, place });
-        }
-        match step_from(image, g, level, n, frame) {
-            Step::End => {
-                if size < 64 {
-                    return Room::ScaleUp { node: n, size };
-                }
-                return Room::BranchOut {
-                    parent: n,
-                    depth: level,
-                };
-            }
-            Step::Down(below) => {
-                n = below;
-                level += 1;
-            }
-        }
+    if let Found::At(_) = clear {
+        return clear;
+    }
+    let size = image[64 + 2 * g.slots + 80 * n + 4] as usize;
+    let place = clear_place(image, g, n);
+    if place < size {
+        return Found::At(Spot { node: n, place });
+    }
+    Found::Absent
+}
+
+// The room on a path: the first clear place, or else its last node decides.
+fn room_at(image: &[u64], g: Geometry, level: u64, n: usize, clear: Found) -> Room
+    requires { ⌜ Sized (now image) g × (n < g .nodes) ⌝ }
+    ensures { λ r. ⌜ r ≡ roomAt g (reads (now (image .entry))) level n clear ⌝ }
+{
+    if let Found::At(spot) = clear {
+        return Room::Clear(spot);
+    }
+    let size = image[64 + 2 * g.slots + 80 * n + 4];
+    if size < 64 {
+        return Room::ScaleUp { node: n, size };
+    }
+    Room::BranchOut {
+        parent: n,
+        depth: level,
     }
 }
 
@@ -141,16 +143,10 @@ fn at_level_31(room: Room) -> bool
     }
 }
 
-// What a claim of a frame finds from a filled slot.
-pub fn room_for(image: &[u64], g: Geometry, slot: usize, frame: u64) -> Placement
-    requires { ⌜ Sized (now image) g × Filled g (reads (now image)) slot ⌝ }
-    ensures { λ r. ⌜ r ≡ placementFrom g (reads (now (image .entry))) slot frame ⌝ }
+// What a claim finds, by the room on the path and what the lookup found there.
+fn placement_as(room: Room, found: Found) -> Placement
+    ensures { λ r. ⌜ r ≡ placementAs room found ⌝ }
 {
-    let found = find(image, g, slot, frame);
-    if let Found::Malformed = found {
-        return Placement::Malformed;
-    }
-    let room = room_on(image, g, slot, frame);
     if at_level_31(room) {
         return Placement::Full;
     }
@@ -158,4 +154,29 @@ pub fn room_for(image: &[u64], g: Geometry, slot: usize, frame: u64) -> Placemen
         return Placement::Held;
     }
     Placement::Free(room)
+}
+
+// What a claim of a frame finds from a filled slot: one walk looks for the frame and for a clear place.
+pub fn room_for(image: &[u64], g: Geometry, slot: usize, frame: u64) -> Placement
+    requires { ⌜ Sized (now image) g × Filled g (reads (now image)) slot ⌝ }
+    ensures { λ r. ⌜ r ≡ placementFrom g (reads (now (image .entry))) slot frame ⌝ }
+{
+    let mut n = image[64 + 2 * slot + 1] as usize - 1;
+    let mut level: u64 = 0;
+    let mut found = Found::Absent;
+    let mut clear = Found::Absent;
+    loop {
+        if !well_formed(image, g, level, n) {
+            return Placement::Malformed;
+        }
+        found = found_on(image, g, n, frame, found);
+        clear = clear_on(image, g, n, clear);
+        match step_from(image, g, level, n, frame) {
+            Step::End => return placement_as(room_at(image, g, level, n, clear), found),
+            Step::Down(below) => {
+                n = below;
+                level += 1;
+            }
+        }
+    }
 }

@@ -1,5 +1,5 @@
 use borrow.Author.Needs.{needs}
-use Rattle.walks.proofs.PathSteps.{found-here, found-nowhere}
+use Rattle.walks.proofs.PathSteps.{lookups, found-here, found-nowhere}
 use Rattle.walks.proofs.descent.found_on.Statement.{statement}
 use Rattle.walks.proofs.descent.found_on.Tie as tie
 
@@ -12,7 +12,7 @@ found-on-spec =
     (λ c κs. search needs)
     (λ c.
     let m = c .before .before in
-    found-here _ _ _ (m .before .before .args .found) _ _ (m .match .keys2) (c .before .found-place .ensures) (c .if1 .taken))
+    found-here (lookups _ _ _) (m .before .before .args .found) _ _ (m .match .keys2) (c .before .found-place .ensures) (c .if1 .taken))
     (λ c.
     let m = c .before .before in
-    found-nowhere _ _ _ (m .before .before .args .found) _ _ (m .match .keys2) (c .before .found-place .ensures) (c .if1 .left)))
+    found-nowhere (lookups _ _ _) (m .before .before .args .found) _ _ (m .match .keys2) (c .before .found-place .ensures) (c .if1 .left)))

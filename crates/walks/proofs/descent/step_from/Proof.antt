@@ -1,8 +1,6 @@
-use mathlib.Core.Path.{_≡_}
-use Prim.Native.Nat.{_-_, _+_, _<_}
+use Prim.Native.Nat.{_<_}
 use borrow.Author.Needs.{needs}
 use Rattle.memory.specs.Words.{reads as readsWords}
-use Rattle.tree.specs.Layout.{nextAt}
 use Rattle.tree.specs.Path.{child}
 use Rattle.tree.specs.Node.{childOf}
 use Rattle.walks.proofs.PathSteps.{node-inside, child-inside, step-end, step-down}

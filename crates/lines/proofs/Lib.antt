@@ -1,0 +1,4 @@
+mod Decimal
+mod Numbers
+mod Format
+pub mod Laws

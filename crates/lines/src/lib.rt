@@ -1,0 +1,3 @@
+// The lines of the bench program: reading them, collecting them from pieces of input, and printing
+// numbers in decimal.
+pub mod line;

@@ -18,21 +18,7 @@ use Rattle.lines.specs.declared.line.Line.{Line}
 use Rattle.lines.specs.declared.line.Line.the-variants.{Open, Claim, Fill, Commit, Abandon, Remove, Has, List as ListOf, Retire, Other}
 use Rattle.lines.specs.Laws.{LineLaws}
 use Rattle.lines.proofs.Numbers.{decimal-read, read-decimal}
-
--- ---- texts
-
-begins-own : (t x : List ℕ) → begins t (t ++ x) ≡ true
-unfolding begins
-begins-own [] x = refl
-begins-own (a ∷ t) x = rw (eq-eqb a a refl) (begins-own t x)
-
-begins-is : (t bs : List ℕ) → begins t bs ≡ true → bs ≡ t ++ drop (length t) bs
-unfolding begins
-begins-is [] bs e = refl
-begins-is (a ∷ t) [] e = absurd (false≢true e)
-begins-is (a ∷ t) (b ∷ bs) e =
-    let w = and-eq-true-iff (eqb a b) (begins t bs) .0 e in
-    rw (eqb-true a b (w .0)) (ap (λ x. b ∷ x) (begins-is t bs (w .1)))
+use Rattle.lines.proofs.Places.{begins-own, begins-is}
 
 -- ---- a text and its number
 

@@ -1,4 +1,6 @@
 mod Decimal
 mod Numbers
+mod Places
+mod Fields
 mod Format
 pub mod Laws

@@ -1,4 +1,5 @@
 pub mod Decimal
 pub mod Line
 pub mod Reading
+pub mod Found
 pub mod Laws

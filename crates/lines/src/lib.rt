@@ -1,3 +1,4 @@
 // The lines of the bench program: reading them, collecting them from pieces of input, and printing
 // numbers in decimal.
+mod field;
 pub mod line;

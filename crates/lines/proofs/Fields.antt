@@ -7,7 +7,9 @@ use Prim.Native.Nat.{ℕ, _+_, _≤_, _<_}
 use native.Mathlib.Omega.{arith}
 use lib.ListN.{length, drop, drop-of-length-le, length-append, length-drop}
 use lib.Seq.{drop-cons, drop-drop}
-use Rattle.lines.specs.Reading.{number, begins, field, Awaits, readAs}
+use borrow.Author.Tests.{lt-ltb, le-ltb}
+use Rattle.lines.specs.Reading.{number, begins, field, Awaits, readAs, Kind, kinds, readFirst, longest, lineOf}
+use Rattle.lines.specs.declared.line.Line.the-variants.{Other}
 use Rattle.lines.specs.Found.{found, behind, Finds}
 use Rattle.lines.specs.declared.line.Line.{Line}
 use Rattle.lines.specs.declared.field.Field.{Field}
@@ -53,3 +55,26 @@ nothing-left line next l h = rw (drop-of-length-le line h)
 pub more-left : (line : List ℕ) (next : ℕ) (l : Line) → next < length line → readAs [] l (drop next line) ≡ none
 unfolding readAs
 more-left line next l h = rw (drop-cons line next 0 h)
+
+-- ---- kinds in turn
+
+module _ (k : Kind) (ks : List Kind) (bs : List ℕ) where
+  pub not-this : readAs (k .texts) (k .line) bs ≡ none → readFirst (k ∷ ks) bs ≡ readFirst ks bs
+  unfolding readFirst
+  not-this e = rw e
+
+  pub this : {l : Line} → readAs (k .texts) (k .line) bs ≡ some l → readFirst (k ∷ ks) bs ≡ l
+  unfolding readFirst
+  this e = rw e
+
+pub too-long : (bs : List ℕ) → longest < length bs → lineOf bs ≡ Other
+unfolding lineOf
+too-long bs h = rw (lt-ltb longest (length bs) h)
+
+pub not-too-long : (bs : List ℕ) → length bs ≤ longest → lineOf bs ≡ readFirst kinds bs
+unfolding lineOf
+not-too-long bs h = rw (le-ltb longest (length bs) h)
+
+pub none-of-them : (bs : List ℕ) → readFirst [] bs ≡ Other
+unfolding readFirst
+none-of-them bs = refl

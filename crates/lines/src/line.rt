@@ -1,12 +1,13 @@
 // The lines that the bench program reads.
 ghost use mathlib.Core.Path.{_≡_};
-ghost use Rattle.lines.specs.Reading.{lineOf};
-use crate::field::read_one;
-use crate::field::read_three;
-use crate::field::read_two;
+ghost use lib.ListN.{drop};
+ghost use Rattle.lines.specs.Reading.{kinds, readFirst, lineOf};
 use crate::field::One;
 use crate::field::Three;
 use crate::field::Two;
+use crate::field::read_one;
+use crate::field::read_three;
+use crate::field::read_two;
 
 // A line, with its numbers; any that is not exactly of one of the nine kinds is `Other`.
 pub enum Line {
@@ -25,7 +26,7 @@ pub enum Line {
 // The most bytes that a line has.
 pub const LONGEST: usize = 80;
 
-// Reads a line without its newline.
+// Reads a line without its newline. Each kind is tried in turn.
 pub fn read_line(line: &[u8]) -> Line
     ensures { λ r. ⌜ r ≡ lineOf (now (line .entry)) ⌝ }
 {
@@ -35,9 +36,20 @@ pub fn read_line(line: &[u8]) -> Line
     if let One::Number(reel) = read_one(line, 0, b"op=open reel=") {
         return Line::Open { reel };
     }
-    if let Three::Numbers(head, reel, frame) =
-        read_three(line, 0, b"op=claim head=", b" reel=", b" frame=")
-    {
+    read_of_head(line)
+}
+
+// The kinds that begin with a head, then the rest.
+fn read_of_head(line: &[u8]) -> Line
+    ensures { λ r. ⌜ r ≡ readFirst (drop 1 kinds) (now (line .entry)) ⌝ }
+{
+    if let Three::Numbers(head, reel, frame) = read_three(
+        line,
+        0,
+        b"op=claim head=",
+        b" reel=",
+        b" frame=",
+    ) {
         return Line::Claim { head, reel, frame };
     }
     if let One::Number(head) = read_one(line, 0, b"op=fill head=") {
@@ -49,6 +61,13 @@ pub fn read_line(line: &[u8]) -> Line
     if let One::Number(head) = read_one(line, 0, b"op=abandon head=") {
         return Line::Abandon { head };
     }
+    read_of_reel(line)
+}
+
+// The kinds that are left: they begin with a reel.
+fn read_of_reel(line: &[u8]) -> Line
+    ensures { λ r. ⌜ r ≡ readFirst (drop 5 kinds) (now (line .entry)) ⌝ }
+{
     if let Two::Numbers(reel, frame) = read_two(line, 0, b"op=remove reel=", b" frame=") {
         return Line::Remove { reel, frame };
     }

@@ -56,6 +56,8 @@ number-at-spec =
     (λ c. let h = next-inside (c .before .before) in search needs)
     (λ c. let h = next-inside (c .before .before) in search needs)
     (λ c. let h = next-inside (c .before .before) in
-    let l = c .before .before .before .before .loop in
-    (search needs, search needs,
-    l .inv .2 ∙ number-next (c .before .before .before .before .before .before .before .before .args .line .now) (l .next) _ (c .before .before .before .digit-at2 .ensures) _ (c .before .before .if2 .left) (c .before .if3 .left) (c .if4 .left))))
+    let l = c .before .before .before .before .loop in (
+      search needs,
+      search needs,
+      l .inv .2 ∙ number-next (c .before .before .before .before .before .before .before .before .args .line .now) (l .next) _ (c .before .before .before .digit-at2 .ensures) _ (c .before .before .if2 .left) (c .before .if3 .left) (c .if4 .left),
+    )))

@@ -1,4 +1,4 @@
-mod Decimal
+mod Digits
 mod Numbers
 mod Places
 mod Fields

@@ -12,7 +12,7 @@ use lib.Dec.{ltb, leb}
 use borrow.Author.Tests.{ltb-true, ltb-false, leb-true, leb-false, lt-ltb, le-ltb, le-leb, lt-leb}
 use Rattle.lines.specs.Decimal.{decimal}
 use Rattle.lines.specs.Reading.{digitAt, mayFollow, numberFrom, number}
-use Rattle.lines.proofs.Decimal.{decimal-laws}
+use Rattle.lines.proofs.Digits.{decimal-laws}
 
 -- ---- one step
 

@@ -5,7 +5,8 @@ use Prim.Native.Nat.{ℕ, zero, suc, _+_, _*_, _/_, _%_, _^_, _≤_, _<_}
 use native.Mathlib.Nat.{pow-suc}
 use native.Mathlib.Omega.{arith}
 use native.Mathlib.Decide.{decLt}
-use lib.ListN.{length, length-append}
+use lib.ListN.{length, getD, drop, set, length-append}
+use lib.Seq.{append-snoc, drop-cons, set-at, set-split}
 use lib.Dec.{ltb}
 use borrow.Author.Tests.{lt-ltb, le-ltb}
 use Rattle.lines.specs.Decimal.{digits, decimal}
@@ -47,6 +48,25 @@ at-most (suc (suc k)) n p h =
       | no l ↦ let shorter = at-most (suc k) (n / 10) (omega arith) (let g = rw (pow-suc 10 (suc k)) at h in omega arith) in
           rw (more-digits n (omega arith), length-append) (omega arith)
     ]
+
+-- ---- digits written at the start of a buffer
+
+-- a number of 64 bits has at most 20 digits, so without its last at most 19
+pub one-less : (n : ℕ) → n < 2 ^ 64 → length (decimal (n / 10)) < 20
+one-less n h = let s = at-most 19 (n / 10) (omega arith) (omega arith) in omega arith
+
+pub put-one : (n : ℕ) (buffer : List ℕ) → n < 10 → 0 < length buffer
+    → (set buffer 0 (48 + n) ≡ decimal n ++ drop (length (decimal n)) buffer) × (1 ≡ length (decimal n))
+put-one n buffer h r = rw (one-digit n h) (set-split buffer 0 (48 + n) r, refl)
+
+pub put-more : (n k : ℕ) (buffer now : List ℕ) → 10 ≤ n → k < length buffer → now ≡ decimal (n / 10) ++ drop (length (decimal (n / 10))) buffer
+    → k ≡ length (decimal (n / 10)) → (set now k (48 + n % 10) ≡ decimal n ++ drop (length (decimal n)) buffer) × (k + 1 ≡ length (decimal n))
+put-more n k buffer now h r e q =
+    let len : length (decimal n) ≡ suc k = rw (more-digits n h, length-append, ← q) (omega arith) in
+    let left = drop (suc k) buffer in
+    let a = 48 + n % 10 in
+    let done = ap (λ ds. ds ++ left) (more-digits n h) ∙ append-snoc (decimal (n / 10)) a left in
+    (rw (len, e, ← q, drop-cons buffer k 0 r) (set-at (decimal (n / 10)) (getD buffer k 0) left a k (sym q) ∙ sym done), rw len (omega arith))
 
 pub decimal-laws : DecimalLaws
 decimal-laws = record { one-digit = one-digit; more-digits = more-digits; at-most = at-most }

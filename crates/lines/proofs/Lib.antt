@@ -2,5 +2,6 @@ mod Digits
 mod Numbers
 mod Places
 mod Fields
+mod Collect
 mod Format
 pub mod Laws

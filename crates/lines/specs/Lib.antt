@@ -2,4 +2,5 @@ pub mod Decimal
 pub mod Line
 pub mod Reading
 pub mod Found
+pub mod Input
 pub mod Laws

@@ -2,4 +2,5 @@
 // numbers in decimal.
 pub mod decimal;
 mod field;
+pub mod input;
 pub mod line;

@@ -24,6 +24,9 @@ pub cut-again : (xs ys : List ℕ) → cut (cut xs ++ ys) ≡ cut (xs ++ ys)
 unfolding cut
 cut-again xs ys = take-again 81 xs ys
 
+pub cut-more : (c : List ℕ) (b : ℕ) (bs : List ℕ) → cut (cut (c ++ b ∷ []) ++ bs) ≡ cut (c ++ b ∷ bs)
+cut-more c b bs = cut-again (c ++ b ∷ []) bs ∙ ap cut (append-snoc c b bs)
+
 pub cut-all : (xs : List ℕ) → length xs ≤ 81 → cut xs ≡ xs
 unfolding cut
 cut-all xs h = take-all 81 xs h
@@ -69,22 +72,20 @@ keep-none old held b h g n =
 -- ---- what the next byte tells
 
 -- the three readings of what is left of a line
-abbrev Left : List ℕ → List ℕ → Bool → ℕ → Type 0
+abbrev pub Left : List ℕ → List ℕ → Bool → ℕ → Type 0
 Left bs up has n = (upToNewline bs ≡ up) × (hasNewline bs ≡ has) × (used bs ≡ n)
 
-module _ (piece : List ℕ) (next : ℕ) where
-  left-none : length piece ≤ next → Left (drop next piece) [] false 0
-  unfolding upToNewline hasNewline used
-  left-none h = rw (drop-of-length-le piece h) (refl, refl, refl)
+pub left-nothing : Left [] [] false 0
+unfolding upToNewline hasNewline used
+left-nothing = (refl, refl, refl)
 
-  left-newline : next < length piece → getD piece next 0 ≡ newline → Left (drop next piece) [] true 1
-  unfolding upToNewline hasNewline used
-  left-newline h e = rw (drop-cons piece next 0 h, eq-eqb (getD piece next 0) newline e) (refl, refl, refl)
+pub left-newline : (b : ℕ) (bs : List ℕ) → b ≡ newline → Left (b ∷ bs) [] true 1
+unfolding upToNewline hasNewline used
+left-newline b bs e = rw (eq-eqb b newline e) (refl, refl, refl)
 
-  left-byte : next < length piece → (getD piece next 0 ≡ newline → ⊥) → let rest = drop (next + 1) piece in
-      Left (drop next piece) (getD piece next 0 ∷ upToNewline rest) (hasNewline rest) (suc (used rest))
-  unfolding upToNewline hasNewline used
-  left-byte h n = rw (add-one, drop-cons piece next 0 h, ne-eqb (getD piece next 0) newline n) (refl, refl, refl)
+pub left-byte : (b : ℕ) (bs : List ℕ) → (b ≡ newline → ⊥) → Left (b ∷ bs) (b ∷ upToNewline bs) (hasNewline bs) (suc (used bs))
+unfolding upToNewline hasNewline used
+left-byte b bs n = rw (ne-eqb b newline n) (refl, refl, refl)
 
 -- ---- the loop
 
@@ -115,19 +116,19 @@ module _ (piece : List ℕ) (at : ℕ) (old : List ℕ) (held : ℕ) (buffer : L
   pub ended-here : next < length piece → getD piece next 0 ≡ newline
       → Takes piece at old held (record { count = count; next = next + 1; ended = true }) buffer
   ended-here h e =
-      let l = left-newline piece next h e in
+      let l = rw (← drop-cons piece next 0 h) at (left-newline (getD piece next 0) (drop (suc next) piece) e) in
       record { holds = whole-line (l .0); has-ended = sym (g .ends ∙ l .1); goes-on = omega (arith, g .uses, l .2) }
 
   pub not-ended : length piece ≤ next → Takes piece at old held (record { count = count; next = next; ended = false }) buffer
   not-ended h =
-      let l = left-none piece next h in
+      let l : Left (drop next piece) [] false 0 = rw (drop-of-length-le piece h) left-nothing in
       record { holds = whole-line (l .0); has-ended = sym (g .ends ∙ l .1); goes-on = omega (arith, g .uses, l .2) }
 
   pub one-more : (buffer' : List ℕ) (count' : ℕ) → next < length piece → (getD piece next 0 ≡ newline → ⊥)
       → Holds buffer (cut (take count buffer ++ getD piece next 0 ∷ [])) buffer' count' → Gathers piece at old held buffer' count' (next + 1)
   one-more buffer' count' h n w =
       let b = getD piece next 0 in
-      let l = left-byte piece next h n in
+      let l = rw (← drop-cons piece next 0 h, ← add-one next) at (left-byte b (drop (suc next) piece) n) in
       let m = cut-length (take count buffer ++ b ∷ []) in
       let k : length (take count buffer ++ b ∷ []) ≡ count + 1 = rw (length-append, length-take-le count buffer (omega (arith, g .small, g .room))) (omega arith) in
       let size = holds-length buffer _ buffer' count' w (omega (arith, w .counted, m, k, g .room)) in
@@ -138,7 +139,7 @@ module _ (piece : List ℕ) (at : ℕ) (old : List ℕ) (held : ℕ) (buffer : L
         same-length = size ∙ g .same-length;
         behind = behind-them buffer _ buffer' count' w ∙ later count count' buffer old (omega (arith, w .counted, m, k, g .small)) (g .behind);
         kept = g .kept ∙ ap (λ x. cut (take count buffer ++ x)) (l .0)
-            ∙ sym (rw (held-bytes buffer _ buffer' count' w) (cut-again (take count buffer ++ b ∷ []) (upToNewline (drop (next + 1) piece)) ∙ ap cut (append-snoc (take count buffer) b _)));
+            ∙ sym (rw (held-bytes buffer _ buffer' count' w) (cut-more (take count buffer) b (upToNewline (drop (next + 1) piece))));
         ends = g .ends ∙ l .1;
         uses = omega (arith, g .uses, l .2);
       }

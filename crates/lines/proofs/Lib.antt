@@ -3,5 +3,6 @@ mod Numbers
 mod Places
 mod Fields
 mod Collect
+mod Pieces
 mod Format
 pub mod Laws

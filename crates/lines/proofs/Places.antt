@@ -3,7 +3,7 @@ use mathlib.Core.Path.{_≡_, refl, sym, _∙_, ap}
 use mathlib.Core.Bool.{Bool, true, false, cond, _&&_, and-false, and-eq-true-iff, false≢true}
 use mathlib.Core.Option.{Option, none, some}
 use mathlib.Core.List.{List, [], _∷_, _++_}
-use Prim.Native.Nat.{ℕ, zero, suc, _+_, _-_, _*_, _/_, _^_, _≤_, _<_}
+use Prim.Native.Nat.{ℕ, zero, suc, _+_, _-_, _*_, _^_, _≤_, _<_}
 use native.Mathlib.Omega.{arith}
 use native.Mathlib.Decide.{decLt}
 use native.Mathlib.Numerals.{add-one}
@@ -51,12 +51,12 @@ module _ (line : List ℕ) (at d : ℕ) (e : d ≡ digitAt (drop at line)) where
   pub behind-zero : (n : ℕ) → d < 10 → n ≡ 0 → numberFrom n (drop at line) ≡ none
   behind-zero n h z = rw z (number-zero (drop at line) (omega arith))
 
-  pub too-large : (n : ℕ) → d < 10 → (18446744073709551615 - d) / 10 < n → numberFrom n (drop at line) ≡ none
+  pub too-large : (n : ℕ) → d < 10 → 2 ^ 64 ≤ 10 * n + d → numberFrom n (drop at line) ≡ none
   too-large n h f = number-large n (drop at line) (omega arith) (omega arith)
 
-  pub number-next : (n : ℕ) → d < 10 → (n ≡ 0 → ⊥) → n ≤ (18446744073709551615 - d) / 10
+  pub number-next : (n : ℕ) → d < 10 → 0 < n → 10 * n + d < 2 ^ 64
       → numberFrom n (drop at line) ≡ numberFrom (10 * n + d) (drop (at + 1) line)
-  number-next n h p f = rw (e, ← drop-drop 1 at line) (number-more n (drop at line) (omega arith) (omega arith) (omega arith))
+  number-next n h p f = rw (e, ← drop-drop 1 at line) (number-more n (drop at line) (omega arith) p (omega arith))
 
 -- ---- texts
 

@@ -47,8 +47,9 @@ number-at-spec =
     })
     (λ c. search needs)
     (λ c. let l = c .before .before .before .before .loop in
+    let d = c .before .before .before .digit-at2 in
     record {
-      same = sym (l .inv .2 ∙ too-large (c .before .before .before .before .before .before .before .before .args .line .now) (l .next) _ (c .before .before .before .digit-at2 .ensures) _ (c .before .before .if2 .left) (c .if4 .taken));
+      same = sym (l .inv .2 ∙ too-large (c .before .before .before .before .before .before .before .before .args .line .now) (l .next) (d .result) (d .ensures) (l .value) (c .before .before .if2 .left) (search needs));
       inside = omega arith;
     })
     (λ c. search needs)
@@ -56,8 +57,7 @@ number-at-spec =
     (λ c. let h = next-inside (c .before .before) in search needs)
     (λ c. let h = next-inside (c .before .before) in search needs)
     (λ c. let h = next-inside (c .before .before) in
-    let l = c .before .before .before .before .loop in (
-      search needs,
-      search needs,
-      l .inv .2 ∙ number-next (c .before .before .before .before .before .before .before .before .args .line .now) (l .next) _ (c .before .before .before .digit-at2 .ensures) _ (c .before .before .if2 .left) (c .before .if3 .left) (c .if4 .left),
-    )))
+    let l = c .before .before .before .before .loop in
+    let d = c .before .before .before .digit-at2 in
+    let goes-on = number-next (c .before .before .before .before .before .before .before .before .args .line .now) (l .next) (d .result) (d .ensures) (l .value) (c .before .before .if2 .left) (search needs) (search needs) in
+    (search needs, search needs, l .inv .2 ∙ goes-on)))

@@ -10,5 +10,5 @@ keep-byte-spec =
     (λ c. search needs)
     (λ c. search needs)
     (λ c. search needs)
-    (λ c. keep-one (c .before .args .line .now) _ _ (c .if1 .taken) (c .before .pre .1))
-    (λ c. keep-none (c .before .args .line .now) _ _ (c .if1 .left) (c .before .pre .0) (c .before .pre .1)))
+    (λ c. let a = c .before .args in keep-one (a .line .now) (a .held) _ (search needs) (search needs))
+    (λ c. let a = c .before .args in keep-none (a .line .now) (a .held) _ (search needs) (search needs) (search needs)))

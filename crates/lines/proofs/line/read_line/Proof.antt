@@ -10,12 +10,12 @@ pub read-line-spec : {M : Type 1} → statement M
 read-line-spec =
     tie.close
     (tie.spec
-    (λ c. sym (too-long _ (c .if1 .taken)))
+    (λ c. sym (too-long (c .before .before .args .line .now) (search needs)))
     (λ c. search needs)
     (λ c κs. search needs)
     (λ c. search needs)
-    (λ c. sym (not-too-long _ (c .before .before .before .before .before .if1 .left) ∙ this _ _ _ (c .before .before .before .read-one .ensures Open ∙ ap (λ r. withOne r Open) (c .before .reel .given .1))))
+    (λ c. sym (not-too-long (c .before .before .before .before .before .before .before .args .line .now) (search needs) ∙ this _ _ _ (c .before .before .before .read-one .ensures Open ∙ ap (λ r. withOne r Open) (c .before .reel .given .1))))
     (λ c. search needs)
     (λ c κs. search needs)
     (λ c. let no = c .before .before .before .read-one .ensures Open ∙ ap (λ r. withOne r Open) (c .before .enum-told .given .1) in
-    sym (not-too-long _ (c .before .before .before .before .before .if1 .left) ∙ (not-this _ _ _ no ∙ sym (c .read-of-head .ensures)))))
+    sym (not-too-long (c .before .before .before .before .before .before .before .args .line .now) (search needs) ∙ (not-this _ _ _ no ∙ sym (c .read-of-head .ensures)))))

@@ -48,11 +48,13 @@ module _ (line : List ℕ) (at d : ℕ) (e : d ≡ digitAt (drop at line)) where
   pub number-ends : (n : ℕ) → 10 ≤ d → numberFrom n (drop at line) ≡ some (n, drop at line)
   number-ends n h = number-whole n (drop at line) (omega arith)
 
-  pub behind-zero : (n : ℕ) → d < 10 → n ≡ 0 → numberFrom n (drop at line) ≡ none
-  behind-zero n h z = rw z (number-zero (drop at line) (omega arith))
-
-  pub too-large : (n : ℕ) → d < 10 → 2 ^ 64 ≤ 10 * n + d → numberFrom n (drop at line) ≡ none
-  too-large n h f = number-large n (drop at line) (omega arith) (omega arith)
+  -- behind a leading zero, or where the number would be too large
+  pub may-not-follow : (n : ℕ) → d < 10 → (0 < n → 2 ^ 64 ≤ 10 * n + d) → numberFrom n (drop at line) ≡ none
+  may-not-follow n h f =
+      elim (decLt 0 n) [
+        | yes p ↦ let g = f p in number-large n (drop at line) (omega arith) (omega arith)
+        | no p ↦ let z : n ≡ 0 = omega arith in rw z (number-zero (drop at line) (omega arith))
+      ]
 
   pub number-next : (n : ℕ) → d < 10 → 0 < n → 10 * n + d < 2 ^ 64
       → numberFrom n (drop at line) ≡ numberFrom (10 * n + d) (drop (at + 1) line)

@@ -35,7 +35,7 @@ pub +put-decimal-spec : {M : Type 1} → statement M
     (λ c. search needs)
     (λ c. search needs)
     (λ c. search needs)
-    (λ c. put-one (c .before .before .args .n) (c .before .before .args .buffer .now) (c .if1 .taken) (search needs))
+    (λ c. put-one (c .before .before .args .n) (c .before .before .args .buffer .now) (search needs) (search needs))
     (λ c κs. search needs)
     (λ c. search needs)
     (λ c. search needs)
@@ -45,4 +45,4 @@ pub +put-decimal-spec : {M : Type 1} → statement M
     (λ c. let a = c .before .before .before .before .before .before .args in
     let p = c .before .before .put-decimal in
     let h = room t c in
-    put-more (a .n) (p .result) (a .buffer .now) (p .last .0) (c .before .before .before .before .if1 .left) (omega (arith, c .before .before .before .before .before .before .pre .1)) (p .ensures .0) (p .ensures .1)))
+    put-more (a .n) (p .result) (a .buffer .now) (p .last .0) (search needs) (omega (arith, c .before .before .before .before .before .before .pre .1)) (p .ensures .0) (p .ensures .1)))

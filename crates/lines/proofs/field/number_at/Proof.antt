@@ -4,7 +4,7 @@ use native.Mathlib.Omega.{arith}
 use lib.ListN.{length, drop}
 use borrow.Author.Needs.{needs}
 use Rattle.lines.specs.Reading.{digitAt, numberFrom, number}
-use Rattle.lines.proofs.Places.{digit-inside, number-missing, number-first, number-ends, behind-zero, too-large, number-next}
+use Rattle.lines.proofs.Places.{digit-inside, number-missing, number-first, number-ends, may-not-follow, number-next}
 use Rattle.lines.proofs.field.number_at.Statement.{statement}
 use Rattle.lines.proofs.field.number_at.Tie as tie
 
@@ -36,22 +36,17 @@ number-at-spec =
     (search needs, search needs, number-first (a .line .now) (a .at) _ (c .before .digit-at .ensures) (c .if1 .left)))
     (λ c κs. search needs)
     (λ c. let l = c .before .before .loop in
-    record {
-      same = sym (l .inv .2 ∙ number-ends (c .before .before .before .before .before .before .args .line .now) (l .next) _ (c .before .digit-at2 .ensures) _ (c .if2 .taken));
-      inside = l .inv .1;
-    })
+    let s = number-ends (c .before .before .before .before .before .before .args .line .now) (l .next) _ (c .before .digit-at2 .ensures) (l .value) (c .if2 .taken) in
+    record { same = sym (l .inv .2 ∙ s); inside = l .inv .1 })
     (λ c. let l = c .before .before .before .loop in
-    record {
-      same = sym (l .inv .2 ∙ behind-zero (c .before .before .before .before .before .before .before .args .line .now) (l .next) _ (c .before .before .digit-at2 .ensures) _ (c .before .if2 .left) (c .if3 .taken));
-      inside = omega arith;
-    })
+    let d = c .before .before .digit-at2 in
+    let s = may-not-follow (c .before .before .before .before .before .before .before .args .line .now) (l .next) (d .result) (d .ensures) (l .value) (c .before .if2 .left) (λ p. search needs) in
+    record { same = sym (l .inv .2 ∙ s); inside = omega arith })
     (λ c. search needs)
     (λ c. let l = c .before .before .before .before .loop in
     let d = c .before .before .before .digit-at2 in
-    record {
-      same = sym (l .inv .2 ∙ too-large (c .before .before .before .before .before .before .before .before .args .line .now) (l .next) (d .result) (d .ensures) (l .value) (c .before .before .if2 .left) (search needs));
-      inside = omega arith;
-    })
+    let s = may-not-follow (c .before .before .before .before .before .before .before .before .args .line .now) (l .next) (d .result) (d .ensures) (l .value) (c .before .before .if2 .left) (λ p. search needs) in
+    record { same = sym (l .inv .2 ∙ s); inside = omega arith })
     (λ c. search needs)
     (λ c. search needs)
     (λ c. let h = next-inside (c .before .before) in search needs)
@@ -59,5 +54,5 @@ number-at-spec =
     (λ c. let h = next-inside (c .before .before) in
     let l = c .before .before .before .before .loop in
     let d = c .before .before .before .digit-at2 in
-    let goes-on = number-next (c .before .before .before .before .before .before .before .before .args .line .now) (l .next) (d .result) (d .ensures) (l .value) (c .before .before .if2 .left) (search needs) (search needs) in
-    (search needs, search needs, l .inv .2 ∙ goes-on)))
+    let s = number-next (c .before .before .before .before .before .before .before .before .args .line .now) (l .next) (d .result) (d .ensures) (l .value) (c .before .before .if2 .left) (search needs) (search needs) in
+    (search needs, search needs, l .inv .2 ∙ s)))

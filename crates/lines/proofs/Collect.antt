@@ -1,16 +1,14 @@
 -- Collecting the bytes of a line: the laws of the code's buffer.
 use mathlib.Core.Path.{_≡_, refl, sym, _∙_, ap}
-use mathlib.Core.Bool.{Bool, true, false, cond}
-use mathlib.Core.List.{List, [], _∷_, _++_, append-assoc, append-nil}
+use mathlib.Core.Bool.{Bool, true, false}
+use mathlib.Core.List.{List, [], _∷_, _++_, append-nil}
 use Prim.Native.Nat.{ℕ, zero, suc, _+_, _-_, _≤_, _<_, min}
 use native.Mathlib.Omega.{arith}
 use native.Mathlib.Numerals.{add-one}
 use lib.ListN.{length, getD, take, drop, set, length-append, length-take, length-drop, take-append-drop, drop-of-length-le}
 use lib.Seq.{take-all, length-take-le, take-append-le, take-append-seam, drop-append-seam, drop-cons, drop-drop, append-snoc, set-split}
-use lib.Dec.{eqb}
 use borrow.Author.Tests.{eq-eqb, ne-eqb}
 use Rattle.lines.specs.Input.{cut, newline, upToNewline, hasNewline, used, Holds, Takes}
-use Rattle.lines.specs.declared.input.Taken.{Taken}
 
 -- ---- what is kept
 

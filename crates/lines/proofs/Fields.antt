@@ -10,7 +10,7 @@ use lib.Seq.{drop-cons, drop-drop}
 use borrow.Author.Tests.{lt-ltb, le-ltb}
 use Rattle.lines.specs.Reading.{number, begins, field, Awaits, readAs, Kind, kinds, readFirst, longest, lineOf}
 use Rattle.lines.specs.declared.line.Line.the-variants.{Other}
-use Rattle.lines.specs.Found.{found, behind, Finds}
+use Rattle.lines.specs.Found.{found, Finds}
 use Rattle.lines.specs.declared.line.Line.{Line}
 use Rattle.lines.specs.declared.field.Field.{Field}
 use Rattle.lines.specs.declared.field.Field.the-variants.{Number, Missing}

@@ -1,16 +1,15 @@
 -- Lines collected from pieces of input are the lines of the whole.
 use mathlib.Core.Path.{_≡_, refl, sym, _∙_, ap}
-use mathlib.Core.Bool.{Bool, true, false, cond, _||_, false≢true}
-use mathlib.Core.List.{List, [], _∷_, _++_, map, flatten, append-nil, append-assoc}
-use Prim.Native.Nat.{ℕ, zero, suc, _+_, _-_, _≤_, _<_}
+use mathlib.Core.Bool.{true, false, false≢true}
+use mathlib.Core.List.{List, [], _∷_, _++_, map, flatten, append-nil}
+use Prim.Native.Nat.{ℕ, suc, _≤_, _<_}
 use native.Mathlib.Omega.{arith}
 use native.Mathlib.Decide.{decLe, ℕ-discrete}
-use lib.ListN.{length, take, drop}
+use lib.ListN.{length, drop}
 use lib.Seq.{append-snoc}
-use lib.Dec.{eqb}
 use borrow.Author.Tests.{eq-eqb, ne-eqb}
 use Rattle.lines.specs.Reading.{longest, lineOf}
-use Rattle.lines.specs.Input.{newline, before, linesOf, cut, Collected, nothingYet, lineEnded, withBytes, taken, takenAll, lastLine, allLines, upToNewline, hasNewline, used}
+use Rattle.lines.specs.Input.{newline, inFront, linesOf, cut, Collected, nothingYet, lineEnded, withBytes, taken, takenAll, lastLine, allLines, upToNewline, hasNewline, used}
 use Rattle.lines.specs.Laws.{InputLaws, PieceLaws}
 use Rattle.lines.proofs.Fields.{too-long}
 use Rattle.lines.proofs.Collect.{cut-again, cut-more, cut-all, cut-length, held-bytes, holds-length, left-nothing, left-newline, left-byte}
@@ -22,7 +21,7 @@ module _ (b : ℕ) (bs : List ℕ) where
   unfolding linesOf
   lines-newline e = rw (eq-eqb b newline e)
 
-  lines-byte : (b ≡ newline → ⊥) → linesOf (b ∷ bs) ≡ before b (linesOf bs)
+  lines-byte : (b ≡ newline → ⊥) → linesOf (b ∷ bs) ≡ inFront b (linesOf bs)
   unfolding linesOf
   lines-byte n = rw (ne-eqb b newline n)
 
@@ -37,15 +36,15 @@ module _ (b : ℕ) (bs : List ℕ) where
 
 newline-ends : (l rest : List ℕ) → hasNewline l ≡ false → linesOf (l ++ newline ∷ rest) ≡ l ∷ linesOf rest
 newline-ends [] rest e = lines-newline newline rest refl
-newline-ends (b ∷ l) rest e = lines-byte b (l ++ newline ∷ rest) (first-other b l e) ∙ ap (before b) (newline-ends l rest (rest-without b l e))
+newline-ends (b ∷ l) rest e = lines-byte b (l ++ newline ∷ rest) (first-other b l e) ∙ ap (inFront b) (newline-ends l rest (rest-without b l e))
 
 no-input : linesOf [] ≡ []
 unfolding linesOf
 no-input = refl
 
 end-ends : (b : ℕ) (l : List ℕ) → hasNewline (b ∷ l) ≡ false → linesOf (b ∷ l) ≡ (b ∷ l) ∷ []
-end-ends b [] e = lines-byte b [] (first-other b [] e) ∙ ap (before b) no-input
-end-ends b (a ∷ l) e = lines-byte b (a ∷ l) (first-other b (a ∷ l) e) ∙ ap (before b) (end-ends a l (rest-without b (a ∷ l) e))
+end-ends b [] e = lines-byte b [] (first-other b [] e) ∙ ap (inFront b) no-input
+end-ends b (a ∷ l) e = lines-byte b (a ∷ l) (first-other b (a ∷ l) e) ∙ ap (inFront b) (end-ends a l (rest-without b (a ∷ l) e))
 
 pub input-laws : InputLaws
 input-laws = record { newline-ends = newline-ends; end-ends = end-ends; no-input = no-input }
@@ -87,7 +86,7 @@ unfolding begin
 begin-none [] = refl
 begin-none (l ∷ ls) = refl
 
-begin-more : (c : List ℕ) (b : ℕ) (ls : List (List ℕ)) → begin (c ++ b ∷ []) ls ≡ begin c (before b ls)
+begin-more : (c : List ℕ) (b : ℕ) (ls : List (List ℕ)) → begin (c ++ b ∷ []) ls ≡ begin c (inFront b ls)
 unfolding begin
 begin-more [] b [] = refl
 begin-more (a ∷ c) b [] = refl

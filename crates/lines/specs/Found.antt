@@ -20,6 +20,7 @@ abbrev pub found : List ℕ → Field → Option (ℕ × List ℕ)
 found line (Number v next) = some (v, drop next line)
 found line Missing = none
 
+-- the place behind it
 abbrev pub behind : Field → ℕ
 behind (Number v next) = next
 behind Missing = 0
@@ -33,6 +34,7 @@ pub record Finds (line : List ℕ) (r : Field) (o : Option (ℕ × List ℕ)) : 
 abbrev pub ReadsAs : (texts : List (List ℕ)) → List ℕ → (Awaits texts → Option Line) → Type 0
 ReadsAs texts bs made = (f : Awaits texts) → readAs texts f bs ≡ made f
 
+-- the line with the numbers found, where they are
 abbrev pub withOne : One → (ℕ → Line) → Option Line
 withOne (OneNumber a) f = some (f a)
 withOne NoOne f = none

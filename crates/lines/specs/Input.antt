@@ -1,6 +1,6 @@
 -- Lines of an input: all of them at once, and collected from its pieces.
 use mathlib.Core.Path.{_≡_}
-use mathlib.Core.Bool.{Bool, true, false, cond, _||_}
+use mathlib.Core.Bool.{Bool, false, cond, _||_}
 use mathlib.Core.List.{List, [], _∷_, _++_}
 use Prim.Native.Nat.{ℕ, suc, _+_}
 use lib.ListN.{length, take, drop}
@@ -14,14 +14,14 @@ newline = 10
 -- ---- the whole input
 
 -- a byte in front of lines: it begins the first of them, or the only one where there are none
-abbrev pub before : ℕ → List (List ℕ) → List (List ℕ)
-before b [] = (b ∷ []) ∷ []
-before b (l ∷ ls) = (b ∷ l) ∷ ls
+abbrev pub inFront : ℕ → List (List ℕ) → List (List ℕ)
+inFront b [] = (b ∷ []) ∷ []
+inFront b (l ∷ ls) = (b ∷ l) ∷ ls
 
 -- a line ends at a newline or at the end of the input; nothing after the last newline is no line
 unfoldable pub linesOf : List ℕ → List (List ℕ)
 linesOf [] = []
-linesOf (b ∷ bs) = cond (eqb b newline) ([] ∷ linesOf bs) (before b (linesOf bs))
+linesOf (b ∷ bs) = cond (eqb b newline) ([] ∷ linesOf bs) (inFront b (linesOf bs))
 
 -- ---- collecting
 
@@ -37,9 +37,11 @@ pub record Collected : Type 0 where
 abbrev pub nothingYet : Collected
 nothingYet = record { ended = []; begun = [] }
 
+-- the line ends, and the next is empty yet
 abbrev pub lineEnded : Collected → Collected
 lineEnded s = record { ended = s .ended ++ s .begun ∷ []; begun = [] }
 
+-- bytes more of the line
 abbrev pub withBytes : Collected → List ℕ → Collected
 withBytes s bs = record { ended = s .ended; begun = cut (s .begun ++ bs) }
 

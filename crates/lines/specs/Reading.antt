@@ -1,4 +1,4 @@
--- Reading a line: each kind is tried in turn.
+-- Reading a line: each kind is tried in turn. specs/Laws.antt (`LineLaws`) says that this reads the format of specs/Line.antt, and nothing else.
 use mathlib.Core.Bool.{Bool, true, false, cond, _&&_}
 use mathlib.Core.Option.{Option, none, some}
 use mathlib.Core.List.{List, [], _∷_, map}
@@ -45,6 +45,7 @@ abbrev pub Awaits : List (List ℕ) → Type 0
 Awaits [] = Line
 Awaits (t ∷ ts) = ℕ → Awaits ts
 
+-- what is read behind a number, where there is one
 abbrev pub andThen : Option (ℕ × List ℕ) → (ℕ → List ℕ → Option Line) → Option Line
 andThen none f = none
 andThen (some p) f = f (p .0) (p .1)
@@ -60,18 +61,21 @@ pub record Kind : Type 0 where
   pub texts : List (List ℕ)
   pub line : Awaits texts
 
+-- the texts of a line
 abbrev pub textsOf : Line → List (List ℕ)
 textsOf l = map (λ (p : String × ℕ). bytes (p .0)) (parts l)
 
--- the kind that a line is of
+-- the kind that a line is of: its numbers do not matter
 abbrev pub kind : (l : Line) → Awaits (textsOf l) → Kind
 kind l f = record { texts = textsOf l; line = f }
 
+-- the nine kinds
 abbrev pub kinds : List Kind
 kinds =
     kind (Open 0) Open ∷ kind (Claim 0 0 0) Claim ∷ kind (Fill 0) Fill ∷ kind (Commit 0) Commit ∷ kind (Abandon 0) Abandon
     ∷ kind (Remove 0 0) Remove ∷ kind (Has 0 0) Has ∷ kind (ListOf 0) ListOf ∷ kind (Retire 0) Retire ∷ []
 
+-- a line that was read, or another
 abbrev pub orElse : Option Line → Line → Line
 orElse none m = m
 orElse (some l) m = l
@@ -85,5 +89,6 @@ readFirst (k ∷ ks) bs = orElse (readAs (k .texts) (k .line) bs) (readFirst ks 
 abbrev pub longest : ℕ
 longest = 80
 
+-- the line that bytes without a newline are; `Other` where they are too many, or of none of the nine kinds
 unfoldable pub lineOf : List ℕ → Line
 lineOf bs = cond (ltb longest (length bs)) Other (readFirst kinds bs)

@@ -28,6 +28,7 @@ pub enum Three {
     Missing,
 }
 
+// The largest number: 2^64 - 1.
 const LARGEST: u64 = 0xffff_ffff_ffff_ffff;
 
 // The value of the digit at a place, or 10 where there is none.
@@ -119,6 +120,7 @@ pub fn read_one(line: &[u8], at: usize, text: &[u8]) -> One
     }
 }
 
+// The same with two texts, each before its number.
 pub fn read_two(line: &[u8], at: usize, text: &[u8], text2: &[u8]) -> Two
     requires { ⌜ at ≤ length (now line) ⌝ }
     ensures { λ r. ⌜ ReadsAs (now (text .entry) ∷ now (text2 .entry) ∷ []) (drop at (now (line .entry))) (withTwo r) ⌝ }
@@ -132,6 +134,7 @@ pub fn read_two(line: &[u8], at: usize, text: &[u8], text2: &[u8]) -> Two
     }
 }
 
+// The same with three.
 pub fn read_three(line: &[u8], at: usize, text: &[u8], text2: &[u8], text3: &[u8]) -> Three
     requires { ⌜ at ≤ length (now line) ⌝ }
     ensures { λ r. ⌜ ReadsAs (now (text .entry) ∷ now (text2 .entry) ∷ now (text3 .entry) ∷ []) (drop at (now (line .entry))) (withThree r) ⌝ }

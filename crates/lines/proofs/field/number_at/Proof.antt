@@ -1,9 +1,9 @@
 use mathlib.Core.Path.{_≡_, sym, _∙_}
-use Prim.Native.Nat.{ℕ, _+_, _*_, _-_, _^_, _≤_, _<_}
+use Prim.Native.Nat.{_-_, _^_, _≤_, _<_}
 use native.Mathlib.Omega.{arith}
 use lib.ListN.{length, drop}
 use borrow.Author.Needs.{needs}
-use Rattle.lines.specs.Reading.{digitAt, numberFrom, number}
+use Rattle.lines.specs.Reading.{numberFrom, number}
 use Rattle.lines.proofs.Places.{digit-inside, number-missing, number-first, number-ends, may-not-follow, number-next}
 use Rattle.lines.proofs.field.number_at.Statement.{statement}
 use Rattle.lines.proofs.field.number_at.Tie as tie

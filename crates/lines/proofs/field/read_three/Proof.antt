@@ -1,5 +1,5 @@
 use mathlib.Core.Path.{_∙_, ap}
-use mathlib.Core.List.{[], _∷_}
+use mathlib.Core.List.{[]}
 use lib.ListN.{drop}
 use borrow.Author.Needs.{needs}
 use Rattle.lines.specs.Found.{withTwo}

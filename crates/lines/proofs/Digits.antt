@@ -48,6 +48,9 @@ at-most (suc (suc k)) n p h =
           rw (more-digits n (omega arith), length-append) (omega arith)
     ]
 
+at-most-20 : (n : ℕ) → n < 2 ^ 64 → length (decimal n) ≤ 20
+at-most-20 n h = at-most 20 n (omega arith) (omega arith)
+
 -- ---- digits written at the start of a buffer
 
 -- a number of 64 bits has at most 20 digits, so without its last at most 19
@@ -68,4 +71,4 @@ put-more n k buffer now h r e q =
     (rw (len, e, ← q, drop-cons buffer k 0 r) (set-at (decimal (n / 10)) (getD buffer k 0) left a k (sym q) ∙ sym done), rw len (omega arith))
 
 pub decimal-laws : DecimalLaws
-decimal-laws = record { one-digit = one-digit; more-digits = more-digits; at-most = at-most }
+decimal-laws = record { one-digit = one-digit; more-digits = more-digits; at-most = at-most; at-most-20 = at-most-20 }

@@ -5,11 +5,12 @@ use mathlib.Core.List.{List, [], _∷_, _++_, map, flatten, append-nil}
 use Prim.Native.Nat.{ℕ, suc, _≤_, _<_}
 use native.Mathlib.Omega.{arith}
 use native.Mathlib.Decide.{decLe, ℕ-discrete}
-use lib.ListN.{length, drop}
+use lib.ListN.{length, take, drop, length-drop}
 use lib.Seq.{append-snoc}
 use borrow.Author.Tests.{eq-eqb, ne-eqb}
 use Rattle.lines.specs.Reading.{longest, lineOf}
-use Rattle.lines.specs.Input.{newline, inFront, linesOf, cut, Collected, nothingYet, lineEnded, withBytes, taken, takenAll, lastLine, allLines, upToNewline, hasNewline, used}
+use Rattle.lines.specs.Input.{newline, inFront, linesOf, cut, Collected, nothingYet, lineEnded, withBytes, taken, takenAll, lastLine, allLines, upToNewline, hasNewline, used, Takes}
+use Rattle.lines.specs.declared.input.Taken.{Taken}
 use Rattle.lines.specs.Laws.{InputLaws, PieceLaws}
 use Rattle.lines.proofs.Fields.{too-long}
 use Rattle.lines.proofs.Collect.{cut-again, cut-more, cut-all, cut-length, held-bytes, holds-length, left-nothing, left-newline, left-byte}
@@ -180,6 +181,16 @@ used-all : (bs : List ℕ) → hasNewline bs ≡ false → used bs ≡ length bs
 used-all [] e = left-nothing .2
 used-all (b ∷ bs) e = left-byte b bs (first-other b bs e) .2 ∙ ap suc (used-all bs (rest-without b bs e))
 
+goes-on : (piece : List ℕ) (at : ℕ) (old : List ℕ) (held : ℕ) (r : Taken) (buffer : List ℕ)
+    → at ≤ length piece → suc longest ≤ length old → Takes piece at old held r buffer
+    → (r .next ≤ length piece) × (at < length piece → at < r .next) × (r .count ≤ suc longest) × (length buffer ≡ length old)
+goes-on piece at old held r buffer i n w =
+    let bs = drop at piece in
+    let l = length-drop at piece in
+    let kept = cut (take held old ++ upToNewline bs) in
+    let k : r .count ≤ 81 = omega (arith, w .holds .counted, kept-length (take held old ++ upToNewline bs)) in
+    (omega (arith, w .goes-on, used-inside bs), λ h. omega (arith, w .goes-on, used-some bs (omega arith)), k, holds-length old kept buffer (r .count) (w .holds) (omega arith))
+
 pub piece-laws : PieceLaws
 piece-laws = record {
   two-pieces = two-pieces;
@@ -192,6 +203,6 @@ piece-laws = record {
   used-some = used-some;
   used-all = used-all;
   held-bytes = held-bytes;
-  holds-length = holds-length;
   kept-length = kept-length;
+  goes-on = goes-on;
 }

@@ -8,7 +8,8 @@ use lib.ListN.{length, take, drop}
 use Rattle.lines.specs.Decimal.{decimal}
 use Rattle.lines.specs.Line.{shown, Fits}
 use Rattle.lines.specs.Reading.{longest, lineOf}
-use Rattle.lines.specs.Input.{newline, linesOf, cut, Collected, nothingYet, lineEnded, withBytes, taken, takenAll, allLines, upToNewline, hasNewline, used, Holds}
+use Rattle.lines.specs.Input.{newline, linesOf, cut, Collected, nothingYet, lineEnded, withBytes, taken, takenAll, allLines, upToNewline, hasNewline, used, Holds, Takes}
+use Rattle.lines.specs.declared.input.Taken.{Taken}
 use Rattle.lines.specs.declared.line.Line.{Line}
 use Rattle.lines.specs.declared.line.Line.the-variants.{Other}
 
@@ -18,6 +19,7 @@ pub record DecimalLaws : Type 0 where
   pub one-digit : (n : ℕ) → n < 10 → decimal n ≡ (48 + n) ∷ []
   pub more-digits : (n : ℕ) → 10 ≤ n → decimal n ≡ decimal (n / 10) ++ (48 + n % 10) ∷ []
   pub at-most : (k n : ℕ) → 0 < k → n < 10 ^ k → length (decimal n) ≤ k
+  pub at-most-20 : (n : ℕ) → n < 2 ^ 64 → length (decimal n) ≤ 20
 
 -- ---- lines
 
@@ -48,7 +50,10 @@ pub record PieceLaws : Type 0 where
   pub used-inside : (bs : List ℕ) → used bs ≤ length bs
   pub used-some : (bs : List ℕ) → 0 < length bs → 0 < used bs
   pub used-all : (bs : List ℕ) → hasNewline bs ≡ false → used bs ≡ length bs
-  -- the bytes that a buffer holds, and its length
+  -- the bytes that a buffer holds, as many as are counted
   pub held-bytes : (old bytes buffer : List ℕ) (count : ℕ) → Holds old bytes buffer count → take count buffer ≡ bytes
-  pub holds-length : (old bytes buffer : List ℕ) (count : ℕ) → Holds old bytes buffer count → count ≤ length old → length buffer ≡ length old
   pub kept-length : (l : List ℕ) → length (cut l) ≤ suc longest
+  -- a call of the code goes on in the piece, stays inside it and inside the buffer
+  pub goes-on : (piece : List ℕ) (at : ℕ) (old : List ℕ) (held : ℕ) (r : Taken) (buffer : List ℕ)
+      → at ≤ length piece → suc longest ≤ length old → Takes piece at old held r buffer
+      → (r .next ≤ length piece) × (at < length piece → at < r .next) × (r .count ≤ suc longest) × (length buffer ≡ length old)

@@ -16,16 +16,11 @@ use Rattle.tree.specs.Node.{held, frame}
 use Rattle.tree.specs.Lookup.{find}
 use Rattle.tree.specs.Subtree.{visit, heldPlaces}
 use Rattle.tree.specs.Check.{isAt, inPlace}
-use Rattle.tree.proofs.Cases.{test}
+use Rattle.tree.proofs.Lists.{every-kept}
 use Rattle.walks.specs.declared.descent.Found.{Found}
 use Rattle.walks.specs.Answers.{foundFrom}
 use Rattle.walks.specs.Descent.{placePasses}
 use Rattle.walks.proofs.PathSteps.{spotIn, find-spot}
-
--- a test of the elements kept, one element at a time
-every-kept : {A : Type 0} (q h : A → Bool) (x : A) (xs : List A) → every q (keep h (x ∷ xs)) ≡ cond (h x) (q x) true && every q (keep h xs)
-unfolding every keep
-every-kept q h x xs = elim (test (h x)) [ inl e ↦ rw e refl | inr e ↦ rw e refl ]
 
 module _ (g : Geometry) (m : Memory) (s n : ℕ) where
   abbrev foundThere : ℕ → Bool

@@ -19,7 +19,7 @@ use Rattle.tree.specs.declared.layout.Geometry.{Geometry}
 use Rattle.tree.specs.Lists.{range, upTo, keep}
 use Rattle.tree.specs.Layout.{nodeAt, setAt}
 use Rattle.tree.specs.Subtree.{heldPlaces, framesIn}
-use Rattle.tree.proofs.Lists.{in-range}
+use Rattle.tree.proofs.Lists.{keep-none, keep-first}
 
 -- ---- trailing zeros
 
@@ -56,34 +56,6 @@ trailing-lowest : (k n : ℕ) → Lowest n k (trailingZeros k n)
 unfolding trailingZeros
 trailing-lowest zero n = record { none-below = λ j l. absurd (omega arith); hit = λ l. absurd (omega arith) }
 trailing-lowest (suc k) n = lowest-step n k (trailingZeros k (n / 2)) (n % 2) refl (trailing-lowest k (n / 2))
-
--- ---- what a test keeps
-
-keep-same : {A : Type 0} (p q : A → Bool) (xs : List A) → ((x : A) → List·Memᴰ x xs → p x ≡ q x) → keep p xs ≡ keep q xs
-unfolding keep
-keep-same p q [] h = refl
-keep-same p q (x ∷ xs) h =
-    let ih = keep-same p q xs (λ y z. h y (List·Memᴰ·tail z)) in
-    rw (h x (List·Memᴰ·head refl), ih) refl
-
-keep-none : {A : Type 0} (p : A → Bool) (xs : List A) → ((x : A) → List·Memᴰ x xs → p x ≡ false) → keep p xs ≡ []
-unfolding keep
-keep-none p [] h = refl
-keep-none p (x ∷ xs) h = rw (h x (List·Memᴰ·head refl)) (keep-none p xs (λ y z. h y (List·Memᴰ·tail z)))
-
--- the first that a test keeps, and the others
-keep-first : (p q : ℕ → Bool) (from n t : ℕ) → from ≤ t → t < from + n → ((k : ℕ) → from ≤ k → k < t → p k ≡ false) → p t ≡ true → q t ≡ false
-    → ((k : ℕ) → k ≢ t → q k ≡ p k) → keep p (range from n) ≡ t ∷ keep q (range from n)
-unfolding keep range
-keep-first p q from zero t l h below e f other = absurd (omega arith)
-keep-first p q from (suc n) t l h below e f other = elim (ℕ-discrete from t) [
-  | yes s ↦
-      let others = keep-same p q (range (suc from) n) (λ k x. sym (other k (λ z. omega (arith, in-range (suc from) n x)))) in
-      rw (s, e, f, ← s, others) refl
-  | no s ↦
-      let off = below from (omega arith) (omega arith) in
-      rw (off, other from s, off) (keep-first p q (suc from) n t (omega arith) (omega arith) (λ k a b. below k (omega arith) b) e f other)
-]
 
 -- ---- a word's set bits
 

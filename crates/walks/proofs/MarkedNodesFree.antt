@@ -19,9 +19,8 @@ use Rattle.memory.specs.Laws.{Fit}
 use Rattle.tree.specs.declared.layout.Geometry.{Geometry}
 use Rattle.tree.specs.Layout.{mapWords}
 use Rattle.tree.specs.Pool.{used, unmarkAll, mapOf}
-use Rattle.tree.proofs.Cases.{test, true-not-false, not-false, and-true, true-and}
+use Rattle.tree.proofs.Cases.{test, true-not-false, not-false, same-test, and-true, true-and}
 use Rattle.tree.proofs.Pool.{pool-laws}
-use Rattle.walks.proofs.ListTests.{same-test}
 use Rattle.walks.specs.Marked.{withoutMarked}
 
 -- ---- words

@@ -21,13 +21,12 @@ use Rattle.tree.specs.Slots.{filled, rootOf, filledSlots, slotOf}
 use Rattle.tree.specs.Subtree.{Visit, nodesOf, tree, allTrees}
 use Rattle.tree.specs.Check.{walkable, isSoundTree, inPlace, isSound}
 use Rattle.tree.specs.Pool.{clearMap, mapOf}
-use Rattle.tree.proofs.Cases.{test, and-true}
-use Rattle.tree.proofs.Lists.{flatMap-cong, every-at, at-every}
-use Rattle.tree.proofs.Distinct.{distinct-says, distinct-said, same-element, distinct-by}
+use Rattle.tree.proofs.Cases.{test, same-test, and-true}
+use Rattle.tree.proofs.Lists.{flatMap-cong, map-flatMap, every-at, at-every, every-cong, every-and, every-flatMap, every-map}
+use Rattle.tree.proofs.Distinct.{distinct-says, distinct-said, same-element, distinct-by, made-distinct}
 use Rattle.tree.proofs.Laws.{node-laws, slot-laws}
 use Rattle.walks.specs.declared.visit.Check.the-variants.{Nodes, Frames}
 use Rattle.walks.specs.Walk.{Stop, stop, stops, formedAt, passes, walked, kept, walkedSlot, walkedSlots}
-use Rattle.walks.proofs.ListTests.{same-test, every-cong, every-and, every-flatMap, every-map, distinct-tests, map-flatMap}
 use Rattle.walks.proofs.Stops.{stops-subtree}
 use Rattle.walks.proofs.Walked.{met, walked-tests, walked-append, walked-then, met-clear}
 
@@ -52,7 +51,7 @@ module _ (g : Geometry) (m : Memory) where
   unfolding nodesOf
   met-formed vs h =
       met-clear g (map stopOf vs) inside
-      ∙ ap₂ (λ d ns. kept d (mapOf g ns)) (distinct-tests (λ x. x .node) stopOf vs) (map-map (λ x. x .node) stopOf vs)
+      ∙ ap₂ (λ d ns. kept d (mapOf g ns)) (made-distinct (λ x. x .node) stopOf vs) (map-map (λ x. x .node) stopOf vs)
     where
       inside : (x : Stop) → List·Memᴰ x (map stopOf vs) → x .node < g .nodes
       inside x z =

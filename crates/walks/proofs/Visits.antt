@@ -19,7 +19,7 @@ use Rattle.tree.proofs.Cases.{and-true}
 use Rattle.walks.specs.Walk.{Stop, stop, stops, groupStops, formedAt, framesPass, passes, walked, kept, thenWalk}
 use Rattle.walks.specs.declared.visit.Check.{Check}
 use Rattle.walks.proofs.Walked.{walked-append}
-use Rattle.walks.proofs.VisitsStops.{group-empty, group-first, node-first}
+use Rattle.walks.proofs.Stops.{group-empty, group-first, node-first, leaf, linked}
 
 -- ---- the test of a node
 
@@ -82,10 +82,8 @@ module _ (good : Stop → Bool) where
           marked = rw (now, node-first g m left d n h, ← tested, not-false r e, ← there, u) refl
 
           pub node-leaf : m (nextAt g n) ≡ 0 → some pool' ≡ walked good (stops g m left d n) pool
-          unfolding children
-          node-leaf z = rw (← marked, eq-eqb (m (nextAt g n)) 0 z) (group-none (left - 1) (suc d) (m (nextAt g n) - 1) 0 pool' refl)
+          node-leaf z = rw (← marked, leaf g m d n z) (group-none (left - 1) (suc d) (m (nextAt g n) - 1) 0 pool' refl)
 
           pub node-below : (d' count : ℕ) (o : Option (List ℕ)) → d' ≡ suc d → count ≡ fanout d → (m (nextAt g n) ≡ 0 → ⊥)
               → o ≡ walked good (groupStops g m (left - 1) d' (m (nextAt g n) - 1) count) pool' → o ≡ walked good (stops g m left d n) pool
-          unfolding children
-          node-below d' count o q k z below = rw (← marked, ne-eqb (m (nextAt g n)) 0 z, ← q, ← k) below
+          node-below d' count o q k z below = rw (← marked, linked g m d n z, ← q, ← k) below

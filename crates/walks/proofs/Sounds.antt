@@ -2,7 +2,7 @@
 use mathlib.Core.Path.{_≡_, refl, sym, _∙_, ap}
 use mathlib.Core.Bool.{Bool, true, false, cond, not}
 use mathlib.Core.Option.{none, some}
-use mathlib.Core.List.{List, [], _∷_}
+use mathlib.Core.List.{List, _∷_}
 use Prim.Native.Nat.{ℕ, zero, suc, _+_, _-_, _≤_, _<_}
 use native.Mathlib.Omega.{arith}
 use native.Mathlib.Numerals.{add-one}
@@ -22,7 +22,7 @@ use Rattle.tree.specs.Check.{isSoundTree, isSound}
 use Rattle.tree.specs.Recovery.{recoverStores}
 use Rattle.tree.specs.Pool.{unmarkAll, clearMap, mapOf}
 use Rattle.tree.proofs.Cases.{some-inj, none-some}
-use Rattle.walks.specs.declared.visit.Check.the-variants.{Frames}
+use Rattle.walks.specs.declared.visit.Check.the-variants.{Nodes, Frames}
 use Rattle.walks.specs.declared.trees.Listing.the-variants as listing-answer
 use Rattle.walks.specs.Answers.{listingFrom, listAfter}
 use Rattle.walks.specs.Walk.{kept, walkedSlot, walkedSlots}
@@ -31,7 +31,7 @@ use Rattle.walks.proofs.MarkedNodes.{nodes-inside}
 use Rattle.walks.proofs.MarkedNodesCount.{count-law}
 use Rattle.walks.proofs.MarkedNodesFree.{free-law}
 use Rattle.walks.proofs.MarkedNodesMend.{mend-law}
-use Rattle.walks.proofs.SlotWalks.{slots-law}
+use Rattle.walks.proofs.SlotWalks.{slot-law, slots-law}
 
 -- ---- two walks that leave the same: both went through, with one map, or neither did
 
@@ -51,6 +51,11 @@ pub cleared : (n k : ℕ) (pool : List ℕ) → pool ≡ clearMap n → n ≡ k 
 cleared n k pool e q = e ∙ ap clearMap q
 
 -- ---- a tree that was checked
+
+-- its slot is walked from a clear map on
+pub whole-tree : (g : Geometry) (image : List ℕ) (s : ℕ) (pool : List ℕ) → pool ≡ clearMap (mapWords g) → (r : Bool) (marks : List ℕ)
+    → kept r marks ≡ walkedSlot g (reads image) Nodes s pool → kept r marks ≡ kept (isSoundTree g (reads image) s) (mapOf g (nodesOf (tree g (reads image) s)))
+whole-tree g image s pool is r marks h = h ∙ ap (walkedSlot g (reads image) Nodes s) is ∙ slot-law g image s
 
 module _ (g : Geometry) (m : Memory) (s : ℕ) (r : Bool) (marks : List ℕ)
     (h : kept r marks ≡ kept (isSoundTree g m s) (mapOf g (nodesOf (tree g m s)))) where

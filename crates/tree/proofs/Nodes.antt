@@ -2,11 +2,11 @@
 use mathlib.Core.Path.{_≡_}
 use mathlib.Core.Bool.{true}
 use mathlib.Core.Logic.{inl, inr, _↔_}
-use Prim.Native.Nat.{ℕ, _<_}
+use Prim.Native.Nat.{ℕ, _≤_, _<_}
 use native.Mathlib.Omega.{arith}
 use Rattle.memory.specs.Words.{Memory}
 use Rattle.tree.specs.declared.layout.Geometry.{Geometry}
-use Rattle.tree.specs.Layout.{nextAt}
+use Rattle.tree.specs.Layout.{nextAt, sizeAt}
 use Rattle.tree.specs.Node.{sizeAllowed, formed, wellFormed}
 use Rattle.tree.specs.Laws.{WellFormed}
 use Rattle.tree.proofs.Tests.{says, said}
@@ -24,3 +24,7 @@ module _ (g : Geometry) (m : Memory) (d n : ℕ) where
   -- a node with children is above level 31
   pub linked-depth : wellFormed g m d n ≡ true → 0 < m (nextAt g n) → d < 31
   linked-depth h l = elim (wellFormed-facts .0 h .next) [ inl q ↦ absurd (omega arith) | inr t ↦ t .1 .0 ]
+
+-- a node's size is 64 at most
+pub size-most : {g : Geometry} {m : Memory} {d n : ℕ} → WellFormed g m d n → m (sizeAt g n) ≤ 64
+size-most w = elim (w .size) [ inl q ↦ omega arith | inr q ↦ elim (q .1) [ inl e ↦ omega arith | inr e ↦ omega arith ] ]

@@ -1,35 +1,24 @@
 -- A word's set bits, taken from the lowest on: what the loop over a node's places asks.
 use mathlib.Core.Path.{_≡_, refl, sym, _∙_, ap}
-use mathlib.Core.Bool.{Bool, true, false}
+use mathlib.Core.Bool.{true}
 use mathlib.Core.Logic.{_≢_}
-use mathlib.Core.List.{List, [], _∷_, map, List·Memᴰ, List·Memᴰ·head, List·Memᴰ·tail}
-use Prim.Native.Nat.{ℕ, zero, suc, _+_, _/_, _%_, _^_, _≤_, _<_}
+use mathlib.Core.List.{List, [], _∷_, map}
+use Prim.Native.Nat.{ℕ, zero, suc, _+_, _/_, _%_, _^_, _<_}
 use native.Mathlib.Omega.{arith}
-use native.Mathlib.Decide.{decLt, ℕ-discrete}
-use native.Mathlib.Nat.{div-one}
-use native.Mathlib.Numerals.{one-add}
-use lib.Pow.{shr-shr}
+use native.Mathlib.Decide.{decLt}
 use lib.Dec.{eqb}
 use lib.Count.{trailingZeros, under}
 use borrow.Author.Tests.{eq-eqb, ne-eqb}
-use Rattle.memory.specs.Words.{field, bit, isSet, withoutBit, reads}
+use Rattle.memory.specs.Words.{bit, isSet, withoutBit, reads}
 use Rattle.memory.specs.Laws.{NoneBelow}
-use Rattle.memory.proofs.Laws.{bit-laws}
+use Rattle.memory.proofs.Laws.{bit-laws, bit-zero, bit-suc, no-bit}
 use Rattle.tree.specs.declared.layout.Geometry.{Geometry}
-use Rattle.tree.specs.Lists.{range, upTo, keep}
+use Rattle.tree.specs.Lists.{upTo, keep}
 use Rattle.tree.specs.Layout.{nodeAt, setAt}
 use Rattle.tree.specs.Subtree.{heldPlaces, framesIn}
 use Rattle.tree.proofs.Lists.{keep-none, keep-first}
 
 -- ---- trailing zeros
-
-bit-zero : (n : ℕ) → bit n 0 ≡ n % 2
-unfolding bit field
-bit-zero n = ap (λ (x : ℕ). x % 2) (div-one n)
-
-bit-suc : (n k : ℕ) → bit n (suc k) ≡ bit (n / 2) k
-unfolding bit field
-bit-suc n k = ap (λ (x : ℕ). x % 2) (ap (λ (j : ℕ). n / 2 ^ j) (sym (one-add k)) ∙ sym (shr-shr n 1 k))
 
 -- t is the lowest of a word's first k bits that is set, or k
 record Lowest (n k t : ℕ) : Type 0 where
@@ -62,18 +51,15 @@ trailing-lowest (suc k) n = lowest-step n k (trailingZeros k (n / 2)) (n % 2) re
 unfoldable pub places : ℕ → List ℕ
 places w = keep (isSet w) (upTo 64)
 
-clear-zero : (k : ℕ) → isSet 0 k ≡ false
-clear-zero k = bit-laws .none-above 0 0 k (omega arith) (omega arith)
-
 places-none : (w : ℕ) → w ≡ 0 → places w ≡ []
 unfolding places
-places-none w z = rw z (keep-none (isSet 0) (upTo 64) (λ k x. clear-zero k))
+places-none w z = rw z (keep-none (isSet 0) (upTo 64) (λ k x. no-bit k))
 
 -- a word other than 0 has a lowest set bit
 pub lowest-in : (w : ℕ) → w ≢ 0 → w < 2 ^ 64 → trailingZeros 64 w < 64
 lowest-in w o h = elim (decLt (trailingZeros 64 w) 64) [
   | yes l ↦ l
-  | no l ↦ absurd (o (bit-laws .same-word w 0 64 h (omega arith) (λ k b. trailing-lowest 64 w .none-below k (omega arith) ∙ sym (clear-zero k))))
+  | no l ↦ absurd (o (bit-laws .same-word w 0 64 h (omega arith) (λ k b. trailing-lowest 64 w .none-below k (omega arith) ∙ sym (no-bit k))))
 ]
 
 places-next : (w : ℕ) → w ≢ 0 → w < 2 ^ 64 → places w ≡ trailingZeros 64 w ∷ places (withoutBit w (trailingZeros 64 w))

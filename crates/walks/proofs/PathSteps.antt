@@ -36,12 +36,6 @@ module _ (g : Geometry) (m : Memory) (d n : ℕ) (h : wellFormed g m d n ≡ tru
   pub node-inside : n < g .nodes
   node-inside = node-laws g m .facts d n .0 h .inside
 
-  pub size-most : m (sizeAt g n) ≤ 64
-  size-most = elim (node-laws g m .facts d n .0 h .size) [
-    | inl q ↦ omega arith
-    | inr t ↦ elim (t .1) [ inl q ↦ omega arith | inr q ↦ omega arith ]
-  ]
-
   pub child-inside : (f : ℕ) → (m (nextAt g n) ≡ 0 → ⊥) → (d < 31) × (childOf g m n (child d f) < g .nodes)
   child-inside f z = elim (node-laws g m .facts d n .0 h .next) [
     | inl q ↦ absurd (z q)

@@ -6,12 +6,11 @@ use mathlib.Core.Logic.{inl, inr}
 use mathlib.Core.Option.{none}
 use mathlib.Core.List.{List, [], _∷_, map, map-map, flatMap, List·Memᴰ, Memᴰ·of-map}
 use Prim.Native.Nat.{ℕ, _<_}
-use native.Mathlib.Omega.{arith}
 use lib.ListN.{length}
 use lib.Dec.{eqb}
 use borrow.Author.Tests.{eqb-true, eq-eqb}
 use Rattle.memory.specs.Words.{Memory, reads}
-use Rattle.tree.specs.Lists.{upTo, keep, every, distinct, Distinct}
+use Rattle.tree.specs.Lists.{upTo, keep, every, distinct}
 use Rattle.tree.specs.declared.layout.Geometry.{Geometry}
 use Rattle.tree.specs.Layout.{mapWords, reelAt}
 use Rattle.tree.specs.Path.{levels}
@@ -24,6 +23,7 @@ use Rattle.tree.specs.Pool.{clearMap, mapOf}
 use Rattle.tree.proofs.Cases.{test, same-test, and-true}
 use Rattle.tree.proofs.Lists.{flatMap-cong, map-flatMap, every-at, at-every, every-cong, every-and, every-flatMap, every-map}
 use Rattle.tree.proofs.Distinct.{distinct-says, distinct-said, same-element, distinct-by, made-distinct}
+use Rattle.tree.proofs.Slots.{own-slot}
 use Rattle.tree.proofs.Laws.{node-laws, slot-laws}
 use Rattle.walks.specs.declared.visit.Check.the-variants.{Nodes, Frames}
 use Rattle.walks.specs.Walk.{Stop, stop, stops, formedAt, passes, walked, kept, walkedSlot, walkedSlots}
@@ -86,15 +86,11 @@ module _ (g : Geometry) (m : Memory) where
   own-slots = same-test (
     λ h. distinct-said _ (distinct-by _ (slot-laws g m .listed-once) (λ s s' x y q.
         sym (eqb-true _ s (every-at isOwn h x)) ∙ ap (slotOf g m) q ∙ eqb-true _ s' (every-at isOwn h y))),
-    λ h. at-every isOwn (filledSlots g m) (λ s x. eq-eqb _ s (lowest s x (distinct-says _ (filledSlots g m) h))),
+    λ h. at-every isOwn (filledSlots g m) (λ s x.
+        let l = slot-laws g m in
+        let d = distinct-says (λ s. m (reelAt s)) (filledSlots g m) h in
+        eq-eqb _ s (own-slot (λ s' b q. same-element d (l .listed .1 b) x q) (l .listed .0 x))),
   )
-    where
-      lowest : (s : ℕ) → List·Memᴰ s (filledSlots g m) → Distinct (λ s. m (reelAt s)) (filledSlots g m) → slotOf g m (m (reelAt s)) ≡ s
-      lowest s x d =
-          let l = slot-laws g m in
-          let b = l .listed .0 x in
-          let t = l .reel (m (reelAt s)) (omega (arith, l .lowest b, b .inside)) in
-          same-element d (l .listed .1 (t .0)) x (t .1)
 
   -- a filled slot is its reel's, and its tree's nodes pass
   abbrev slotPasses : ℕ → Bool

@@ -4,8 +4,9 @@ use mathlib.Core.Bool.{Bool, true, false, cond, _&&_, and-assoc}
 use mathlib.Core.Logic.{_⊎_, inl, inr, _↔_, _≢_}
 use mathlib.Core.List.{List, [], _∷_, _++_, append-assoc, map, map-append, flatMap, List·Memᴰ·append-cases, Memᴰ·append-left, Memᴰ·append-right}
 use mathlib.Core.List.{List·Memᴰ, List·Memᴰ·head, List·Memᴰ·tail, List·Memᴰ·cases-cons, List·Memᴰ·not-nil}
-use Prim.Native.Nat.{ℕ, zero, suc, _+_, _≤_, _<_}
+use Prim.Native.Nat.{ℕ, zero, suc, _+_, _-_, _≤_, _<_}
 use native.Mathlib.Omega.{arith}
+use native.Mathlib.Numerals.{add-one}
 use native.Mathlib.Decide.{ℕ-discrete}
 use Rattle.tree.specs.Lists.{range, upTo, keep, every}
 use Rattle.tree.proofs.Cases.{test, and-true, true-and, and-swap}
@@ -74,6 +75,11 @@ range-has from (suc n) {c} l h = elim (ℕ-discrete c from) [
   | yes q ↦ List·Memᴰ·head q
   | no q ↦ List·Memᴰ·tail (range-has (suc from) n (omega arith) (omega arith))
 ]
+
+-- those from one up to a bound: it, then those after it
+pub range-next : (from to : ℕ) → from < to → range from (to - from) ≡ from ∷ range (from + 1) (to - (from + 1))
+unfolding range
+range-next from to h = let e : to - from ≡ suc (to - suc from) = omega arith in rw (e, add-one from) refl
 
 pub upTo-members : (n : ℕ) {c : ℕ} → List·Memᴰ c (upTo n) ↔ (c < n)
 unfolding upTo

@@ -1,7 +1,7 @@
 -- The frames and the stops of a node and of a group, as the listing's walk comes to them.
 use mathlib.Core.Path.{_≡_, refl, sym, _∙_, ap}
 use mathlib.Core.Bool.{true}
-use mathlib.Core.Logic.{inl, inr, _≢_}
+use mathlib.Core.Logic.{_≢_}
 use mathlib.Core.List.{List, [], _∷_, _++_, flatMap, append-nil}
 use Prim.Native.Nat.{ℕ, suc, _+_, _-_, _≤_, _<_}
 use native.Mathlib.Omega.{arith}
@@ -16,6 +16,7 @@ use Rattle.tree.specs.Slots.{rootOf}
 use Rattle.tree.specs.Subtree.{children, subtree, tree, framesIn, listing}
 use Rattle.tree.specs.Check.{walkable, isSoundTree}
 use Rattle.tree.specs.Laws.{WellFormed}
+use Rattle.tree.proofs.Nodes.{children-inside}
 use Rattle.tree.proofs.Laws.{node-laws}
 use Rattle.tree.proofs.Cases.{and-true}
 use Rattle.tree.proofs.Lists.{flatMap-append, flatMap-map, every-append, every-map}
@@ -92,10 +93,9 @@ module _ (g : Geometry) (m : Memory) where
     pub formed : every (formedAt g m) (groupStops g m (left - 1) (levels - (left - 1)) (m (nextAt g n) - 1) (fanout (levels - left))) ≡ true
 
   pub linked-facts : (left n : ℕ) → 1 ≤ left → left ≤ 32 → m (nextAt g n) ≢ 0 → every (formedAt g m) (stops g m left (levels - left) n) ≡ true → Linked left n
-  linked-facts left n l h o e = elim (node-facts left n l h e .next) [
-    | inl z ↦ absurd (o z)
-    | inr t ↦ record { above = omega (arith, t .1 .0); inside = t .1 .1; formed = rw (← linked g m (levels - left) n o) (node-formed left n l h e .1) }
-  ]
+  linked-facts left n l h o e =
+      let t = children-inside (node-facts left n l h e) o in
+      record { above = omega (arith, t .0); inside = t .1; formed = rw (← linked g m (levels - left) n o) (node-formed left n l h e .1) }
 
   -- ---- a slot's tree
 

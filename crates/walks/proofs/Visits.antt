@@ -1,10 +1,9 @@
 -- What the walk over a tree's nodes asks: the definition's cases, one law for each way through the code.
 use mathlib.Core.Path.{_≡_, refl, sym, _∙_}
 use mathlib.Core.Bool.{Bool, true, false, not}
-use mathlib.Core.Logic.{inl, inr}
 use mathlib.Core.Option.{Option, none, some}
 use mathlib.Core.List.{List}
-use Prim.Native.Nat.{ℕ, suc, _+_, _-_, _≤_, _<_}
+use Prim.Native.Nat.{ℕ, suc, _+_, _-_, _≤_}
 use borrow.Author.Tests.{not-true, not-false}
 use Rattle.memory.specs.Words.{Memory}
 use Rattle.tree.specs.declared.layout.Geometry.{Geometry}
@@ -26,10 +25,6 @@ use Rattle.walks.proofs.Stops.{group-empty, group-first, node-first, le
 module _ (g : Geometry) (m : Memory) (d n : ℕ) where
   pub formed-facts : (r : Bool) → r ≡ wellFormed g m d n → not r ≡ false → WellFormed g m d n
   formed-facts r q e = node-laws g m .facts d n .0 (sym q ∙ not-false r e)
-
-  -- a node with children is above level 31, and all of them are inside the pool
-  pub children-inside : WellFormed g m d n → (m (nextAt g n) ≡ 0 → ⊥) → (d < 31) × (m (nextAt g n) - 1 + fanout d ≤ g .nodes)
-  children-inside w z = elim (w .next) [ inl q ↦ absurd (z q) | inr t ↦ (t .1 .0, t .1 .1) ]
 
   module _ (s : ℕ) (c : Check) (r : Bool) where
     pub not-formed : r ≡ wellFormed g m d n → not r ≡ true → false ≡ passes g m c s (stop d n)

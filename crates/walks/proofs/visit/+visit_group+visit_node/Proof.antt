@@ -5,8 +5,9 @@ use native.Mathlib.Omega.{arith}
 use lib.ListN.{length}
 use Rattle.memory.specs.Words.{reads}
 use Rattle.tree.specs.Path.{levels}
+use Rattle.tree.proofs.Nodes.{children-inside}
 use Rattle.walks.specs.Walk.{groupStops, passes, walked}
-use Rattle.walks.proofs.Visits.{children-inside, passes-facts, group-none, group-stop, group-more, node-fails, node-met, node-leaf, node-below}
+use Rattle.walks.proofs.Visits.{passes-facts, group-none, group-stop, group-more, node-fails, node-met, node-leaf, node-below}
 use borrow.Fn.Kinds.{In}
 use borrow.Fn.PlainCycle.{Measures, is, falls, and}
 use Rattle.walks.proofs.visit.visit_group.Reads as visit-group
@@ -131,7 +132,7 @@ pub +visit-group+visit-node-spec : {M : Type 1} → statement M
     (λ c κs. let linked = c .before .before in
     let passed = linked .before .before .before .before .before .before .before .before .before .before in
     let w = passes-facts _ _ _ _ _ _ _ (passed .before .node-passes .ensures) (passed .if1 .left) in
-    let k = children-inside _ _ _ _ w (linked .if3 .left) in
+    let k = children-inside w (linked .if3 .left) in
     search needs)
     (λ c. search needs)
     (λ c. let linked = c .before .before .before .before .before in

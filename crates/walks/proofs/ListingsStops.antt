@@ -12,8 +12,7 @@ use Rattle.tree.specs.Lists.{every}
 use Rattle.tree.specs.Layout.{nextAt}
 use Rattle.tree.specs.Path.{levels, fanout}
 use Rattle.tree.specs.Node.{wellFormed}
-use Rattle.tree.specs.Slots.{rootOf}
-use Rattle.tree.specs.Subtree.{children, subtree, tree, framesIn, listing}
+use Rattle.tree.specs.Subtree.{children, tree, framesIn, listing}
 use Rattle.tree.specs.Check.{walkable, isSoundTree}
 use Rattle.tree.specs.Laws.{WellFormed}
 use Rattle.tree.proofs.Nodes.{children-inside}
@@ -21,7 +20,7 @@ use Rattle.tree.proofs.Laws.{node-laws}
 use Rattle.tree.proofs.Cases.{and-true}
 use Rattle.tree.proofs.Lists.{flatMap-append, flatMap-map, every-append, every-map}
 use Rattle.walks.specs.Walk.{Stop, stop, stops, groupStops, formedAt, framesAt}
-use Rattle.walks.proofs.Stops.{stops-subtree, group-empty, group-first, node-first, leaf, linked}
+use Rattle.walks.proofs.Stops.{stopOf, slotStops, slot-stops, group-empty, group-first, node-first, leaf, linked}
 
 module _ (g : Geometry) (m : Memory) where
   -- ---- stops
@@ -99,15 +98,12 @@ module _ (g : Geometry) (m : Memory) where
 
   -- ---- a slot's tree
 
-  pub listing-stops : (s : ℕ) → listing g m s ≡ framesAt g m (stops g m levels 0 (rootOf m s))
-  unfolding listing tree framesAt
-  listing-stops s =
-      sym (flatMap-map (λ v. stop (length (v .way)) (v .node)) (λ x. framesIn g m (x .node)) (subtree g m levels [] (rootOf m s)))
-      ∙ ap (flatMap (λ x. framesIn g m (x .node))) (stops-subtree g m levels [] (rootOf m s))
+  pub listing-stops : (s : ℕ) → listing g m s ≡ framesAt g m (slotStops g m s)
+  unfolding listing framesAt
+  listing-stops s = rw (slot-stops g m s) (sym (flatMap-map stopOf (λ x. framesIn g m (x .node)) (tree g m s)))
 
-  pub sound-stops : (s : ℕ) → isSoundTree g m s ≡ true → every (formedAt g m) (stops g m levels 0 (rootOf m s)) ≡ true
-  unfolding isSoundTree walkable tree formedAt
+  pub sound-stops : (s : ℕ) → isSoundTree g m s ≡ true → every (formedAt g m) (slotStops g m s) ≡ true
+  unfolding isSoundTree walkable formedAt
   sound-stops s h =
-      ap (every (formedAt g m)) (sym (stops-subtree g m levels [] (rootOf m s)))
-      ∙ every-map (formedAt g m) (λ v. stop (length (v .way)) (v .node)) (subtree g m levels [] (rootOf m s))
-      ∙ and-true (every (λ v. wellFormed g m (length (v .way)) (v .node)) (subtree g m levels [] (rootOf m s))) _ h .0
+      rw (slot-stops g m s)
+      (every-map (formedAt g m) stopOf (tree g m s) ∙ and-true (every (λ v. wellFormed g m (length (v .way)) (v .node)) (tree g m s)) _ h .0)

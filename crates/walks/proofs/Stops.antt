@@ -1,5 +1,5 @@
 -- A walk's stops: the nodes of tree's walk by the lengths of their ways; and as the code takes them, a node before its children, a group from its first node on.
-use mathlib.Core.Path.{_≡_, refl, _∙_, ap, ap₂}
+use mathlib.Core.Path.{_≡_, refl, sym, _∙_, ap, ap₂}
 use mathlib.Core.List.{List, [], _∷_, _++_, map, flatMap}
 use Prim.Native.Nat.{ℕ, zero, suc, _+_, _-_, _≤_}
 use native.Mathlib.Omega.{arith}
@@ -9,20 +9,32 @@ use Rattle.memory.specs.Words.{Memory}
 use Rattle.tree.specs.Lists.{range, upTo}
 use Rattle.tree.specs.declared.layout.Geometry.{Geometry}
 use Rattle.tree.specs.Layout.{nextAt}
-use Rattle.tree.specs.Path.{fanout}
+use Rattle.tree.specs.Path.{levels, fanout}
 use Rattle.tree.specs.Node.{childOf}
-use Rattle.tree.specs.Subtree.{children, subtree}
+use Rattle.tree.specs.Slots.{rootOf}
+use Rattle.tree.specs.Subtree.{Visit, children, subtree, tree}
 use Rattle.tree.proofs.Lists.{flatMap-cong, map-flatMap}
-use Rattle.walks.specs.Walk.{stop, stops, groupStops}
+use Rattle.walks.specs.Walk.{Stop, stop, stops, groupStops}
+
+abbrev pub stopOf : Visit → Stop
+stopOf v = stop (length (v .way)) (v .node)
 
 module _ (g : Geometry) (m : Memory) where
-  pub stops-subtree : (left : ℕ) (w : List ℕ) (n : ℕ) → map (λ v. stop (length (v .way)) (v .node)) (subtree g m left w n) ≡ stops g m left (length w) n
+  stops-subtree : (left : ℕ) (w : List ℕ) (n : ℕ) → map stopOf (subtree g m left w n) ≡ stops g m left (length w) n
   unfolding subtree stops
   stops-subtree zero w n = refl
   stops-subtree (suc left) w n =
       ap (λ t. stop (length w) n ∷ t)
-      (map-flatMap (λ v. stop (length (v .way)) (v .node)) (λ c. subtree g m left (c ∷ w) (childOf g m n c)) (upTo (children g m (length w) n))
+      (map-flatMap stopOf (λ c. subtree g m left (c ∷ w) (childOf g m n c)) (upTo (children g m (length w) n))
       ∙ flatMap-cong _ _ (upTo (children g m (length w) n)) (λ c x. stops-subtree left (c ∷ w) (childOf g m n c)))
+
+  -- the stops of a slot's walk
+  abbrev pub slotStops : ℕ → List Stop
+  slotStops s = stops g m levels 0 (rootOf m s)
+
+  pub slot-stops : (s : ℕ) → slotStops s ≡ map stopOf (tree g m s)
+  unfolding tree
+  slot-stops s = sym (stops-subtree levels [] (rootOf m s))
 
   -- a group of none, and of at least one
   pub group-empty : (left d start : ℕ) → groupStops g m left d start 0 ≡ []

@@ -17,7 +17,7 @@ use Rattle.tree.specs.declared.layout.Geometry.{Geometry}
 use Rattle.tree.specs.Layout.{badImage, imageWords, editionAt}
 use Rattle.tree.specs.Slots.{slotOf, emptySlot}
 use Rattle.tree.specs.Lookup.{pathFrom, freeRun}
-use Rattle.tree.proofs.Cases.{test, true-not-false}
+use Rattle.tree.proofs.Cases.{test, true-not-false, same-test}
 use Rattle.tree.proofs.Tests.{says, said}
 use Rattle.book.specs.Heads.{headCount, headAt, targetOf}
 use Rattle.book.specs.Refusals.{Refusal, _gives_, refusal}
@@ -35,7 +35,7 @@ use Rattle.book.proofs.Refusals.{denies, denied, passes}
 use Rattle.book.proofs.Performed.{answer-is, work-granted, work-refused, reply-is, reply-granted, reply-refused}
 use Rattle.book.proofs.Level31.{never-level31, lacks-open, lacks-claim}
 use Rattle.book.proofs.Paired.{Paired, end, same, skip, run, paired-answer, paired-run}
-use Rattle.book.proofs.Reading.{same-test, image-right, edition-right, same-geometry, is-sound, slot-has, slot-below, path-there, tree-right}
+use Rattle.book.proofs.Reading.{image-right, edition-right, same-geometry, is-sound, slot-has, slot-below, path-there, tree-right}
 use Rattle.book.proofs.Reading.{same-frames, same-length, same-held, all-filled, same-idle, same-claimed, same-filled, claim-of, claim-inside, same-busy}
 
 -- ---- the operations' lists

@@ -24,9 +24,9 @@ use Rattle.tree.specs.declared.path.Room.the-variants.{Clear, ScaleUp, BranchOu
 use Rattle.tree.specs.Room.{lastOf, fullRoom, roomOn}
 use Rattle.book.specs.Perform.{foundSpot}
 use Rattle.tree.proofs.Cases.{test, seen, nothing, just, some-inj, none-some, true-not-false}
+use Rattle.tree.proofs.Nodes.{size-most}
 use Rattle.tree.proofs.Laws.{node-laws, spot-laws, run-laws, fingerprint-laws}
 use Rattle.book.proofs.Refusals.{Denies}
-use Rattle.book.proofs.Sames.{size-most}
 
 -- ---- the header
 

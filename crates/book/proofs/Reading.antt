@@ -1,6 +1,6 @@
 -- What a book reads of its image and its heads, where it agrees with a table: what the table reads of itself.
 use mathlib.Core.Path.{_≡_, refl, sym, _∙_, ap, ap₂}
-use mathlib.Core.Bool.{Bool, true, false, cond}
+use mathlib.Core.Bool.{true, false, cond}
 use mathlib.Core.Logic.{_⊎_, inl, inr, _↔_}
 use mathlib.Core.Option.{some}
 use mathlib.Core.List.{List, [], _∷_, map, List·Memᴰ, List·Memᴰ·head, List·Memᴰ·tail, List·Memᴰ·cases-cons, List·Memᴰ·not-nil, Memᴰ·map, Memᴰ·cast}
@@ -14,17 +14,18 @@ use Rattle.tree.specs.Memory.{Memory, reads, isSome}
 use Rattle.tree.specs.Test.{ne, holds}
 use Rattle.tree.specs.Lists.{Distinct, onto}
 use Rattle.tree.specs.declared.layout.Geometry.{Geometry}
-use Rattle.tree.specs.Layout.{badImage, inRange, editionAt, geometryOf, reelAt, rootAt, sizeAt}
+use Rattle.tree.specs.Layout.{badImage, inRange, editionAt, geometryOf, reelAt, rootAt}
 use Rattle.tree.specs.Path.{wayOf}
 use Rattle.tree.specs.Fingerprint.{ruleOf}
 use Rattle.tree.specs.Slots.{Filled, filledSlots, reelsPresent, slotOf, emptySlot}
 use Rattle.tree.specs.Lookup.{pathFrom, find}
 use Rattle.tree.specs.Subtree.{listing}
 use Rattle.tree.specs.Check.{isSoundTree, isSound}
-use Rattle.tree.proofs.Cases.{test, true-not-false, not-false, seen, nothing, just}
+use Rattle.tree.proofs.Cases.{test, true-not-false, same-test, seen, nothing, just}
 use Rattle.tree.proofs.Distinct.{distinct-by, distinct-upTo}
 use Rattle.tree.proofs.Lists.{upTo-members}
 use Rattle.tree.proofs.Pigeon.{pigeon, length-upTo}
+use Rattle.tree.proofs.Nodes.{size-most}
 use Rattle.tree.proofs.Lookup.{sound-tree}
 use Rattle.tree.proofs.Laws.{child-laws, node-laws, slot-laws, path-laws, lookup-rule, tree-laws, sound-laws}
 use Rattle.book.specs.declared.Target.{Target}
@@ -39,13 +40,9 @@ use Rattle.book.specs.Ways.{SlotHas}
 use Rattle.book.proofs.Refusals.{denied}
 use Rattle.book.proofs.Heads.{busy-names, is-busy}
 use Rattle.book.proofs.ReelLists.{has-member}
-use Rattle.book.proofs.Sames.{size-most}
 use Rattle.book.proofs.Showing.{present-slot}
 
--- ---- tests, and lists in which each number occurs once
-
-pub same-test : {b c : Bool} → (b ≡ true) ↔ (c ≡ true) → b ≡ c
-same-test {b} {c} h = elim (test b) [ inl e ↦ e ∙ sym (h .0 e) | inr e ↦ e ∙ sym (not-false (λ q. true-not-false (h .1 q) e)) ]
+-- ---- lists in which each number occurs once
 
 -- where a number is in a list
 position : ℕ → List ℕ → ℕ

@@ -17,7 +17,7 @@ use Rattle.tree.specs.Reach.{FrameOf}
 use Rattle.tree.specs.Sound.{Sound}
 use Rattle.tree.specs.Laws.{WellFormed}
 use Rattle.tree.proofs.Same.{reaches-on}
-use Rattle.tree.proofs.Nodes.{wellFormed-facts}
+use Rattle.tree.proofs.Nodes.{wellFormed-facts, size-most}
 use Rattle.book.specs.declared.Target.{Target}
 use Rattle.book.specs.declared.HeadState.{HeadState}
 use Rattle.book.specs.declared.HeadState.the-variants as heads
@@ -28,7 +28,6 @@ use Rattle.book.specs.Agrees.{Reached, Claims, HeadAgrees, both-idle, Ab
 use Rattle.book.proofs.Heads.{length-with, head-written, head-stays, one-target, idle-nothing, table-head-written, table-head-stays, length-with-table}
 use Rattle.book.proofs.Claims.{SameClaim, head-on, AgreesBy}
 use Rattle.book.proofs.Reels.{same-reached}
-use Rattle.book.proofs.Sames.{size-most}
 use Rattle.book.proofs.OnePlace.{OnePlace}
 
 -- ---- claims, where one place changes

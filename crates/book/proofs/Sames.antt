@@ -20,7 +20,7 @@ use Rattle.tree.specs.Same.{Same, SameFrames, SameWords, Stores}
 use Rattle.tree.specs.Laws.{WellFormed}
 use Rattle.tree.proofs.Memory.{byte-laws}
 use Rattle.tree.proofs.Cases.{true-not-false}
-use Rattle.tree.proofs.Nodes.{wellFormed-facts}
+use Rattle.tree.proofs.Nodes.{wellFormed-facts, size-most}
 use Rattle.tree.proofs.Words.{same-next, same-formed, same-frames, beside-node, beside-slots}
 use Rattle.book.specs.Agrees.{Reached}
 use Rattle.book.specs.Table.{Reel}
@@ -69,10 +69,6 @@ module _ (g : Geometry) {m m' : Memory} {i v : ℕ} (n k : ℕ) (high : k < 80) 
   formed-kept {d} l f = wellFormed-facts g m' d n .0 (sym (tested-kept d l) ∙ wellFormed-facts g m d n .1 f)
 
 -- ---- the view
-
--- a node's size is 64 at most
-pub size-most : {g : Geometry} {m : Memory} {d n : ℕ} → WellFormed g m d n → m (sizeAt g n) ≤ 64
-size-most w = elim (w .size) [ inl q ↦ omega arith | inr q ↦ elim (q .1) [ inl e ↦ omega arith | inr e ↦ omega arith ] ]
 
 module _ {g : Geometry} {im : List ℕ} {rs : List Reel} {s n : ℕ} {w : List ℕ} (v : View g im rs) (x : Reaches g (reads im) s w n) where
   -- a reached node is well formed, and its words are inside the image

@@ -1,6 +1,6 @@
 -- A claim on a path that is full to its end, a node of size 64: a branch-out, then place 0 of the frame's child.
 use mathlib.Core.Path.{_≡_, refl, ap, subst}
-use mathlib.Core.Bool.{true, false}
+use mathlib.Core.Bool.{true}
 use mathlib.Core.Logic.{_⊎_, inl, inr, _↔_}
 use mathlib.Core.List.{List, [], _∷_, map, List·Memᴰ, Memᴰ·cast}
 use Prim.Native.Nat.{ℕ, suc, _+_, _*_, _%_, _<_}
@@ -15,7 +15,7 @@ use Rattle.tree.specs.Reach.{Reaches}
 use Rattle.tree.specs.Pool.{used, markAll}
 use Rattle.tree.proofs.Cases.{true-not-false}
 use Rattle.tree.proofs.Lists.{range-has}
-use Rattle.tree.proofs.Memory.{bit-laws}
+use Rattle.tree.proofs.Memory.{no-bit}
 use Rattle.tree.proofs.Laws.{child-laws, pool-laws}
 use Rattle.book.specs.declared.Target.{Target}
 use Rattle.book.specs.declared.HeadState.the-variants.{Claimed}
@@ -41,10 +41,6 @@ use Rattle.book.proofs.Branching.{in-group, madeImage, linkedImage, Bra
 way-more : (d f : ℕ) → wayOf (suc d) f ≡ child d f ∷ wayOf d f
 unfolding wayOf
 way-more d f = refl
-
--- 0 has no bit
-no-bit : (k : ℕ) → isSet 0 k ≡ false
-no-bit k = bit-laws .none-above 0 0 k (omega arith) (omega arith)
 
 -- ---- the book with the group made and linked
 

@@ -17,6 +17,7 @@ use Rattle.tree.specs.Same.{Same, Stores}
 use Rattle.tree.specs.Laws.{WellFormed}
 use Rattle.tree.proofs.Cases.{true-not-false, not-false}
 use Rattle.tree.proofs.Memory.{bit-laws}
+use Rattle.tree.proofs.Nodes.{size-most}
 use Rattle.tree.proofs.Same.{filled-on}
 use Rattle.tree.proofs.Laws.{same-laws}
 use Rattle.book.specs.declared.Target.{Target}
@@ -27,7 +28,7 @@ use Rattle.book.specs.Table.{Table, claimed, withTableHead}
 use Rattle.book.specs.Agrees.{Reached, Claims, Agrees}
 use Rattle.book.proofs.View.{View}
 use Rattle.book.proofs.Stored.{stores-set}
-use Rattle.book.proofs.Sames.{size-most, node-formed, reached-inside, view-locate}
+use Rattle.book.proofs.Sames.{node-formed, reached-inside, view-locate}
 use Rattle.book.proofs.Showing.{shows-view, view-shows}
 use Rattle.book.proofs.Reading.{sizesOf, claim-inside}
 use Rattle.book.proofs.Claims.{SameClaim}

@@ -19,7 +19,7 @@ use Rattle.tree.specs.Laws.{SameLaws}
 use Rattle.tree.specs.Pool.{used, mark}
 use Rattle.tree.proofs.Cases.{true-not-false}
 use Rattle.tree.proofs.Words.{beside-nodes}
-use Rattle.tree.proofs.Memory.{bit-laws}
+use Rattle.tree.proofs.Memory.{no-bit}
 use Rattle.tree.proofs.Same.{filled-back}
 use Rattle.tree.proofs.Laws.{node-laws, same-laws, change-laws, pool-laws}
 use Rattle.book.specs.declared.Target.{Target}
@@ -201,7 +201,7 @@ module _ {s : State} {t : Table} {slot n reel : ℕ} (a : Agrees s t) (o : Openi
       o .free (subst (Reached g m) (x .node) (record { slot = x .target .slot; way = _; there = c .2 .on-path }))
 
   none-set : (p : ℕ) → isSet 0 p ≡ true → ⊥
-  none-set p e = true-not-false e (bit-laws .none-above 0 0 p (omega arith) (omega arith))
+  none-set p e = true-not-false e (no-bit p)
 
   locates : (k p : ℕ) → Reached g (reads rooted) k → p < 64
       → (isSet (reads rooted (locateAt g k)) p ≡ true)

@@ -1,16 +1,16 @@
 -- The steps of Has and List: nothing is written.
 use mathlib.Core.Path.{_≡_, refl}
 use mathlib.Core.Logic.{inl}
-use mathlib.Core.List.{List, []}
+use mathlib.Core.List.{[]}
 use Prim.Native.Nat.{ℕ}
 use Rattle.book.specs.State.{State, Operation, has, list}
 use Rattle.book.specs.Perform.{granted}
 use Rattle.book.specs.Table.{Table, tableWork}
-use Rattle.book.specs.Agrees.{Shows, Agrees}
+use Rattle.book.specs.Agrees.{Agrees}
 use Rattle.book.proofs.Showing.{shows-view}
 use Rattle.book.proofs.StoreLists.{apply-none, crash-none}
 use Rattle.book.proofs.Keeps.{keeps-itself}
-use Rattle.book.proofs.Step.{Keeps, Step}
+use Rattle.book.proofs.Step.{Step}
 
 -- an operation without a script that leaves the state and the table
 step-idle : {op : Operation} {s : State} {t : Table} → granted op s .script ≡ [] → granted op s .after ≡ s → tableWork op t .after ≡ t → Agrees s t → Step op s t

@@ -7,7 +7,7 @@ use Prim.Native.Nat.{ℕ, _<_}
 use native.Mathlib.Omega.{arith}
 use lib.ListN.{length, set}
 use lib.Dec.{eqb}
-use Rattle.tree.specs.Memory.{Memory, reads, Fit, stores, segmented, apply}
+use Rattle.tree.specs.Memory.{Memory, reads, Fit}
 use Rattle.tree.specs.Lists.{keep}
 use Rattle.tree.specs.declared.layout.Geometry.{Geometry}
 use Rattle.tree.specs.Layout.{reelAt, rootAt}
@@ -37,6 +37,7 @@ use Rattle.book.proofs.Reels.{frames-to}
 use Rattle.book.proofs.Views.{view-retired}
 use Rattle.book.proofs.Showing.{shows-view, view-shows}
 use Rattle.book.proofs.Crashed.{through-each}
+use Rattle.book.proofs.Single.{apply-single}
 use Rattle.book.proofs.Heads.{names-about, busy-names}
 use Rattle.book.proofs.Reading.{sizesOf, claim-inside}
 use Rattle.book.proofs.Keeps.{keeps-of, keeps-itself, step-of}
@@ -66,10 +67,6 @@ retire-table : (t : Table) (words scratch script reel : ℕ)
     → tableWork (retire words scratch script reel) t .after ≡ withReels t (keep (λ r. not (eqb (r .number) reel)) (t .reels))
 unfolding tableWork
 retire-table t words scratch script reel = refl
-
-one-store : (im : List ℕ) (i v : ℕ) → apply im (segmented (((i, v) ∷ []) ∷ [])) ≡ set im i v
-unfolding apply segmented stores
-one-store im i v = refl
 
 tree-nodes : {g : Geometry} {m : Memory} {s : ℕ} → Filled g m s → (n : ℕ) → List·Memᴰ n (nodesOf (tree g m s)) ↔ ((w : List ℕ) × Reaches g m s w n)
 unfolding nodesOf
@@ -163,6 +160,6 @@ step-retire {s} {t} a words scratch script reel fits h =
     let k = slotOf (sizesOf (s .image)) (reads (s .image)) reel in
     let x = slot-laws (sizesOf (s .image)) (reads (s .image)) .reel reel (p .0) in
     step-of (retire-granted s words scratch script reel) (retire-table t words scratch script reel)
-    (rw (one-store (s .image) (rootAt k) 0) (agrees-cleared a k (x .0) (p .1) reel (x .1)))
+    (rw (apply-single (s .image) ((rootAt k, 0) ∷ [])) (agrees-cleared a k (x .0) (p .1) reel (x .1)))
     (through-each _ (s .image) ((rootAt k, 0) ∷ []) (inl (a .shows), keeps-itself (shows-view (a .shows)))
     ((inr (shows-cleared a k (x .0) (p .1) reel (x .1)), keeps-cleared a k (x .0) (p .1)), tt))

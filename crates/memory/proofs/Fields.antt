@@ -152,6 +152,10 @@ bit-laws = record {
   same-word = same-word;
 }
 
+-- 0 has no bit
+pub no-bit : (k : ℕ) → isSet 0 k ≡ false
+no-bit k = bit-laws .none-above 0 0 k (omega arith) (omega arith)
+
 -- ---- bytes
 
 byte-lt : (w at : ℕ) → field w at 8 < 256

@@ -1,5 +1,5 @@
 -- What crates above cite: a proof for each record of specs/Laws.antt, and the lemmas that proofs of code ask for.
-pub use Rattle.memory.proofs.Fields.{bit-laws, byte-laws}
+pub use Rattle.memory.proofs.Fields.{bit-laws, byte-laws, bit-zero, bit-suc, no-bit}
 pub use Rattle.memory.proofs.First.{first-laws}
 pub use Rattle.memory.proofs.Written.{script-laws, rest-lent, rest-back, written-rest}
 pub use Rattle.memory.proofs.Stores.{apply-laws, OldOrStored, content, unstored, settles}

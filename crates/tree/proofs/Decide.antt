@@ -113,5 +113,5 @@ module _ (r : Rule) (g : Geometry) (m : Memory) where
     formatted = formatted;
     path = λ d b f. sound-path (sound-tree r g m d) b f;
     trees = λ d. sound-tree r g m d;
-    own-slot = λ d b. own-slot d b;
+    own-slot = λ d b. own-slot (λ s' b' q. d .reels b' b q) b;
   }

@@ -1,6 +1,6 @@
 -- Lists in which no key occurs twice: what the test says, and lists put together.
-use mathlib.Core.Path.{_≡_, refl, sym, _∙_, ap, subst}
-use mathlib.Core.Bool.{Bool, true, false, not}
+use mathlib.Core.Path.{_≡_, refl, sym, _∙_, ap, ap₂, subst}
+use mathlib.Core.Bool.{Bool, true, false, not, _&&_, _||_}
 use mathlib.Core.Logic.{_⊎_, inl, inr, _≢_}
 use mathlib.Core.List.{List, [], _∷_, _++_, map, flatMap, List·Memᴰ·append-cases, Memᴰ·append-left, Memᴰ·append-right}
 use mathlib.Core.List.{List·Memᴰ, List·Memᴰ·head, List·Memᴰ·tail, List·Memᴰ·cases-cons, List·Memᴰ·not-nil, Memᴰ·of-map}
@@ -140,3 +140,15 @@ distinct-made f key (onto {x} {xs} a d) = onto (λ y z q. let t = Memᴰ·of-map
 
 pub distinct-map : {A : Type 0} {f : A → ℕ} {xs : List A} → Distinct f xs → Distinct (λ k. k) (map f xs)
 distinct-map {f = f} d = distinct-made f (λ k. k) d
+
+-- the test of such a list
+module _ {A B : Type 0} (key : B → ℕ) (f : A → B) where
+  has-made : (k : ℕ) (xs : List A) → hasKey key k (map f xs) ≡ hasKey (λ x. key (f x)) k xs
+  unfolding hasKey
+  has-made k [] = refl
+  has-made k (x ∷ xs) = ap (λ t. eqb (key (f x)) k || t) (has-made k xs)
+
+  pub made-distinct : (xs : List A) → distinct key (map f xs) ≡ distinct (λ x. key (f x)) xs
+  unfolding distinct
+  made-distinct [] = refl
+  made-distinct (x ∷ xs) = ap₂ (λ a b. not a && b) (has-made (key (f x)) xs) (made-distinct xs)

@@ -3,13 +3,11 @@ use mathlib.Core.Path.{_≡_, refl, sym, _∙_, ap}
 use mathlib.Core.Bool.{true}
 use mathlib.Core.Logic.{_⊎_, inl, inr, _≢_}
 use mathlib.Core.List.{List}
-use Prim.Native.Nat.{ℕ, suc, _+_, _-_, _/_, _%_, _^_}
+use Prim.Native.Nat.{ℕ, suc, _+_, _-_}
 use native.Mathlib.Omega.{arith}
-use native.Mathlib.Nat.{zero-div}
 use native.Mathlib.Decide.{ℕ-discrete}
 use lib.ListN.{length}
-use borrow.Author.Tests.{eqb-true}
-use Rattle.memory.specs.Words.{Memory, isSet, bit, field}
+use Rattle.memory.specs.Words.{Memory}
 use Rattle.tree.specs.declared.layout.Geometry.{Geometry}
 use Rattle.tree.specs.Layout.{reelAt, rootAt, nextAt, setAt}
 use Rattle.tree.specs.Fingerprint.{Rule}
@@ -19,13 +17,10 @@ use Rattle.tree.specs.Reach.{Reaches, root, down, Holds}
 use Rattle.tree.specs.Sound.{Sound}
 use Rattle.tree.specs.Same.{SameFrames, SameWords, Stores}
 use Rattle.tree.specs.Changes.{Opens, NewRoot, Grown}
+use Rattle.memory.proofs.Laws.{no-bit}
+use Rattle.tree.proofs.Cases.{true-not-false}
 use Rattle.tree.proofs.Same.{holds-to, holds-from}
 use Rattle.tree.proofs.Words.{same-next, same-formed, same-frames, beside-nodes}
-
--- no bit of 0 is set
-none-set : (k : ℕ) → isSet 0 k ≡ true → ⊥
-unfolding isSet bit field
-none-set k h = omega (arith, eqb-true (0 / 2 ^ k % 2) 1 h, zero-div (2 ^ k))
 
 -- what both changes come to: new ways besides the old, to bare nodes that nothing reached
 pub record Grows (g : Geometry) (m m' : Memory) (New : ℕ → List ℕ → ℕ → Type 0) : Type 0 where
@@ -44,7 +39,7 @@ module _ {r : Rule} {g : Geometry} {m m' : Memory} {New : ℕ → List ℕ → �
   holds-back : {s : ℕ} {w : List ℕ} {n p f : ℕ} → Holds g m' s w n p f → Holds g m s w n p f
   holds-back {n = n} {p = p} x = elim (a .only (x .there)) [
     | inl t ↦ holds-from (a .frames n) t x
-    | inr t ↦ absurd (none-set p (rw (a .bare t) at (x .set)))
+    | inr t ↦ absurd (true-not-false (rw (a .bare t) at (x .set)) (no-bit p))
   ]
 
   once-after : {s s' : ℕ} {w w' : List ℕ} {n : ℕ} → Reaches g m s w n ⊎ New s w n → Reaches g m s' w' n ⊎ New s' w' n → (s ≡ s') × (w ≡ w')

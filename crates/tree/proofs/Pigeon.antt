@@ -1,8 +1,8 @@
 -- A list whose keys are distinct and below k has at most k elements.
 use mathlib.Core.Path.{_≡_, refl, sym, _∙_, ap}
-use mathlib.Core.Bool.{Bool, true, not}
+use mathlib.Core.Bool.{true, not}
 use mathlib.Core.Logic.{inl, inr}
-use mathlib.Core.List.{List, [], _∷_, List·Memᴰ, List·Memᴰ·head, List·Memᴰ·tail}
+use mathlib.Core.List.{List, [], _∷_, List·Memᴰ, List·Memᴰ·head}
 use Prim.Native.Nat.{ℕ, zero, suc, _≤_, _<_}
 use native.Mathlib.Omega.{arith}
 use native.Mathlib.Decide.{decLt}
@@ -13,16 +13,11 @@ use Rattle.memory.specs.Search.{first}
 use Rattle.tree.specs.Lists.{range, upTo, keep, Distinct, empty, onto}
 use Rattle.tree.specs.Laws.{RoomLaw}
 use Rattle.tree.proofs.Cases.{test}
-use Rattle.tree.proofs.Lists.{upTo-members, kept}
+use Rattle.tree.proofs.Lists.{upTo-members, kept, keep-all}
 use Rattle.tree.proofs.Distinct.{distinct-keep, distinct-by, distinct-upTo}
 use Rattle.memory.proofs.Laws.{first-laws}
 
 module _ {A : Type 0} where
-  keep-all : (p : A → Bool) (xs : List A) → ((x : A) → List·Memᴰ x xs → p x ≡ true) → keep p xs ≡ xs
-  unfolding keep
-  keep-all p [] h = refl
-  keep-all p (x ∷ xs) h = rw (h x (List·Memᴰ·head refl)) (ap (λ l. x ∷ l) (keep-all p xs (λ y z. h y (List·Memᴰ·tail z))))
-
   -- at most one element has the key k
   but-one : {key : A → ℕ} (k : ℕ) {xs : List A} → Distinct key xs → length xs ≤ suc (length (keep (λ x. not (eqb (key x) k)) xs))
   unfolding keep

@@ -10,7 +10,7 @@ use lib.ListN.{length, set, length-set, length-replicate, getD-replicate, List·
 use lib.Seq.{getD-set-same, getD-set-other, set-out, ext-getD}
 use Rattle.memory.specs.Words.{reads, isSet, marked}
 use Rattle.memory.specs.Laws.{Fit}
-use Rattle.memory.proofs.Laws.{bit-laws}
+use Rattle.memory.proofs.Laws.{bit-laws, no-bit}
 use Rattle.tree.specs.declared.layout.Geometry.{Geometry}
 use Rattle.tree.specs.Layout.{mapWords}
 use Rattle.tree.specs.Pool.{used, mark, unmark, markAll, unmarkAll, clearMap, mapOf}
@@ -43,7 +43,7 @@ module _ (pool : List ℕ) (n w : ℕ) where
 -- a node past the map's end is not used
 unused-past : (pool : List ℕ) (n : ℕ) → length pool ≤ n / 64 → used pool n ≡ false
 unfolding marked
-unused-past pool n h = rw (List·getD-eq-default pool 0 h) (bit-laws .none-above 0 0 (n % 64) (omega arith) (omega arith))
+unused-past pool n h = rw (List·getD-eq-default pool 0 h) (no-bit (n % 64))
 
 -- ---- one node marked or unmarked
 
@@ -68,7 +68,7 @@ module _ (pool : List ℕ) (n : ℕ) where
   unfolding mark
   mark-same h = used-here pool n _ h ∙ bit-laws .with-sets (reads pool (n / 64)) (n % 64)
 
-  mark-other : (k : ℕ) → k ≢ n → used (mark pool n) k ≡ used pool k
+  pub mark-other : (k : ℕ) → k ≢ n → used (mark pool n) k ≡ used pool k
   unfolding mark
   mark-other k d = used-beside pool n _ k (bit-laws .with-keeps (reads pool (n / 64)) (n % 64)) d
 
@@ -156,7 +156,7 @@ clear-word n i = elim (decLt i n) [
 
 clear : (n k : ℕ) → used (clearMap n) k ≡ false
 unfolding marked
-clear n k = rw (clear-word n (k / 64)) (bit-laws .none-above 0 0 (k % 64) (omega arith) (omega arith))
+clear n k = rw (clear-word n (k / 64)) (no-bit (k % 64))
 
 fits-clear : (n : ℕ) → Fit (clearMap n)
 fits-clear n i = rw (clear-word n i) (omega arith)

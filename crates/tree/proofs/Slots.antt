@@ -13,9 +13,7 @@ use Rattle.tree.specs.Test.{Test, is, eq, _and_, holds}
 use Rattle.tree.specs.Lists.{upTo, Distinct}
 use Rattle.tree.specs.declared.layout.Geometry.{Geometry}
 use Rattle.tree.specs.Layout.{reelAt, rootAt}
-use Rattle.tree.specs.Fingerprint.{Rule}
 use Rattle.tree.specs.Slots.{filled, Filled, filledSlots, slotOf, emptySlot}
-use Rattle.tree.specs.Sound.{Sound}
 use Rattle.tree.specs.Laws.{SlotLaws}
 use Rattle.tree.proofs.Cases.{nonzero, nonzero-test}
 use Rattle.tree.proofs.Tests.{says, said}
@@ -60,9 +58,10 @@ module _ (g : Geometry) (m : Memory) where
     lowest-empty = λ s h e. first-laws (λ s. not (filled m s)) (g .slots) .least s h (rw (eq-eqb (m (rootAt s)) 0 e));
   }
 
--- on a sound image a filled slot is its reel's
-pub own-slot : {r : Rule} {g : Geometry} {m : Memory} {s : ℕ} → Sound r g m → Filled g m s → slotOf g m (m (reelAt s)) ≡ s
-own-slot {g = g} {m = m} {s = s} d b =
+-- a filled slot whose reel no other has is its reel's
+pub own-slot : {g : Geometry} {m : Memory} {s : ℕ} → ((s' : ℕ) → Filled g m s' → m (reelAt s') ≡ m (reelAt s) → s' ≡ s) → Filled g m s
+    → slotOf g m (m (reelAt s)) ≡ s
+own-slot {g} {m} {s} only b =
     let l = slot-laws g m in
     let t = l .reel (m (reelAt s)) (omega (arith, l .lowest b, b .inside)) in
-    d .reels (t .0) b (t .1)
+    only (slotOf g m (m (reelAt s))) (t .0) (t .1)

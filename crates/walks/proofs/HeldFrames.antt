@@ -1,10 +1,8 @@
 -- The test of a node's frames, place by place.
 use mathlib.Core.Path.{_≡_, refl, sym, _∙_, ap}
-use mathlib.Core.Bool.{Bool, true, false, cond, not, _&&_}
-use mathlib.Core.Logic.{inl, inr}
-use mathlib.Core.List.{List, [], _∷_}
-use Prim.Native.Nat.{ℕ, zero, suc, _+_, _-_, _≤_, _<_}
-use native.Mathlib.Numerals.{add-one}
+use mathlib.Core.Bool.{Bool, true, false, not, _&&_}
+use mathlib.Core.List.{[]}
+use Prim.Native.Nat.{ℕ, _+_, _-_, _≤_, _<_}
 use native.Mathlib.Omega.{arith}
 use borrow.Author.Tests.{not-true, not-false}
 use Rattle.memory.specs.Words.{Memory, isSet}
@@ -16,16 +14,11 @@ use Rattle.tree.specs.Node.{held, frame}
 use Rattle.tree.specs.Lookup.{find}
 use Rattle.tree.specs.Subtree.{visit, heldPlaces}
 use Rattle.tree.specs.Check.{isAt, inPlace}
-use Rattle.tree.proofs.Cases.{test}
+use Rattle.tree.proofs.Lists.{range-next, every-kept}
 use Rattle.walks.specs.declared.descent.Found.{Found}
 use Rattle.walks.specs.Answers.{foundFrom}
 use Rattle.walks.specs.Descent.{placePasses}
 use Rattle.walks.proofs.PathSteps.{spotIn, find-spot}
-
--- a test of the elements kept, one element at a time
-every-kept : {A : Type 0} (q h : A → Bool) (x : A) (xs : List A) → every q (keep h (x ∷ xs)) ≡ cond (h x) (q x) true && every q (keep h xs)
-unfolding every keep
-every-kept q h x xs = elim (test (h x)) [ inl e ↦ rw e refl | inr e ↦ rw e refl ]
 
 module _ (g : Geometry) (m : Memory) (s n : ℕ) where
   abbrev foundThere : ℕ → Bool
@@ -51,10 +44,8 @@ module _ (g : Geometry) (m : Memory) (s n : ℕ) where
   passes-start = refl
 
   passes-step : (p : ℕ) → p < 64 → passesFrom p ≡ placePasses g m s n p && passesFrom (p + 1)
-  unfolding passesFrom placePasses range
-  passes-step p l =
-      let e : 64 - p ≡ suc (64 - suc p) = omega arith in
-      rw (e, add-one) (every-kept foundThere (held g m n) p (range (suc p) (64 - suc p)))
+  unfolding passesFrom placePasses
+  passes-step p l = rw (range-next p 64 l) (every-kept foundThere (held g m n) p (range (p + 1) (64 - (p + 1))))
 
   pub passes-not : (p : ℕ) {ok : Bool} → p < 64 → ok ≡ placePasses g m s n p → not ok ≡ true → false ≡ passesFrom p
   passes-not p l e z = sym (passes-step p l ∙ rw (sym e ∙ not-true _ z) refl)

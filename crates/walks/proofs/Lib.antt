@@ -1,11 +1,9 @@
-pub mod ListTests
 pub mod PathSteps
 pub mod RoomSteps
 pub mod HeldFrames
 pub mod Stops
 pub mod Walked
 pub mod SlotWalks
-pub mod VisitsStops
 pub mod Visits
 pub mod Listings
 pub mod ListingsPlaces

@@ -1,35 +1,24 @@
 -- A word's set bits, taken from the lowest on: what the loop over a node's places asks.
 use mathlib.Core.Path.{_≡_, refl, sym, _∙_, ap}
-use mathlib.Core.Bool.{Bool, true, false}
+use mathlib.Core.Bool.{true}
 use mathlib.Core.Logic.{_≢_}
-use mathlib.Core.List.{List, [], _∷_, map, List·Memᴰ, List·Memᴰ·head, List·Memᴰ·tail}
-use Prim.Native.Nat.{ℕ, zero, suc, _+_, _/_, _%_, _^_, _≤_, _<_}
+use mathlib.Core.List.{List, [], _∷_, map}
+use Prim.Native.Nat.{ℕ, zero, suc, _+_, _/_, _%_, _^_, _<_}
 use native.Mathlib.Omega.{arith}
-use native.Mathlib.Decide.{decLt, ℕ-discrete}
-use native.Mathlib.Nat.{div-one}
-use native.Mathlib.Numerals.{one-add}
-use lib.Pow.{shr-shr}
+use native.Mathlib.Decide.{decLt}
 use lib.Dec.{eqb}
 use lib.Count.{trailingZeros, under}
 use borrow.Author.Tests.{eq-eqb, ne-eqb}
-use Rattle.memory.specs.Words.{field, bit, isSet, withoutBit, reads}
+use Rattle.memory.specs.Words.{bit, isSet, withoutBit, reads}
 use Rattle.memory.specs.Laws.{NoneBelow}
-use Rattle.memory.proofs.Laws.{bit-laws}
+use Rattle.memory.proofs.Laws.{bit-laws, bit-zero, bit-suc, no-bit}
 use Rattle.tree.specs.declared.layout.Geometry.{Geometry}
-use Rattle.tree.specs.Lists.{range, upTo, keep}
+use Rattle.tree.specs.Lists.{upTo, keep}
 use Rattle.tree.specs.Layout.{nodeAt, setAt}
 use Rattle.tree.specs.Subtree.{heldPlaces, framesIn}
-use Rattle.tree.proofs.Lists.{in-range}
+use Rattle.tree.proofs.Lists.{keep-none, keep-first}
 
 -- ---- trailing zeros
-
-bit-zero : (n : ℕ) → bit n 0 ≡ n % 2
-unfolding bit field
-bit-zero n = ap (λ (x : ℕ). x % 2) (div-one n)
-
-bit-suc : (n k : ℕ) → bit n (suc k) ≡ bit (n / 2) k
-unfolding bit field
-bit-suc n k = ap (λ (x : ℕ). x % 2) (ap (λ (j : ℕ). n / 2 ^ j) (sym (one-add k)) ∙ sym (shr-shr n 1 k))
 
 -- t is the lowest of a word's first k bits that is set, or k
 record Lowest (n k t : ℕ) : Type 0 where
@@ -57,51 +46,20 @@ unfolding trailingZeros
 trailing-lowest zero n = record { none-below = λ j l. absurd (omega arith); hit = λ l. absurd (omega arith) }
 trailing-lowest (suc k) n = lowest-step n k (trailingZeros k (n / 2)) (n % 2) refl (trailing-lowest k (n / 2))
 
--- ---- what a test keeps
-
-keep-same : {A : Type 0} (p q : A → Bool) (xs : List A) → ((x : A) → List·Memᴰ x xs → p x ≡ q x) → keep p xs ≡ keep q xs
-unfolding keep
-keep-same p q [] h = refl
-keep-same p q (x ∷ xs) h =
-    let ih = keep-same p q xs (λ y z. h y (List·Memᴰ·tail z)) in
-    rw (h x (List·Memᴰ·head refl), ih) refl
-
-keep-none : {A : Type 0} (p : A → Bool) (xs : List A) → ((x : A) → List·Memᴰ x xs → p x ≡ false) → keep p xs ≡ []
-unfolding keep
-keep-none p [] h = refl
-keep-none p (x ∷ xs) h = rw (h x (List·Memᴰ·head refl)) (keep-none p xs (λ y z. h y (List·Memᴰ·tail z)))
-
--- the first that a test keeps, and the others
-keep-first : (p q : ℕ → Bool) (from n t : ℕ) → from ≤ t → t < from + n → ((k : ℕ) → from ≤ k → k < t → p k ≡ false) → p t ≡ true → q t ≡ false
-    → ((k : ℕ) → k ≢ t → q k ≡ p k) → keep p (range from n) ≡ t ∷ keep q (range from n)
-unfolding keep range
-keep-first p q from zero t l h below e f other = absurd (omega arith)
-keep-first p q from (suc n) t l h below e f other = elim (ℕ-discrete from t) [
-  | yes s ↦
-      let others = keep-same p q (range (suc from) n) (λ k x. sym (other k (λ z. omega (arith, in-range (suc from) n x)))) in
-      rw (s, e, f, ← s, others) refl
-  | no s ↦
-      let off = below from (omega arith) (omega arith) in
-      rw (off, other from s, off) (keep-first p q (suc from) n t (omega arith) (omega arith) (λ k a b. below k (omega arith) b) e f other)
-]
-
 -- ---- a word's set bits
 
 unfoldable pub places : ℕ → List ℕ
 places w = keep (isSet w) (upTo 64)
 
-clear-zero : (k : ℕ) → isSet 0 k ≡ false
-clear-zero k = bit-laws .none-above 0 0 k (omega arith) (omega arith)
-
 places-none : (w : ℕ) → w ≡ 0 → places w ≡ []
 unfolding places
-places-none w z = rw z (keep-none (isSet 0) (upTo 64) (λ k x. clear-zero k))
+places-none w z = rw z (keep-none (isSet 0) (upTo 64) (λ k x. no-bit k))
 
 -- a word other than 0 has a lowest set bit
 pub lowest-in : (w : ℕ) → w ≢ 0 → w < 2 ^ 64 → trailingZeros 64 w < 64
 lowest-in w o h = elim (decLt (trailingZeros 64 w) 64) [
   | yes l ↦ l
-  | no l ↦ absurd (o (bit-laws .same-word w 0 64 h (omega arith) (λ k b. trailing-lowest 64 w .none-below k (omega arith) ∙ sym (clear-zero k))))
+  | no l ↦ absurd (o (bit-laws .same-word w 0 64 h (omega arith) (λ k b. trailing-lowest 64 w .none-below k (omega arith) ∙ sym (no-bit k))))
 ]
 
 places-next : (w : ℕ) → w ≢ 0 → w < 2 ^ 64 → places w ≡ trailingZeros 64 w ∷ places (withoutBit w (trailingZeros 64 w))

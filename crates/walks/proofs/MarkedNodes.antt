@@ -5,7 +5,7 @@ use mathlib.Core.List.{List, List·Memᴰ, Memᴰ·of-map}
 use Prim.Native.Nat.{ℕ, zero, suc, _+_, _-_, _/_, _%_, _≤_, _<_, min}
 use native.Mathlib.Omega.{arith}
 use Rattle.memory.specs.Words.{Memory, reads, marked}
-use Rattle.memory.proofs.Laws.{bit-laws}
+use Rattle.memory.proofs.Laws.{no-bit}
 use Rattle.tree.specs.declared.layout.Geometry.{Geometry}
 use Rattle.tree.specs.Subtree.{Visit, nodesOf}
 use Rattle.tree.specs.Check.{walkable}
@@ -18,7 +18,7 @@ clear-word : (pool : List ℕ) (n j : ℕ) → n % 64 ≡ 0 → reads pool (n / 
 unfolding marked
 clear-word pool n j z w l =
     let q : (n + j) / 64 ≡ n / 64 = omega arith in
-    rw (q, w) (bit-laws .none-above 0 0 ((n + j) % 64) (omega arith) (omega arith))
+    rw (q, w) (no-bit ((n + j) % 64))
 
 -- what stays the same at a node that is not marked stays the same along such a word
 module _ {A : Type 0} (f : ℕ → A) (pool : List ℕ) (still : (k : ℕ) → used pool k ≡ false → f (suc k) ≡ f k) where

@@ -1,7 +1,7 @@
 -- How many frames the marked nodes hold: the count of a word's set bits, the loop, and the frames of a sound tree.
 use mathlib.Core.Path.{_≡_, refl, sym, _∙_, ap, ap₂}
 use mathlib.Core.Bool.{true, false, cond}
-use mathlib.Core.Logic.{inl, inr, _≢_}
+use mathlib.Core.Logic.{inl}
 use mathlib.Core.List.{List, [], _∷_, flatMap, List·Memᴰ, List·Memᴰ·head, List·Memᴰ·tail}
 use Prim.Native.Nat.{ℕ, zero, suc, _+_, _*_, _/_, _%_, _^_, _≤_, _<_, min}
 use native.Mathlib.Omega.{arith}
@@ -19,8 +19,7 @@ use Rattle.tree.specs.Lists.{range, upTo, keep, Distinct, onto}
 use Rattle.tree.specs.Subtree.{Visit, nodesOf, tree, heldPlaces, framesIn, listing}
 use Rattle.tree.specs.Check.{isSoundTree}
 use Rattle.tree.specs.Pool.{used, mark, markAll, clearMap, mapOf}
-use Rattle.tree.proofs.Cases.{test, true-not-false, not-false}
-use Rattle.tree.proofs.Pool.{pool-laws}
+use Rattle.tree.proofs.Pool.{pool-laws, mark-other}
 use Rattle.tree.proofs.Nodes.{wellFormed-facts}
 use Rattle.tree.proofs.Trees.{formed-at, walked-once}
 use Rattle.walks.specs.Marked.{heldBelow}
@@ -108,20 +107,14 @@ module _ (g : Geometry) (m : Memory) where
       ap₂ (λ (a : ℕ) b. a + cond b (length (framesIn g m k)) 0) (alike pool pool' k (λ i l. h i (omega arith))) (h k (omega arith))
 
   module _ (pool : List ℕ) (n : ℕ) (inside : n < 64 * length pool) (free : used pool n ≡ false) where
-    other : (k : ℕ) → k ≢ n → used (mark pool n) k ≡ used pool k
-    other k d = elim (test (used pool k)) [
-      | inl u ↦ pool-laws .marks pool n k inside .1 (inr u) ∙ sym u
-      | inr u ↦ not-false (λ v. elim (pool-laws .marks pool n k inside .0 v) [ inl q ↦ d q | inr t ↦ true-not-false t u ]) ∙ sym u
-    ]
-
     held-marked : (k : ℕ) → n < k → heldBelow g m (mark pool n) k ≡ heldBelow g m pool k + length (framesIn g m n)
     unfolding heldBelow
     held-marked zero l = absurd (omega arith)
     held-marked (suc k) l = elim (ℕ-discrete k n) [
       | yes q ↦
-          let same = alike (mark pool n) pool n (λ i b. other i (λ e. omega arith)) in
+          let same = alike (mark pool n) pool n (λ i b. mark-other pool n i (λ e. omega arith)) in
           rw (q, same, pool-laws .marks pool n n inside .1 (inl refl), free) (omega arith)
-      | no d ↦ rw (other k d, held-marked k (omega arith)) (omega arith)
+      | no d ↦ rw (mark-other pool n k d, held-marked k (omega arith)) (omega arith)
     ]
 
   held-marked-all : (pool : List ℕ) (vs : List Visit) → ((v : Visit) → List·Memᴰ v vs → (v .node < g .nodes) × (v .node < 64 * length pool) × (used pool (v .node) ≡ false))
@@ -133,7 +126,7 @@ module _ (g : Geometry) (m : Memory) where
       let t = h v (List·Memᴰ·head refl) in
       let rest = held-marked-all (mark pool (v .node)) vs (λ x y.
       let k = h x (List·Memᴰ·tail y) in
-      (k .0, rw (pool-laws .length-mark pool (v .node)) (k .1), other pool (v .node) (t .1) (t .2) (x .node) (a x y) ∙ k .2)) d in
+      (k .0, rw (pool-laws .length-mark pool (v .node)) (k .1), mark-other pool (v .node) (x .node) (a x y) ∙ k .2)) d in
       rest ∙ rw (held-marked pool (v .node) (t .1) (t .2) (g .nodes) (t .0), length-append) (omega arith)
 
   held-clear : (n k : ℕ) → heldBelow g m (clearMap n) k ≡ 0

@@ -1,27 +1,24 @@
 -- The nodes that one map marks, taken out of another: bits of the words, the loop, and the nodes freed.
 use mathlib.Core.Path.{_≡_, refl, sym, _∙_, ap}
-use mathlib.Core.Bool.{Bool, true, not, _&&_}
-use mathlib.Core.Logic.{inl, inr}
+use mathlib.Core.Bool.{not, _&&_}
 use mathlib.Core.List.{List, [], _∷_, List·Memᴰ}
 use Prim.Native.Nat.{ℕ, zero, suc, _+_, _-_, _*_, _/_, _%_, _^_, _≤_, _<_, min}
 use native.Mathlib.Omega.{arith}
 use native.Mathlib.Decide.{ℕ-discrete}
-use native.Mathlib.Numerals.{one-add}
-use native.Mathlib.Nat.{div-one, pow-suc}
+use native.Mathlib.Nat.{pow-suc}
 use lib.ListN.{length, set, length-set}
 use lib.Seq.{getD-set-same, getD-set-other, ext-getD}
-use lib.Pow.{shr-shr}
 use lib.Bits.{bitAnd, and-step, and-zero-l, and-le-l}
 use lib.Dec.{eqb}
 use borrow.Author.Tests.{not-true}
 use Rattle.memory.specs.Words.{reads, isSet, bit, field, marked}
 use Rattle.memory.specs.Laws.{Fit}
+use Rattle.memory.proofs.Laws.{bit-zero, bit-suc}
 use Rattle.tree.specs.declared.layout.Geometry.{Geometry}
 use Rattle.tree.specs.Layout.{mapWords}
 use Rattle.tree.specs.Pool.{used, unmarkAll, mapOf}
-use Rattle.tree.proofs.Cases.{test, true-not-false, not-false, and-true, true-and}
+use Rattle.tree.proofs.Cases.{true-not-false, not-false, same-test, and-true, true-and}
 use Rattle.tree.proofs.Pool.{pool-laws}
-use Rattle.walks.proofs.ListTests.{same-test}
 use Rattle.walks.specs.Marked.{withoutMarked}
 
 -- ---- words
@@ -30,17 +27,9 @@ use Rattle.walks.specs.Marked.{withoutMarked}
 abbrev pub without : ℕ → ℕ → ℕ
 without w b = bitAnd w (2 ^ 64 - 1 - b)
 
-bit-zero : (n : ℕ) → bit n 0 ≡ n % 2
-unfolding bit field
-bit-zero n = ap (λ (x : ℕ). x % 2) (div-one n)
-
 bit-lt : (w k : ℕ) → bit w k < 2
 unfolding bit field
 bit-lt w k = omega arith
-
-bit-suc : (n k : ℕ) → bit n (suc k) ≡ bit (n / 2) k
-unfolding bit field
-bit-suc n k = ap (λ (x : ℕ). x % 2) (ap (λ (j : ℕ). n / 2 ^ j) (sym (one-add k)) ∙ sym (shr-shr n 1 k))
 
 -- the lowest digit of a mask, and those above it
 and-odd : (x y p q : ℕ) → x ≡ y * 2 + min p q → p < 2 → (x % 2 ≡ min p q) × (x / 2 ≡ y)

@@ -22,6 +22,7 @@ use Rattle.tree.specs.Slots.{rootOf}
 use Rattle.tree.specs.Fingerprint.{editionOne}
 use Rattle.tree.specs.Lookup.{spot, before, path, pathFrom, firstSpot, clearAt, clearSpot, foundAt, lookup, lookupOn, find}
 use Rattle.tree.proofs.Cases.{test}
+use Rattle.tree.proofs.Nodes.{children-inside}
 use Rattle.tree.proofs.Laws.{child-laws, node-laws}
 use Rattle.walks.specs.declared.descent.Step.{Step}
 use Rattle.walks.specs.declared.descent.Step.the-variants.{End, Down}
@@ -36,17 +37,10 @@ module _ (g : Geometry) (m : Memory) (d n : ℕ) (h : wellFormed g m d n ≡ tru
   pub node-inside : n < g .nodes
   node-inside = node-laws g m .facts d n .0 h .inside
 
-  pub size-most : m (sizeAt g n) ≤ 64
-  size-most = elim (node-laws g m .facts d n .0 h .size) [
-    | inl q ↦ omega arith
-    | inr t ↦ elim (t .1) [ inl q ↦ omega arith | inr q ↦ omega arith ]
-  ]
-
   pub child-inside : (f : ℕ) → (m (nextAt g n) ≡ 0 → ⊥) → (d < 31) × (childOf g m n (child d f) < g .nodes)
-  child-inside f z = elim (node-laws g m .facts d n .0 h .next) [
-    | inl q ↦ absurd (z q)
-    | inr t ↦ (t .1 .0, omega (arith, child-laws .below d f (t .1 .0), t .1 .1))
-  ]
+  child-inside f z =
+      let t = children-inside (node-laws g m .facts d n .0 h) z in
+      (t .0, omega (arith, child-laws .below d f (t .0), t .1))
 
 -- a path's nodes from a node on, by the step from it
 abbrev follow : ℕ → Step → (ℕ → Option (List ℕ)) → Option (List ℕ)

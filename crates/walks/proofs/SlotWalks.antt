@@ -6,45 +6,32 @@ use mathlib.Core.Logic.{inl, inr}
 use mathlib.Core.Option.{none}
 use mathlib.Core.List.{List, [], _∷_, map, map-map, flatMap, List·Memᴰ, Memᴰ·of-map}
 use Prim.Native.Nat.{ℕ, _<_}
-use native.Mathlib.Omega.{arith}
 use lib.ListN.{length}
 use lib.Dec.{eqb}
 use borrow.Author.Tests.{eqb-true, eq-eqb}
 use Rattle.memory.specs.Words.{Memory, reads}
-use Rattle.tree.specs.Lists.{upTo, keep, every, distinct, Distinct}
+use Rattle.tree.specs.Lists.{upTo, keep, every, distinct}
 use Rattle.tree.specs.declared.layout.Geometry.{Geometry}
 use Rattle.tree.specs.Layout.{mapWords, reelAt}
-use Rattle.tree.specs.Path.{levels}
 use Rattle.tree.specs.Fingerprint.{editionOne}
 use Rattle.tree.specs.Node.{wellFormed}
-use Rattle.tree.specs.Slots.{filled, rootOf, filledSlots, slotOf}
+use Rattle.tree.specs.Slots.{filled, filledSlots, slotOf}
 use Rattle.tree.specs.Subtree.{Visit, nodesOf, tree, allTrees}
 use Rattle.tree.specs.Check.{walkable, isSoundTree, inPlace, isSound}
 use Rattle.tree.specs.Pool.{clearMap, mapOf}
-use Rattle.tree.proofs.Cases.{test, and-true}
-use Rattle.tree.proofs.Lists.{flatMap-cong, every-at, at-every}
-use Rattle.tree.proofs.Distinct.{distinct-says, distinct-said, same-element, distinct-by}
+use Rattle.tree.proofs.Cases.{test, same-test, and-true}
+use Rattle.tree.proofs.Lists.{flatMap-cong, map-flatMap, every-at, at-every, every-cong, every-and, every-flatMap, every-map}
+use Rattle.tree.proofs.Distinct.{distinct-says, distinct-said, same-element, distinct-by, made-distinct}
+use Rattle.tree.proofs.Slots.{own-slot}
 use Rattle.tree.proofs.Laws.{node-laws, slot-laws}
 use Rattle.walks.specs.declared.visit.Check.the-variants.{Nodes, Frames}
-use Rattle.walks.specs.Walk.{Stop, stop, stops, formedAt, passes, walked, kept, walkedSlot, walkedSlots}
-use Rattle.walks.proofs.ListTests.{same-test, every-cong, every-and, every-flatMap, every-map, distinct-tests, map-flatMap}
-use Rattle.walks.proofs.Stops.{stops-subtree}
+use Rattle.walks.specs.Walk.{Stop, formedAt, passes, walked, kept, walkedSlot, walkedSlots}
+use Rattle.walks.proofs.Stops.{stopOf, slotStops, slot-stops}
 use Rattle.walks.proofs.Walked.{met, walked-tests, walked-append, walked-then, met-clear}
-
-abbrev stopOf : Visit → Stop
-stopOf v = stop (length (v .way)) (v .node)
 
 module _ (g : Geometry) (m : Memory) where
   abbrev isFormed : Visit → Bool
   isFormed v = wellFormed g m (length (v .way)) (v .node)
-
-  -- the stops of a slot's walk
-  abbrev slotStops : ℕ → List Stop
-  slotStops s = stops g m levels 0 (rootOf m s)
-
-  slot-stops : (s : ℕ) → slotStops s ≡ map stopOf (tree g m s)
-  unfolding tree
-  slot-stops s = sym (stops-subtree g m levels [] (rootOf m s))
 
   -- a walk over well-formed nodes from a clear map on
   met-formed : (vs : List Visit) → every isFormed vs ≡ true
@@ -52,7 +39,7 @@ module _ (g : Geometry) (m : Memory) where
   unfolding nodesOf
   met-formed vs h =
       met-clear g (map stopOf vs) inside
-      ∙ ap₂ (λ d ns. kept d (mapOf g ns)) (distinct-tests (λ x. x .node) stopOf vs) (map-map (λ x. x .node) stopOf vs)
+      ∙ ap₂ (λ d ns. kept d (mapOf g ns)) (made-distinct (λ x. x .node) stopOf vs) (map-map (λ x. x .node) stopOf vs)
     where
       inside : (x : Stop) → List·Memᴰ x (map stopOf vs) → x .node < g .nodes
       inside x z =
@@ -74,7 +61,7 @@ module _ (g : Geometry) (m : Memory) where
   walked-slot : (s : ℕ) → walkedSlot g m Nodes s (clearMap (mapWords g)) ≡ kept (isSoundTree g m s) (mapOf g (nodesOf (tree g m s)))
   unfolding walkedSlot isSoundTree walkable
   walked-slot s =
-      rw (slot-stops s, walked-tests (passes g m Nodes s) (map stopOf (tree g m s)) (clearMap (mapWords g)), nodes-pass s)
+      rw (slot-stops g m s, walked-tests (passes g m Nodes s) (map stopOf (tree g m s)) (clearMap (mapWords g)), nodes-pass s)
       (walk-tested (every isFormed (tree g m s)) (tree g m s) (λ e. e))
 
   -- ---- all slots
@@ -87,38 +74,34 @@ module _ (g : Geometry) (m : Memory) where
   own-slots = same-test (
     λ h. distinct-said _ (distinct-by _ (slot-laws g m .listed-once) (λ s s' x y q.
         sym (eqb-true _ s (every-at isOwn h x)) ∙ ap (slotOf g m) q ∙ eqb-true _ s' (every-at isOwn h y))),
-    λ h. at-every isOwn (filledSlots g m) (λ s x. eq-eqb _ s (lowest s x (distinct-says _ (filledSlots g m) h))),
+    λ h. at-every isOwn (filledSlots g m) (λ s x.
+        let l = slot-laws g m in
+        let d = distinct-says (λ s. m (reelAt s)) (filledSlots g m) h in
+        eq-eqb _ s (own-slot (λ s' b q. same-element d (l .listed .1 b) x q) (l .listed .0 x))),
   )
-    where
-      lowest : (s : ℕ) → List·Memᴰ s (filledSlots g m) → Distinct (λ s. m (reelAt s)) (filledSlots g m) → slotOf g m (m (reelAt s)) ≡ s
-      lowest s x d =
-          let l = slot-laws g m in
-          let b = l .listed .0 x in
-          let t = l .reel (m (reelAt s)) (omega (arith, l .lowest b, b .inside)) in
-          same-element d (l .listed .1 (t .0)) x (t .1)
 
   -- a filled slot is its reel's, and its tree's nodes pass
   abbrev slotPasses : ℕ → Bool
-  slotPasses s = isOwn s && every (passes g m Frames s) (slotStops s)
+  slotPasses s = isOwn s && every (passes g m Frames s) (slotStops g m s)
 
   walked-slots : (ss pool : List ℕ)
-      → walkedSlots g m ss pool ≡ cond (every slotPasses (keep (filled m) ss)) (met (flatMap slotStops (keep (filled m) ss)) pool) none
+      → walkedSlots g m ss pool ≡ cond (every slotPasses (keep (filled m) ss)) (met (flatMap (slotStops g m) (keep (filled m) ss)) pool) none
   unfolding walkedSlots walkedSlot keep every flatMap walked
   walked-slots [] pool = refl
   walked-slots (s ∷ ss) pool = elim (test (filled m s)) [
     | inl e ↦
         let rest = keep (filled m) ss in
         let good = passes g m Frames s in
-        let here = slotStops s in
-        rw (e, walked-tests good here pool, walked-append (λ x. true) here (flatMap slotStops rest) pool)
-        (walked-then (isOwn s) (every good here) (every slotPasses rest) (met here pool) (walkedSlots g m ss) (met (flatMap slotStops rest)) (walked-slots ss))
+        let here = slotStops g m s in
+        rw (e, walked-tests good here pool, walked-append (λ x. true) here (flatMap (slotStops g m) rest) pool)
+        (walked-then (isOwn s) (every good here) (every slotPasses rest) (met here pool) (walkedSlots g m ss) (met (flatMap (slotStops g m) rest)) (walked-slots ss))
     | inr e ↦ rw e (walked-slots ss pool)
   ]
 
   -- what is asked of all slots, clause by clause
-  frames-pass : (s : ℕ) → every (passes g m Frames s) (slotStops s) ≡ every isFormed (tree g m s) && every (inPlace editionOne g m s) (tree g m s)
+  frames-pass : (s : ℕ) → every (passes g m Frames s) (slotStops g m s) ≡ every isFormed (tree g m s) && every (inPlace editionOne g m s) (tree g m s)
   unfolding passes formedAt inPlace
-  frames-pass s = rw (slot-stops s) (every-map (passes g m Frames s) stopOf (tree g m s) ∙ every-and isFormed (inPlace editionOne g m s) (tree g m s))
+  frames-pass s = rw (slot-stops g m s) (every-map (passes g m Frames s) stopOf (tree g m s) ∙ every-and isFormed (inPlace editionOne g m s) (tree g m s))
 
   slots-pass : every slotPasses (filledSlots g m)
       ≡ distinct (λ s. m (reelAt s)) (filledSlots g m)
@@ -130,9 +113,9 @@ module _ (g : Geometry) (m : Memory) where
       every-and isOwn _ fs
       ∙ ap₂ _&&_ own-slots (every-cong _ _ fs frames-pass ∙ every-and _ placed fs ∙ ap (λ t. t && every placed fs) (sym (every-flatMap isFormed (tree g m) fs)))
 
-  all-stops : flatMap slotStops (filledSlots g m) ≡ map stopOf (allTrees g m)
+  all-stops : flatMap (slotStops g m) (filledSlots g m) ≡ map stopOf (allTrees g m)
   unfolding allTrees
-  all-stops = flatMap-cong slotStops _ (filledSlots g m) (λ s x. slot-stops s) ∙ sym (map-flatMap stopOf (tree g m) (filledSlots g m))
+  all-stops = flatMap-cong (slotStops g m) _ (filledSlots g m) (λ s x. slot-stops g m s) ∙ sym (map-flatMap stopOf (tree g m) (filledSlots g m))
 
   walked-filled : (pool : List ℕ)
       → walkedSlots g m (upTo (g .slots)) pool ≡ cond (every slotPasses (filledSlots g m)) (met (map stopOf (allTrees g m)) pool) none

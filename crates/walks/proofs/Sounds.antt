@@ -2,10 +2,9 @@
 use mathlib.Core.Path.{_≡_, refl, sym, _∙_, ap}
 use mathlib.Core.Bool.{Bool, true, false, cond, not}
 use mathlib.Core.Option.{none, some}
-use mathlib.Core.List.{List, [], _∷_}
-use Prim.Native.Nat.{ℕ, zero, suc, _+_, _-_, _≤_, _<_}
+use mathlib.Core.List.{List}
+use Prim.Native.Nat.{ℕ, _+_, _-_, _≤_, _<_}
 use native.Mathlib.Omega.{arith}
-use native.Mathlib.Numerals.{add-one}
 use borrow.Author.Tests.{eq-eqb, ne-eqb, lt-ltb, le-ltb, not-true, not-false}
 use lib.ListN.{length}
 use Rattle.memory.specs.Words.{Memory, reads}
@@ -14,7 +13,7 @@ use Rattle.memory.specs.Crash.{apply}
 use Rattle.memory.specs.Laws.{Fit}
 use Rattle.tree.specs.declared.layout.Geometry.{Geometry}
 use Rattle.tree.specs.Lists.{range, upTo}
-use Rattle.tree.specs.Layout.{mapWords, Sized, reelAt, rootAt}
+use Rattle.tree.specs.Layout.{mapWords, Sized, reelAt}
 use Rattle.tree.specs.Fingerprint.{editionOne}
 use Rattle.tree.specs.Slots.{filled, Filled, slotOf}
 use Rattle.tree.specs.Subtree.{tree, allTrees, nodesOf, listing, listed}
@@ -22,7 +21,9 @@ use Rattle.tree.specs.Check.{isSoundTree, isSound}
 use Rattle.tree.specs.Recovery.{recoverStores}
 use Rattle.tree.specs.Pool.{unmarkAll, clearMap, mapOf}
 use Rattle.tree.proofs.Cases.{some-inj, none-some}
-use Rattle.walks.specs.declared.visit.Check.the-variants.{Frames}
+use Rattle.tree.proofs.Lists.{range-next}
+use Rattle.tree.proofs.Slots.{filled-test}
+use Rattle.walks.specs.declared.visit.Check.the-variants.{Nodes, Frames}
 use Rattle.walks.specs.declared.trees.Listing.the-variants as listing-answer
 use Rattle.walks.specs.Answers.{listingFrom, listAfter}
 use Rattle.walks.specs.Walk.{kept, walkedSlot, walkedSlots}
@@ -31,7 +32,7 @@ use Rattle.walks.proofs.MarkedNodes.{nodes-inside}
 use Rattle.walks.proofs.MarkedNodesCount.{count-law}
 use Rattle.walks.proofs.MarkedNodesFree.{free-law}
 use Rattle.walks.proofs.MarkedNodesMend.{mend-law}
-use Rattle.walks.proofs.SlotWalks.{slots-law}
+use Rattle.walks.proofs.SlotWalks.{slot-law, slots-law}
 
 -- ---- two walks that leave the same: both went through, with one map, or neither did
 
@@ -51,6 +52,11 @@ pub cleared : (n k : ℕ) (pool : List ℕ) → pool ≡ clearMap n → n ≡ k 
 cleared n k pool e q = e ∙ ap clearMap q
 
 -- ---- a tree that was checked
+
+-- its slot is walked from a clear map on
+pub whole-tree : (g : Geometry) (image : List ℕ) (s : ℕ) (pool : List ℕ) → pool ≡ clearMap (mapWords g) → (r : Bool) (marks : List ℕ)
+    → kept r marks ≡ walkedSlot g (reads image) Nodes s pool → kept r marks ≡ kept (isSoundTree g (reads image) s) (mapOf g (nodesOf (tree g (reads image) s)))
+whole-tree g image s pool is r marks h = h ∙ ap (walkedSlot g (reads image) Nodes s) is ∙ slot-law g image s
 
 module _ (g : Geometry) (m : Memory) (s : ℕ) (r : Bool) (marks : List ℕ)
     (h : kept r marks ≡ kept (isSoundTree g m s) (mapOf g (nodesOf (tree g m s)))) where
@@ -103,45 +109,30 @@ pub all-slots : (k : ℕ) → upTo k ≡ slotsFrom k 0
 unfolding upTo
 all-slots k = ap (range 0) (omega arith)
 
-next-slot : (k s : ℕ) → s < k → slotsFrom k s ≡ s ∷ slotsFrom k (s + 1)
-unfolding range
-next-slot k s h = go (k - s) refl
-  where
-    go : (left : ℕ) → k - s ≡ left → range s left ≡ s ∷ slotsFrom k (s + 1)
-    go zero e = absurd (omega arith)
-    go (suc left) e = let less : k - (s + 1) ≡ left = omega arith in rw (less, add-one s) refl
-
 module _ (g : Geometry) (m : Memory) (k s : ℕ) (low : s < k) (pool : List ℕ) (here : Bool) (is : here ≡ filled m s) where
   pub slot-filled : k ≡ g .slots → not here ≡ false → Filled g m s
-  unfolding filled
-  slot-filled e h = record { inside = omega arith; linked = pos (λ z. clash (sym (not-false here h) ∙ is ∙ rw (eq-eqb (m (rootAt s)) 0 z) refl)) }
-    where
-      pos : {n : ℕ} → (n ≡ 0 → ⊥) → 0 < n
-      pos z = omega arith
-
-      clash : true ≡ false → ⊥
-      clash q = let z : _≡_ {A = ℕ} 0 1 = cc in omega arith
+  slot-filled e h = record { inside = omega arith; linked = filled-test m s .0 (sym is ∙ not-false here h) }
 
   -- an empty slot is passed over
   pub slot-empty : not here ≡ true → walkedSlots g m (slotsFrom k s) pool ≡ walkedSlots g m (slotsFrom k (s + 1)) pool
   unfolding walkedSlots
-  slot-empty e = rw (next-slot k s low, ← is, not-true here e) refl
+  slot-empty e = rw (range-next s k low, ← is, not-true here e) refl
 
   module _ (full : not here ≡ false) (lowest : ℕ) (of : lowest ≡ slotOf g m (m (reelAt s))) where
     -- one that is not its reel's ends the walk
     pub slot-doubled : (lowest ≡ s → ⊥) → none ≡ walkedSlots g m (slotsFrom k s) pool
     unfolding walkedSlots
-    slot-doubled d = rw (next-slot k s low, ← is, not-false here full, ← of, ne-eqb lowest s d) refl
+    slot-doubled d = rw (range-next s k low, ← is, not-false here full, ← of, ne-eqb lowest s d) refl
 
     module _ (own : lowest ≡ s) (r : Bool) (pool' : List ℕ) (walk : kept r pool' ≡ walkedSlot g m Frames s pool) where
       -- so does one whose tree does not pass
       pub slot-fails : not r ≡ true → none ≡ walkedSlots g m (slotsFrom k s) pool
       unfolding walkedSlots
-      slot-fails e = rw (next-slot k s low, ← is, not-false here full, ← of, eq-eqb lowest s own, ← walk, not-true r e) refl
+      slot-fails e = rw (range-next s k low, ← is, not-false here full, ← of, eq-eqb lowest s own, ← walk, not-true r e) refl
 
       pub slot-walked : not r ≡ false → walkedSlots g m (slotsFrom k s) pool ≡ walkedSlots g m (slotsFrom k (s + 1)) pool'
       unfolding walkedSlots
-      slot-walked e = rw (next-slot k s low, ← is, not-false here full, ← of, eq-eqb lowest s own, ← walk, not-false r e) refl
+      slot-walked e = rw (range-next s k low, ← is, not-false here full, ← of, eq-eqb lowest s own, ← walk, not-false r e) refl
 
 pub slots-end : (g : Geometry) (m : Memory) (k s : ℕ) (pool : List ℕ) → k ≤ s → some pool ≡ walkedSlots g m (slotsFrom k s) pool
 unfolding walkedSlots range

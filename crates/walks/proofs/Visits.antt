@@ -1,11 +1,10 @@
 -- What the walk over a tree's nodes asks: the definition's cases, one law for each way through the code.
 use mathlib.Core.Path.{_≡_, refl, sym, _∙_}
-use mathlib.Core.Bool.{Bool, true, false, not, _&&_}
-use mathlib.Core.Logic.{inl, inr}
+use mathlib.Core.Bool.{Bool, true, false, not}
 use mathlib.Core.Option.{Option, none, some}
-use mathlib.Core.List.{List, [], _∷_, _++_}
-use Prim.Native.Nat.{ℕ, suc, _+_, _-_, _≤_, _<_}
-use borrow.Author.Tests.{eq-eqb, ne-eqb, not-true, not-false}
+use mathlib.Core.List.{List}
+use Prim.Native.Nat.{ℕ, suc, _+_, _-_, _≤_}
+use borrow.Author.Tests.{not-true, not-false}
 use Rattle.memory.specs.Words.{Memory}
 use Rattle.tree.specs.declared.layout.Geometry.{Geometry}
 use Rattle.tree.specs.Layout.{nextAt}
@@ -19,17 +18,13 @@ use Rattle.tree.proofs.Cases.{and-true}
 use Rattle.walks.specs.Walk.{Stop, stop, stops, groupStops, formedAt, framesPass, passes, walked, kept, thenWalk}
 use Rattle.walks.specs.declared.visit.Check.{Check}
 use Rattle.walks.proofs.Walked.{walked-append}
-use Rattle.walks.proofs.VisitsStops.{group-empty, group-first, node-first}
+use Rattle.walks.proofs.Stops.{group-empty, group-first, node-first, leaf, linked}
 
 -- ---- the test of a node
 
 module _ (g : Geometry) (m : Memory) (d n : ℕ) where
   pub formed-facts : (r : Bool) → r ≡ wellFormed g m d n → not r ≡ false → WellFormed g m d n
   formed-facts r q e = node-laws g m .facts d n .0 (sym q ∙ not-false r e)
-
-  -- a node with children is above level 31, and all of them are inside the pool
-  pub children-inside : WellFormed g m d n → (m (nextAt g n) ≡ 0 → ⊥) → (d < 31) × (m (nextAt g n) - 1 + fanout d ≤ g .nodes)
-  children-inside w z = elim (w .next) [ inl q ↦ absurd (z q) | inr t ↦ (t .1 .0, t .1 .1) ]
 
   module _ (s : ℕ) (c : Check) (r : Bool) where
     pub not-formed : r ≡ wellFormed g m d n → not r ≡ true → false ≡ passes g m c s (stop d n)
@@ -82,10 +77,8 @@ module _ (good : Stop → Bool) where
           marked = rw (now, node-first g m left d n h, ← tested, not-false r e, ← there, u) refl
 
           pub node-leaf : m (nextAt g n) ≡ 0 → some pool' ≡ walked good (stops g m left d n) pool
-          unfolding children
-          node-leaf z = rw (← marked, eq-eqb (m (nextAt g n)) 0 z) (group-none (left - 1) (suc d) (m (nextAt g n) - 1) 0 pool' refl)
+          node-leaf z = rw (← marked, leaf g m d n z) (group-none (left - 1) (suc d) (m (nextAt g n) - 1) 0 pool' refl)
 
           pub node-below : (d' count : ℕ) (o : Option (List ℕ)) → d' ≡ suc d → count ≡ fanout d → (m (nextAt g n) ≡ 0 → ⊥)
               → o ≡ walked good (groupStops g m (left - 1) d' (m (nextAt g n) - 1) count) pool' → o ≡ walked good (stops g m left d n) pool
-          unfolding children
-          node-below d' count o q k z below = rw (← marked, ne-eqb (m (nextAt g n)) 0 z, ← q, ← k) below
+          node-below d' count o q k z below = rw (← marked, linked g m d n z, ← q, ← k) below

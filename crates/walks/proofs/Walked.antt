@@ -12,11 +12,10 @@ use Rattle.tree.specs.Lists.{every, hasKey, distinct}
 use Rattle.tree.specs.declared.layout.Geometry.{Geometry}
 use Rattle.tree.specs.Layout.{mapWords}
 use Rattle.tree.specs.Pool.{used, mark, markAll, clearMap, mapOf}
-use Rattle.tree.proofs.Cases.{test, or-true, or-left, or-right}
+use Rattle.tree.proofs.Cases.{test, same-test, and-swap, or-true, or-left, or-right}
 use Rattle.tree.proofs.Lists.{at-every}
 use Rattle.tree.proofs.Laws.{pool-laws}
 use Rattle.walks.specs.Walk.{Stop, walked, kept, thenWalk}
-use Rattle.walks.proofs.ListTests.{same-test, and-swap}
 
 -- ---- tests of a walk
 

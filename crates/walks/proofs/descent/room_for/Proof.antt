@@ -8,9 +8,10 @@ use Rattle.memory.specs.Words.{reads as readsWords}
 use Rattle.tree.specs.Fingerprint.{editionOne}
 use Rattle.tree.specs.Node.{wellFormed}
 use Rattle.tree.specs.Lookup.{lookup, clearSpot}
+use Rattle.tree.proofs.Nodes.{wellFormed-facts, size-most}
 use Rattle.walks.specs.Answers.{foundAs}
 use Rattle.walks.specs.Descent.{Along}
-use Rattle.walks.proofs.PathSteps.{node-inside, size-most, along-root, along-malformed, along-end, along-down, lookups, clears, found-more, found-none}
+use Rattle.walks.proofs.PathSteps.{node-inside, along-root, along-malformed, along-end, along-down, lookups, clears, found-more, found-none}
 use Rattle.walks.proofs.RoomSteps.{placement-malformed, placement-end}
 use Rattle.walks.proofs.descent.room_for.Statement.{statement}
 use Rattle.walks.proofs.descent.room_for.Tie as tie
@@ -75,7 +76,7 @@ room-for-spec =
     (λ c κs. search needs)
     returns
     (λ c κs. let h = node-inside _ _ _ _ (formed c) in search needs)
-    (λ c κs. let h = node-inside _ _ _ _ (formed (c .before)) in let k = size-most _ _ _ _ (formed (c .before)) in search needs)
+    (λ c κs. let w = wellFormed-facts _ _ _ _ .0 (formed (c .before)) in let k = size-most w in search needs)
     (λ c κs. let h = formed (c .before .before) in search needs)
     (λ c. search needs)
     (λ c κs. let h = node-inside _ _ _ _ (formed (c .before .before .before .before .before)) in search needs)

@@ -47,27 +47,17 @@ list-group-Inv-loop image list₀ g left start count written₀ c₀ list writte
 abbrev list-group-μ-loop : list-group-lts.MeasureT-loop
 list-group-μ-loop image list₀ g left start count written₀ c₀ list written c = count - c
 
+-- what the calls in a node's listing ask and tell
+abbrev list-node-claims : ℕ → list-node-lts.Claims
+list-node-claims t = (list-places-reads.Asked, list-places-reads.Learnt, fanout-reads.Asked, fanout-reads.Learnt, list-group-below t, list-group.Post)
+
 -- the node is well formed
-facts : (t : ℕ) (c : list-node-lts.Start (
-  list-places-reads.Asked,
-  list-places-reads.Learnt,
-  fanout-reads.Asked,
-  fanout-reads.Learnt,
-  list-group-below t,
-  list-group.Post,
-) (list-node-at t) list-node.Post)
+facts : (t : ℕ) (c : list-node-lts.Start (list-node-claims t) (list-node-at t) list-node.Post)
     → WellFormed (c .args .g) (reads (c .args .image .now)) (levels - c .args .left) (c .args .n)
 facts t c = node-facts _ _ _ _ (c .pre .1 .1) (c .pre .1 .2) (c .pre .1 .3)
 
 -- its own frames are written, and those below are left
-written : (t : ℕ) (c : list-node-lts.Else1 (
-  list-places-reads.Asked,
-  list-places-reads.Learnt,
-  fanout-reads.Asked,
-  fanout-reads.Learnt,
-  list-group-below t,
-  list-group.Post,
-) (list-node-at t) list-node.Post)
+written : (t : ℕ) (c : list-node-lts.Else1 (list-node-claims t) (list-node-at t) list-node.Post)
     → let a = c .before .before .before .before .before .before .before .before .before .args in
     let call = c .before .before .before .before .before .list-places in
     let m = reads (a .image .now) in
@@ -102,14 +92,8 @@ pub +list-group+list-node-spec : {M : Type 1} → statement M
     group-more _ _ _ _ _ _ (c .before .before .before .before .before .before .before .before .pre .1 .5) _ _ (c .before .before .before .before .loop-test .taken) (c .before .before .before .before .before .loop .inv) (call .ensures .0) (call .ensures .1))
     (λ c. search needs)
     (λ c. group-ends _ _ _ _ _ _ (c .loop-test .left) (c .before .loop .inv)))
-    λ t. list-node-lts.spec (
-      list-places-reads.Asked,
-      list-places-reads.Learnt,
-      fanout-reads.Asked,
-      fanout-reads.Learnt,
-      list-group-below t,
-      list-group.Post,
-    )
+    λ t. list-node-lts.spec
+    (list-node-claims t)
     (list-node-at t)
     list-node.Post
     (λ c κs. let a = c .before .before .before .args in

@@ -5,8 +5,10 @@ use native.Mathlib.Omega.{arith}
 use lib.ListN.{length}
 use Rattle.memory.specs.Words.{reads}
 use Rattle.tree.specs.Path.{levels}
+use Rattle.tree.specs.Laws.{WellFormed}
+use Rattle.tree.proofs.Nodes.{children-inside}
 use Rattle.walks.specs.Walk.{groupStops, passes, walked}
-use Rattle.walks.proofs.Visits.{children-inside, passes-facts, group-none, group-stop, group-more, node-fails, node-met, node-leaf, node-below}
+use Rattle.walks.proofs.Visits.{passes-facts, group-none, group-stop, group-more, node-fails, node-met, node-leaf, node-below}
 use borrow.Fn.Kinds.{In}
 use borrow.Fn.PlainCycle.{Measures, is, falls, and}
 use Rattle.walks.proofs.visit.visit_group.Reads as visit-group
@@ -51,6 +53,27 @@ visit-group-Inv-loop image pool₀ g slot check left start count c₀ pool c = (
 abbrev visit-group-μ-loop : visit-group-lts.MeasureT-loop
 visit-group-μ-loop image pool₀ g slot check left start count c₀ pool c = count - c
 
+-- what the calls in a node's visit ask and tell
+abbrev visit-node-claims : ℕ → visit-node-lts.Claims
+visit-node-claims t = (
+  node-passes-reads.Asked,
+  node-passes-reads.Learnt,
+  is-used-reads.Asked,
+  is-used-reads.Learnt,
+  mark-reads.Asked,
+  mark-reads.Learnt,
+  fanout-reads.Asked,
+  fanout-reads.Learnt,
+  visit-group-below t,
+  visit-group.Post,
+)
+
+-- past the first test the node is well formed
+facts : (t : ℕ) (c : visit-node-lts.Else1 (visit-node-claims t) (visit-node-at t) visit-node.Post) →
+    let a = c .before .before .before .before .args in
+    WellFormed (a .g) (reads (a .image .now)) (levels - a .left) (a .n)
+facts t c = passes-facts _ _ _ _ _ _ _ (c .before .node-passes .ensures) (c .if1 .left)
+
 pub +visit-group+visit-node-spec : {M : Type 1} → statement M
 +visit-group+visit-node-spec = close μ-visit-group μ-visit-node (λ t. visit-group-lts.spec (
   visit-node-below t,
@@ -81,45 +104,23 @@ pub +visit-group+visit-node-spec : {M : Type 1} → statement M
     (search needs, search needs, rw (e, f) (l .inv .2 ∙ more)))
     (λ c. search needs)
     (λ c. group-none _ _ _ _ _ _ (c .before .before .before .before .args .count - c .before .loop .c) _ (omega arith) ∙ sym (c .before .loop .inv .2)))
-    λ t. visit-node-lts.spec (
-      node-passes-reads.Asked,
-      node-passes-reads.Learnt,
-      is-used-reads.Asked,
-      is-used-reads.Learnt,
-      mark-reads.Asked,
-      mark-reads.Learnt,
-      fanout-reads.Asked,
-      fanout-reads.Learnt,
-      visit-group-below t,
-      visit-group.Post,
-    )
+    λ t. visit-node-lts.spec
+    (visit-node-claims t)
     (visit-node-at t)
     visit-node.Post
     (λ c. search needs)
     (λ c κs. search needs)
     (λ c. node-fails _ _ _ _ _ _ _ (search needs) _ (c .before .node-passes .ensures) (c .if1 .taken))
-    (λ c κs. let passed = c .before in
-    let w = passes-facts _ _ _ _ _ _ _ (passed .before .node-passes .ensures) (passed .if1 .left) in
-    search needs)
+    (λ c κs. let w = facts t (c .before) in search needs)
     (λ c. search needs)
     (λ c. node-met _ _ _ _ _ _ _ (search needs) _ (c .before .before .before .before .node-passes .ensures) (c .before .before .before .if1 .left) _ (c .before .is-used .ensures) (c .if2 .taken))
-    (λ c κs. let passed = c .before .before .before .before in
-    let w = passes-facts _ _ _ _ _ _ _ (passed .before .node-passes .ensures) (passed .if1 .left) in
-    search needs)
+    (λ c κs. let w = facts t (c .before .before .before .before) in search needs)
     (λ c. search needs)
     (λ c. search needs)
-    (λ c. let passed = c .before .before .before .before .before .before .before .before in
-    let w = passes-facts _ _ _ _ _ _ _ (passed .before .node-passes .ensures) (passed .if1 .left) in
-    search needs)
-    (λ c. let passed = c .before .before .before .before .before .before .before .before in
-    let w = passes-facts _ _ _ _ _ _ _ (passed .before .node-passes .ensures) (passed .if1 .left) in
-    search needs)
-    (λ c. let passed = c .before .before .before .before .before .before .before .before in
-    let w = passes-facts _ _ _ _ _ _ _ (passed .before .node-passes .ensures) (passed .if1 .left) in
-    search needs)
-    (λ c. let passed = c .before .before .before .before .before .before .before .before .before in
-    let w = passes-facts _ _ _ _ _ _ _ (passed .before .node-passes .ensures) (passed .if1 .left) in
-    search needs)
+    (λ c. let w = facts t (c .before .before .before .before .before .before .before .before) in search needs)
+    (λ c. let w = facts t (c .before .before .before .before .before .before .before .before) in search needs)
+    (λ c. let w = facts t (c .before .before .before .before .before .before .before .before) in search needs)
+    (λ c. let w = facts t (c .before .before .before .before .before .before .before .before .before) in search needs)
     (λ c. search needs)
     (λ c. let marks = c .before .before .before .before .before in
     let new = marks .before .before in
@@ -130,8 +131,7 @@ pub +visit-group+visit-node-spec : {M : Type 1} → statement M
     (λ c κs. search needs)
     (λ c κs. let linked = c .before .before in
     let passed = linked .before .before .before .before .before .before .before .before .before .before in
-    let w = passes-facts _ _ _ _ _ _ _ (passed .before .node-passes .ensures) (passed .if1 .left) in
-    let k = children-inside _ _ _ _ w (linked .if3 .left) in
+    let k = children-inside (facts t passed) (linked .if3 .left) in
     search needs)
     (λ c. search needs)
     (λ c. let linked = c .before .before .before .before .before in

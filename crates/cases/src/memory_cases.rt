@@ -65,6 +65,9 @@ pub fn searches() {
         b"lowest clear bit of 2^64-1 below 16, none:",
         search::lowest_clear(FULL, 16) as u64,
     );
+}
+
+pub fn bitmap_searches() {
     let bitmap = [FULL, 5];
     print::number(
         b"lowest clear bit of the bitmap 2^64-1, 5 below 128:",

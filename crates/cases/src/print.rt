@@ -21,6 +21,11 @@ pub fn words(label: &[u8], ws: &[u64]) {
     io::write_all(STDOUT_FILENO, b"\n");
 }
 
+// The words of the heads.
+pub fn heads(ws: &[u64; 10]) {
+    words(b"  heads:", ws);
+}
+
 // A label, the number of an answer and the words of an image, all on one line.
 pub fn outcome(label: &[u8], answer: u64, image: &[u64]) {
     io::write_all(STDOUT_FILENO, label);

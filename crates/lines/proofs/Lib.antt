@@ -5,4 +5,5 @@ mod Fields
 mod Collect
 mod Pieces
 mod Format
+mod Answers
 pub mod Laws

@@ -3,4 +3,5 @@ pub mod Line
 pub mod Reading
 pub mod Found
 pub mod Input
+pub mod Answer
 pub mod Laws

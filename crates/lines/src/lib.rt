@@ -1,5 +1,6 @@
-// The lines of the bench program: reading them, collecting them from pieces of input, and printing
-// numbers in decimal.
+// The lines of the bench program: reading them, collecting them from pieces of input, and writing
+// those that it prints.
+pub mod answer;
 pub mod decimal;
 mod field;
 pub mod input;

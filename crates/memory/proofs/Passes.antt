@@ -1,4 +1,4 @@
--- The two passes of carrying a script out, an entry at a time.
+-- The two passes of carrying a script out, and the count of its stores, an entry at a time.
 use mathlib.Core.Path.{_≡_, refl, ap, sym, _∙_}
 use mathlib.Core.Bool.{Bool, true, false, cond, _&&_}
 use mathlib.Core.Logic.{_≢_}
@@ -12,7 +12,7 @@ use lib.ListN.{length, getD, drop, set, length-set, drop-of-length-le}
 use lib.Seq.{drop-cons}
 use lib.Dec.{eqb, ltb}
 use borrow.Author.Tests.{eq-eqb, ne-eqb}
-use Rattle.memory.specs.Script.{Entry, store, barrier, barrierWord, entryOf, onto, decode}
+use Rattle.memory.specs.Script.{Entry, store, barrier, barrierWord, entryOf, onto, decode, storesIn}
 use Rattle.memory.specs.Crash.{apply}
 use Rattle.memory.specs.Apply.{isSome, outcome, applied, carryOut, isEntry, isScript, madeStores}
 use Rattle.memory.proofs.Cases.{clash}
@@ -147,7 +147,30 @@ made-last m ws at h = elim (decLt at (length ws)) [
   | no l ↦ ap (λ o. applied m o .image) (decode-end (length m) at ws (omega arith))
 ]
 
--- ---- both
+-- ---- the count
+
+count-step : (at : ℕ) (ws : List ℕ) → at + 1 < length ws
+    → let rest = storesIn (drop (at + 2) ws) in
+    storesIn (drop at ws) ≡ cond (eqb (getD ws at 0) barrierWord) rest (1 + rest)
+unfolding storesIn
+count-step at ws h =
+    let two : at + 2 ≡ suc (suc at) = omega arith in
+    rw (two, drop-cons ws at 0 (omega arith), drop-cons ws (suc at) 0 (omega arith)) refl
+
+pub count-store : (at : ℕ) (ws : List ℕ) → at + 1 < length ws → getD ws at 0 ≢ barrierWord → storesIn (drop at ws) ≡ 1 + storesIn (drop (at + 2) ws)
+count-store at ws h b = count-step at ws h ∙ rw (ne-eqb (getD ws at 0) barrierWord b) refl
+
+pub count-barrier : (at : ℕ) (ws : List ℕ) → at + 1 < length ws → getD ws at 0 ≡ barrierWord → storesIn (drop at ws) ≡ storesIn (drop (at + 2) ws)
+count-barrier at ws h b = count-step at ws h ∙ rw (eq-eqb (getD ws at 0) barrierWord b) refl
+
+pub count-last : (at : ℕ) (ws : List ℕ) → length ws ≤ at + 1 → storesIn (drop at ws) ≡ 0
+unfolding storesIn
+count-last at ws h = elim (decLt at (length ws)) [
+  | yes l ↦ rw (drop-cons ws at 0 (omega arith), drop-of-length-le ws {i = suc at} (omega arith)) refl
+  | no l ↦ rw (drop-of-length-le ws {i = at} (omega arith)) refl
+]
+
+-- ---- both passes
 
 -- a script that is none is refused, and one that was checked is done once its stores are made
 pub refused : (m ws : List ℕ) → isScript (length m) ws ≡ false → outcome 3 m ≡ carryOut m ws

@@ -11,7 +11,7 @@ use lib.ListN.{length, take, drop, set, length-append, length-drop, drop-of-leng
 use lib.Seq.{take-all, take-at, drop-at, drop-drop}
 use borrow.Author.Tests.{eq-eqb, ne-eqb, lt-ltb, le-ltb}
 use borrow.Rule.Slice.PartMut.{midOf, postOf, putMid}
-use Rattle.memory.specs.Script.{Entry, store, barrier, barrierWord, encode, written, entryOf, onto, decode}
+use Rattle.memory.specs.Script.{Entry, store, barrier, barrierWord, encode, written, entryOf, onto, decode, storeCount, storesIn}
 use Rattle.memory.specs.Apply.{outcome, applied, carryOut}
 use Rattle.memory.specs.Laws.{Inside, ScriptLaws}
 
@@ -151,6 +151,13 @@ refused m ws h = go (decode (length m) ws) refl
     go none q = refl
     go (some es) q = let e = was-encoded (length m) ws es q in absurd (h es (e .1) (e .0))
 
+stores-counted : (n : ℕ) (es : List Entry) → Inside n es → storesIn (encode es) ≡ storeCount es
+unfolding encode storeCount storesIn
+stores-counted n [] h = refl
+stores-counted n (store i v ∷ es) h =
+    rw (ne-eqb i barrierWord (h i v (List·Memᴰ·head refl) .1), stores-counted n es (λ j u x. h j u (List·Memᴰ·tail x))) refl
+stores-counted n (barrier ∷ es) h = stores-counted n es (λ j u x. h j u (List·Memᴰ·tail x))
+
 pub script-laws : ScriptLaws
 unfolding carryOut
 script-laws = record {
@@ -161,4 +168,5 @@ script-laws = record {
   refused = refused;
   written-append = written-append;
   length-written = length-written;
+  stores-counted = stores-counted;
 }

@@ -8,7 +8,7 @@ use Prim.Native.Nat.{ℕ, zero, suc, _+_, _*_, _^_, _≤_, _<_}
 use lib.ListN.{length, take, drop, getElem?}
 use Rattle.memory.specs.Words.{reads, isSet, withBit, withoutBit, byte, withByte}
 use Rattle.memory.specs.Search.{first}
-use Rattle.memory.specs.Script.{Entry, store, barrier, barrierWord, encode, written, decode, Store, stores, segmented}
+use Rattle.memory.specs.Script.{Entry, store, barrier, barrierWord, encode, written, decode, Store, stores, segmented, storeCount, storesIn}
 use Rattle.memory.specs.Crash.{apply, CrashImage, passed}
 use Rattle.memory.specs.Apply.{outcome, carryOut}
 
@@ -76,6 +76,8 @@ pub record ScriptLaws : Type 0 where
   pub written-append : (es fs : List Entry) (buffer : List ℕ)
       → take (2 * length es) (written es buffer) ++ written fs (drop (2 * length es) (written es buffer)) ≡ written (es ++ fs) buffer
   pub length-written : (es : List Entry) (buffer : List ℕ) → 2 * length es ≤ length buffer → length (written es buffer) ≡ length buffer
+  -- the stores counted in words are those of the entries
+  pub stores-counted : (n : ℕ) (es : List Entry) → Inside n es → storesIn (encode es) ≡ storeCount es
 
 pub record ApplyLaws : Type 0 where
   pub length-apply : (m : List ℕ) (es : List Entry) → length (apply m es) ≡ length m

@@ -2,7 +2,7 @@
 use mathlib.Core.Bool.{cond}
 use mathlib.Core.Option.{Option, none, some}
 use mathlib.Core.List.{List, [], _∷_, _++_, map}
-use Prim.Native.Nat.{ℕ, _-_, _*_, _^_}
+use Prim.Native.Nat.{ℕ, _+_, _-_, _*_, _^_}
 use lib.ListN.{length, drop}
 use lib.Dec.{eqb, ltb}
 
@@ -53,3 +53,15 @@ stores seg = map (λ (s : Store). store (s .0) (s .1)) seg
 unfoldable pub segmented : List (List Store) → List Entry
 segmented [] = []
 segmented (seg ∷ segs) = stores seg ++ barrier ∷ segmented segs
+
+-- how many stores entries have
+unfoldable pub storeCount : List Entry → ℕ
+storeCount [] = 0
+storeCount (store i v ∷ es) = 1 + storeCount es
+storeCount (barrier ∷ es) = storeCount es
+
+-- the same of words, two at a time: whatever is no barrier is a store
+unfoldable pub storesIn : List ℕ → ℕ
+storesIn [] = 0
+storesIn (i ∷ []) = 0
+storesIn (i ∷ v ∷ ws) = cond (eqb i barrierWord) (storesIn ws) (1 + storesIn ws)

@@ -1,10 +1,10 @@
-// Writers of script entries. Each writes at the start of the script that it borrows; its caller
-// lends the rest on to the next writer, `&mut script[2..]`.
+// Writers of script entries, and a count of stores. Each writer writes at the start of the script
+// that it borrows; its caller lends the rest on to the next writer, `&mut script[2..]`.
 ghost use mathlib.Core.Path.{_≡_};
 ghost use mathlib.Core.List.{[], _∷_};
 ghost use Prim.Native.Nat.{_≤_};
 ghost use lib.ListN.{length};
-ghost use Rattle.memory.specs.Script.{store, barrier, written};
+ghost use Rattle.memory.specs.Script.{store, barrier, written, storesIn};
 
 // The word that a barrier has where a store has its index.
 pub const BARRIER: u64 = 0xffff_ffff_ffff_ffff;
@@ -41,4 +41,19 @@ pub fn put_fenced_pair(script: &mut [u64], index: u64, value: u64, index2: u64, 
 {
     put_fenced(script, index, value);
     put_fenced(&mut script[4..], index2, value2);
+}
+
+// How many stores a script has; barriers are not counted.
+pub fn count_stores(script: &[u64]) -> u64
+    ensures { λ r. ⌜ r ≡ storesIn (now (script .entry)) ⌝ }
+{
+    let mut count = 0;
+    let mut at = 0;
+    while at + 1 < script.len() {
+        if script[at] != BARRIER {
+            count += 1;
+        }
+        at += 2;
+    }
+    count
 }

@@ -3,7 +3,7 @@ pub use Rattle.memory.specs.Words.{Memory, reads}
 unfoldable pub use Rattle.memory.specs.Words.{field, withField, bit, isSet, withBit, withoutBit, byte, withByte, marked}
 unfoldable pub use Rattle.memory.specs.Search.{first}
 pub use Rattle.memory.specs.Script.{Entry, store, barrier, Store}
-unfoldable pub use Rattle.memory.specs.Script.{encode, decode, stores, segmented}
+unfoldable pub use Rattle.memory.specs.Script.{encode, written, decode, stores, segmented}
 pub use Rattle.memory.specs.Crash.{CrashImage, passed}
 unfoldable pub use Rattle.memory.specs.Crash.{apply}
 pub use Rattle.memory.specs.Apply.{isSome, outcome}

@@ -36,7 +36,7 @@ fn node_passes(image: &[u64], g: Geometry, slot: usize, check: Check, depth: u64
     }
 }
 
-// Marks a node and, levels left, all below it. A node met a second time ends the walk, so it visits each node once.
+// Marks a node and, levels left, all below it. A node met a second time ends the walk, so it marks each node once.
 fn visit_node(
     image: &[u64],
     pool: &mut [u64],

@@ -1,0 +1,256 @@
+-- The chain, proved: what an operation hands the driver, answered or refused, and the step of a history that follows.
+use mathlib.Core.Path.{_≡_, refl, sym, _∙_, ap}
+use mathlib.Core.Bool.{Bool, true, false, cond}
+use mathlib.Core.Logic.{inl, inr, _≢_}
+use mathlib.Core.List.{List, [], _∷_, List·Memᴰ, List·Memᴰ·head, List·Memᴰ·tail}
+use Prim.Native.Nat.{ℕ, _*_, _≤_}
+use native.Mathlib.Omega.{arith}
+use lib.ListN.{length, take}
+use lib.Dec.{eqb}
+use lib.Seq.{take-append-seam, take-at}
+use borrow.Author.Tests.{eqb-true, eqb-false, ne-eqb}
+use Rattle.tree.specs.Memory.{reads, Entry, encode, written, decode, segmented, apply, carryOut}
+use Rattle.tree.specs.Test.{ne, holds}
+use Rattle.tree.specs.declared.layout.Geometry.{Geometry}
+use Rattle.tree.specs.Layout.{badImage, mapWords, editionAt, geometryOf}
+use Rattle.tree.specs.Subtree.{listed}
+use Rattle.tree.proofs.Memory.{script-laws}
+use Rattle.tree.proofs.Cases.{test}
+use Rattle.book.specs.Refusals.{refusal}
+use Rattle.book.specs.State.{State, Operation, format, recover, openReel, claim, fill, commit, abandon, remove, has, list, retire, Work, scratchAfter}
+use Rattle.book.specs.Checks.{refusals}
+use Rattle.book.specs.Perform.{granted, leaves, clears, perform}
+use Rattle.book.specs.CarryOut.{carry}
+use Rattle.book.specs.Table.{Table}
+use Rattle.book.specs.Demands.{Leaves, as-before, map-cleared}
+use Rattle.book.specs.Histories.{done, Follows, formatted, performed}
+use Rattle.book.proofs.Demands.{demand1, demand2, scripts}
+use Rattle.book.proofs.Performed.{answer-is, work-granted, work-refused}
+use Rattle.operations.specs.Ends.{Buffers, state, Ends, ended, found, ends}
+use Rattle.operations.specs.Chain.{Counted, nothing, script-words, yes-or-no, frames, counted, wordsIn, framesIn, valueIn, next, Answered, Refused, OtherMap, by-format, by-recover, by-open, by-claim, by-retire, Unread, GoesOn, Fits, Chain}
+use Rattle.operations.proofs.Endings.{refused as ends-refused, done as ends-done}
+
+-- ---- what is handed back
+
+-- the words at the start of a buffer that a script was written to
+script-taken : (es : List Entry) (buffer : List ℕ) → take (2 * length es) (written es buffer) ≡ encode es
+unfolding written
+script-taken es buffer = take-at (encode es) _ _ (script-laws .length-encode es)
+
+no-words : [] ≡ encode (segmented [])
+unfolding segmented encode
+no-words = refl
+
+abbrev answering : Operation → State → Buffers → Ends
+answering op s b = found op (record { answer = 0; work = granted op s; cleared = clears op 0 }) b
+
+-- words, value and frames of an operation's work are handed over
+abbrev HandsOver : Operation → Work → Ends → Type 0
+HandsOver op w e =
+    (wordsIn (counted op) e ≡ encode (segmented (w .script))) × (valueIn (counted op) e ≡ w .value) × (framesIn (counted op) e ≡ w .listing)
+
+granted-over : (op : Operation) (s : State) (b : Buffers) → HandsOver op (granted op s) (answering op s b)
+unfolding found granted listed
+granted-over (format words slots nodes) s b = (no-words, refl, refl)
+granted-over (recover words) s b = (no-words, refl, refl)
+granted-over (openReel words script reel) s b = (script-taken _ _, refl, refl)
+granted-over (claim words script h reel f) s b = (script-taken _ _, refl, refl)
+granted-over (fill script h) s b = (script-taken _ _, refl, refl)
+granted-over (commit script h) s b = (script-taken _ _, refl, refl)
+granted-over (abandon script h) s b = (script-taken _ _, refl, refl)
+granted-over (remove script reel f) s b = (script-taken _ _, refl, refl)
+granted-over (has reel f) s b = (no-words, refl, refl)
+granted-over (list scratch room reel) s b = (no-words, refl, take-append-seam _ _)
+granted-over (retire words scratch script reel) s b = (script-taken _ _, refl, refl)
+
+-- and nothing where the count is 0
+nothing-over : (k : Counted) (e : Ends) → e .count ≡ 0 → (wordsIn k e ≡ []) × (valueIn k e ≡ 0) × (framesIn k e ≡ [])
+nothing-over script-words e z = (rw z refl, refl, refl)
+nothing-over frames e z = (refl, z, rw z refl)
+nothing-over yes-or-no e z = (refl, z, refl)
+nothing-over nothing e z = (refl, refl, refl)
+
+module _ (op : Operation) (s : State) (b : Buffers) where
+  answer-ends : ends op s b .answer ≡ perform op s .answer
+  unfolding ends found
+  answer-ends = refl
+
+  after-ends : ends op s b .after ≡ perform op s .work .after
+  unfolding ends found
+  after-ends = refl
+
+-- ---- answered
+
+module _ (op : Operation) (s : State) (b : Buffers) (h : perform op s .answer ≡ 0) where
+  ends-answered : ends op s b ≡ answering op s b
+  ends-answered = ends-done op s b (sym (answer-is op s) ∙ h)
+
+  hands-over : HandsOver op (perform op s .work) (ends op s b)
+  hands-over = rw (ends-answered, work-granted op s h) (granted-over op s b)
+
+  answered : Fits op s → Answered op s (ends op s b)
+  answered fit =
+      let good = scripts op s (fit .image) (fit .heads) (fit .numbers) in
+      record {
+        entries = rw (hands-over .0) (script-laws .read-back (length (s .image)) (segmented (perform op s .work .script)) (good .inside));
+        carried-out = rw (hands-over .0, after-ends op s b) (good .carried-out h);
+        pool = ap (λ (x : State). x .pool) (after-ends op s b);
+        heads = ap (λ (x : State). x .heads) (after-ends op s b);
+      }
+
+-- ---- refused
+
+-- nothing is handed back
+refused-count : (s : State) (b : Buffers) {op : Operation} {n : ℕ} {s' : State} → Leaves s op n s' → s' ≡ leaves op s n → refusal (refusals op s) ≡ n → n ≢ 0
+    → ends op s b .count ≡ 0
+unfolding ends found
+refused-count s b {op} {n} (as-before c q) l e z = ap (λ (x : Ends). x .count) (ends-refused op s b n e z (sym l ∙ q))
+refused-count s b (map-cleared im hs len zero) l e z = refl
+
+module _ (op : Operation) (s : State) (b : Buffers) (h : perform op s .answer ≢ 0) where
+  refused : Refused op s b (ends op s b)
+  unfolding ends found segmented written encode listed apply
+  refused =
+      let d = demand1 .refused op s h in
+      record {
+        count = refused-count s b (d .left) (ap (λ (w : Work). w .after) (work-refused op s h)) (sym (answer-is op s)) h;
+        script = rw (d .no-store) refl;
+        list = rw (d .no-listing) refl;
+        after = rw (d .no-store) refl;
+      }
+
+-- ---- a map of another length
+
+-- the first that holds of the three checks, where the third does
+earlyNumber : List ℕ → ℕ
+earlyNumber image = cond (holds (badImage (length image) (geometryOf (reads image)))) 1 (cond (holds (ne (reads image editionAt) 1)) 2 3)
+
+-- an operation is refused with a number of at most 3, whatever the map has
+record Early (op : Operation) (image heads : List ℕ) : Type 0 where
+  number : ℕ
+  low : List·Memᴰ number (1 ∷ 2 ∷ 3 ∷ [])
+  is : (pool : List ℕ) → refusal (refusals op (state image pool heads)) ≡ number
+
+one-of : (a b : Bool) → List·Memᴰ {A = ℕ} (cond a 1 (cond b 2 3)) (1 ∷ 2 ∷ 3 ∷ [])
+one-of true b = List·Memᴰ·head refl
+one-of false true = List·Memᴰ·tail (List·Memᴰ·head refl)
+one-of false false = List·Memᴰ·tail (List·Memᴰ·tail (List·Memᴰ·head refl))
+
+checks-only : {op : Operation} {heads : List ℕ} (image : List ℕ) → ((pool : List ℕ) → refusal (refusals op (state image pool heads)) ≡ earlyNumber image)
+    → Early op image heads
+unfolding earlyNumber
+checks-only image is = record {
+  number = earlyNumber image;
+  low = one-of (holds (badImage (length image) (geometryOf (reads image)))) (holds (ne (reads image editionAt) 1));
+  is = is;
+}
+
+early : {image : List ℕ} {op : Operation} → OtherMap image op → (heads : List ℕ) → Early op image heads
+unfolding refusals refusal earlyNumber
+early {image} (by-format {words} {slots} {nodes} d) heads =
+    let g : Geometry = record { slots = slots; nodes = nodes } in
+    record {
+      number = cond (holds (badImage (length image) g)) 1 3;
+      low = one-of (holds (badImage (length image) g)) false;
+      is = λ pool. rw (ne-eqb words (mapWords g) d) refl;
+    }
+early {image} (by-recover {words} d) heads = checks-only image (λ pool. rw (ne-eqb words _ d) refl)
+early {image} (by-open {words} d) heads = checks-only image (λ pool. rw (ne-eqb words _ d) refl)
+early {image} (by-claim {words} d) heads = checks-only image (λ pool. rw (ne-eqb words _ d) refl)
+early {image} (by-retire {words} d) heads = checks-only image (λ pool. rw (ne-eqb words _ d) refl)
+
+-- with such a number everything is left
+stays : {s : State} {op : Operation} {n : ℕ} {s' : State} → Leaves s op n s' → n ≤ 3 → s' ≡ s
+stays (as-before c q) l = q
+stays (map-cleared im hs len zero) l = absurd (omega arith)
+
+module _ (op : Operation) (s : State) (z : perform op s .answer ≢ 0) (l : perform op s .answer ≤ 3) where
+  all-left : leaves op s (perform op s .answer) ≡ s
+  all-left = sym (ap (λ (w : Work). w .after) (work-refused op s z)) ∙ stays (demand1 .refused op s z .left) l
+
+  scratch-kept : clears op (perform op s .answer) ≡ false
+  unfolding perform
+  scratch-kept = elim (test (perform op s .cleared)) [
+    | inl e ↦ absurd (elim (demand1 .scratch op s .0 e .1) [ inl q ↦ z q | inr m ↦ omega arith ])
+    | inr e ↦ e
+  ]
+
+  early-ends : (b : Buffers) → ends op s b ≡ ended (perform op s .answer) 0 s b
+  unfolding scratchAfter
+  early-ends b = ends-refused op s b (perform op s .answer) (sym (answer-is op s)) z all-left ∙ rw scratch-kept refl
+
+one-to-three : {n : ℕ} → List·Memᴰ n (1 ∷ 2 ∷ 3 ∷ []) → (n ≢ 0) × (n ≤ 3)
+one-to-three (List·Memᴰ·head q) = omega arith
+one-to-three (List·Memᴰ·tail (List·Memᴰ·head q)) = omega arith
+one-to-three (List·Memᴰ·tail (List·Memᴰ·tail (List·Memᴰ·head q))) = omega arith
+
+unread : (op : Operation) (image pool heads : List ℕ) (b : Buffers) → OtherMap image op → Unread op image heads b (ends op (state image pool heads) b)
+unread op image pool heads b o =
+    let r = early o heads in
+    let each : (pool' : List ℕ) → perform op (state image pool' heads) .answer ≡ r .number = λ pool'. answer-is op (state image pool' heads) ∙ r .is pool' in
+    let here : ends op (state image pool heads) b .answer ≡ r .number = answer-ends op (state image pool heads) b ∙ each pool in
+    record {
+      number = rw here (r .low);
+      same = λ pool'. each pool' ∙ sym here;
+      leaves-all = λ pool'.
+          let w = one-to-three (r .low) in
+          early-ends op (state image pool' heads) (rw (each pool') (w .0)) (rw (each pool') (w .1)) b ∙ rw (each pool', here) refl;
+    }
+
+-- ---- the next state
+
+-- nothing is carried out where there are no words
+nothing-carried : (m : List ℕ) → carry m [] .image ≡ m
+unfolding carry carryOut decode apply
+nothing-carried m = elim (test (holds (badImage (length m) (geometryOf (reads m))))) [ inl e ↦ rw e refl | inr e ↦ rw e refl ]
+
+-- answered or refused, the driver is told the value and the frames of the operation's work, and comes to the state of the step
+record Told (op : Operation) (s : State) (e : Ends) : Type 0 where
+  value : valueIn (counted op) e ≡ perform op s .work .value
+  listing : framesIn (counted op) e ≡ perform op s .work .listing
+  step : next op e ≡ done op s
+
+told : (op : Operation) (s : State) (b : Buffers) → Fits op s → Told op s (ends op s b)
+told op s b fit = elim (test (eqb (perform op s .answer) 0)) [
+  | inl t ↦
+      let h = eqb-true (perform op s .answer) 0 t in
+      let a = answered op s b h fit in
+      record {
+        value = hands-over op s b h .1;
+        listing = hands-over op s b h .2;
+        step = rw (a .carried-out, a .pool, a .heads) refl;
+      }
+  | inr t ↦
+      let h = eqb-false (perform op s .answer) 0 t in
+      let d = demand1 .refused op s h in
+      let r = refused op s b h in
+      let n = nothing-over (counted op) (ends op s b) (r .count) in
+      record {
+        value = n .1 ∙ sym (d .no-value);
+        listing = n .2 ∙ sym (d .no-listing);
+        step = rw (n .0, nothing-carried (ends op s b .after .image)) (r .after);
+      }
+]
+
+goes-on : (op : Operation) (s : State) (t : Table) (b : Buffers) → Follows s t → Fits op s → GoesOn op s t (ends op s b)
+goes-on op s t b f fit =
+    let a = demand2 .alike s t f op (fit .numbers) in
+    let d = told op s b fit in
+    record {
+      answer = answer-ends op s b ∙ a .answer;
+      value = d .value ∙ a .value;
+      listing = rw (d .listing) (a .listing);
+      follows = rw (d .step) (performed f op (fit .numbers));
+    }
+
+pub chain : Chain
+chain = record {
+  answered = λ op s b e fit q h. rw q (answered op s b (sym (answer-ends op s b) ∙ sym (ap (λ (x : Ends). x .answer) q) ∙ h) fit);
+  refused = λ op s b e q h. rw q (refused op s b (λ z. h (ap (λ (x : Ends). x .answer) q ∙ answer-ends op s b ∙ z)));
+  other-map = λ op image pool heads b e o q. rw q (unread op image pool heads b o);
+  starts = λ words slots nodes s b e fit q h.
+      let op = format words slots nodes in
+      let h' : perform op s .answer ≡ 0 = sym (answer-ends op s b) ∙ sym (ap (λ (x : Ends). x .answer) q) ∙ h in
+      rw (q, told op s b fit .step) (formatted words slots nodes s (fit .image) h');
+  goes-on = λ op s t b e f fit q. rw q (goes-on op s t b f fit);
+}

@@ -1,0 +1,16 @@
+pub mod Formatting
+pub mod Opening
+pub mod Endings
+pub mod Passed
+pub mod Tested
+pub mod HeadRecords
+pub mod TargetsEndings
+pub mod HandedOver
+pub mod Recovering
+pub mod Listing
+pub mod Retiring
+pub mod FrameLookups
+pub mod Claiming
+pub mod ClaimingScripts
+pub mod ClaimingEndings
+pub mod Chain

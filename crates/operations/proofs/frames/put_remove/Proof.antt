@@ -1,0 +1,34 @@
+use Rattle.memory.specs.Script.{stores, segmented}
+use Rattle.book.specs.Perform.{removeScript}
+use borrow.Author.Needs.{needs}
+use Rattle.operations.proofs.frames.put_remove.Statement.{statement}
+use Rattle.operations.proofs.frames.put_remove.Tie as tie
+
+returns : tie.Need-returns
+unfolding stores segmented removeScript
+returns c =
+    let bits = c .before .before .before in
+    rw (← bits .before .before .without-bit .ensures, ← bits .without-bit2 .ensures) (c .before .before .put-fenced-pair .ensures)
+
+pub put-remove-spec : {M : Type 1} → statement M
+put-remove-spec =
+    tie.close
+    (tie.spec
+    (λ c. search needs)
+    (λ c. search needs)
+    (λ c. search needs)
+    (λ c. search needs)
+    (λ c. search needs)
+    (λ c. search needs)
+    (λ c. search needs)
+    (λ c. search needs)
+    (λ c. search needs)
+    (λ c κs. search needs)
+    (λ c. search needs)
+    (λ c. search needs)
+    (λ c. search needs)
+    (λ c. search needs)
+    (λ c κs. search needs)
+    (λ c κs. search needs)
+    (λ c. search needs)
+    returns)

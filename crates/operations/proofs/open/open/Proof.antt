@@ -1,0 +1,57 @@
+use mathlib.Core.List.{[]}
+use borrow.Author.Needs.{needs}
+use Rattle.operations.specs.Answers.{numberOf}
+use Rattle.operations.specs.Ends.{buffers}
+use Rattle.operations.proofs.Tested.{check-bad}
+use Rattle.operations.proofs.Opening.{OpenChecked, open-checked, on-open, already-open, no-slot, no-node, opened}
+use Rattle.operations.proofs.open.open.Statement.{statement}
+use Rattle.operations.proofs.open.open.Tie as tie
+
+-- the checks are passed
+fine : (c : tie.After-geometry-in)
+    → let a = c .before .before .before .before .before .before .before .args in
+    OpenChecked (a .image .now) (a .pool .now) (a .script .now) (c .geometry-in .result)
+fine c =
+    let told = c .before .before .before in
+    let a = told .before .before .before .before .args in
+    open-checked (a .image .now) (a .pool .now) (a .script .now) _ (numberOf (told .checks .result)) _
+    (told .checks .ensures) (c .before .before .refuses .ensures) (c .before .if1 .left) (c .geometry-in .ensures)
+
+pub open-spec : {M : Type 1} → statement M
+open-spec =
+    tie.close
+    (tie.spec
+    (λ c κs. search needs)
+    (λ c κs. search needs)
+    (λ c heads. let told = c .before .before in
+    let a = told .before .before .before .before .args in
+    check-bad (on-open (a .image .now) (a .pool .now) (a .script .now) heads (a .reel)) (buffers [] (a .script .now) []) (numberOf (told .checks .result)) _
+    (told .checks .ensures) (c .before .refuses .ensures) (c .if1 .taken))
+    (λ c κs. search needs)
+    (λ c κs. fine c .sized)
+    (λ c heads. let found = c .before .before in
+    already-open _ _ _ heads _ _ (fine (found .before)) _ (found .slot-of .ensures) (c .if2 .taken))
+    (λ c κs. fine (c .before .before .before) .sized)
+    (λ c heads. let empty = c .before .before in
+    let found = empty .before .before .before in
+    no-slot _ _ _ heads _ _ (fine (found .before)) _ (found .slot-of .ensures)
+    (empty .before .if2 .left) _ (empty .empty-slot .ensures) (c .if3 .taken))
+    (λ c κs. let p = fine (c .before .before .before .before .before .before .before) in search needs)
+    (λ c. search needs)
+    (λ c heads. let free = c .before .before in
+    let empty = free .before .before .before .before in
+    let found = empty .before .before .before in
+    no-node _ _ _ heads _ _ (fine (found .before)) _ (found .slot-of .ensures)
+    (empty .before .if2 .left) _ (empty .empty-slot .ensures) (free .before .before .if3 .left) _ (free .free-node .ensures) (c .if4 .taken))
+    (λ c κs. let p = fine (c .before .before .before .before .before .before .before .before .before .before .before) in search needs)
+    (λ c κs. let p = fine (c .before .before .before .before .before .before .before .before .before .before .before .before .before .before .before) in
+    search needs)
+    (λ c. search needs)
+    (λ c. search needs)
+    (λ c heads. let left = c .before .before .before .before .before .before .before .before in
+    let free = left .before .before in
+    let empty = free .before .before .before .before in
+    let found = empty .before .before .before in
+    opened _ _ _ heads _ _ (fine (found .before)) _ (found .slot-of .ensures)
+    (empty .before .if2 .left) _ (empty .empty-slot .ensures) (free .before .before .if3 .left) _ (free .free-node .ensures) (left .if4 .left)
+    _ _ (c .before .before .mark .ensures) (c .before .before .before .before .before .before .put-open .ensures)))

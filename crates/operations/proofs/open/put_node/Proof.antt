@@ -1,0 +1,39 @@
+use native.Mathlib.Omega.{arith}
+use lib.ListN.{length-set}
+use lib.Seq.{sets-eq}
+use Rattle.tree.specs.Memory.{encode, written, stores}
+use Rattle.book.specs.Perform.{newNode}
+use borrow.Author.Needs.{needs}
+use Rattle.operations.proofs.open.put_node.Statement.{statement}
+use Rattle.operations.proofs.open.put_node.Tie as tie
+
+returns : tie.Need-returns
+unfolding encode written stores
+returns c =
+    let a = c .before .args in
+    sets-eq (encode (stores (newNode (a .g) (a .n) (a .level) (a .size)))) (a .script .now) 0 (c .before .pre .0)
+
+pub put-node-spec : {M : Type 1} → statement M
+put-node-spec =
+    tie.close
+    (tie.spec
+    (λ c. search needs)
+    (λ c. search needs)
+    (λ c. search needs)
+    (λ c. search needs)
+    (λ c. search needs)
+    (λ c. simp length-set (omega arith))
+    (λ c. search needs)
+    (λ c. simp length-set (omega arith))
+    (λ c. simp length-set (omega arith))
+    (λ c. search needs)
+    (λ c. simp length-set (omega arith))
+    (λ c. simp length-set (omega arith))
+    (λ c. search needs)
+    (λ c. simp length-set (omega arith))
+    (λ c. simp length-set (omega arith))
+    (λ c. search needs)
+    (λ c. simp length-set (omega arith))
+    (λ c. simp length-set (omega arith))
+    (λ c. simp length-set)
+    returns)

@@ -1,0 +1,22 @@
+use Rattle.tree.specs.Memory.{stores, segmented}
+use borrow.Author.Needs.{needs}
+use Rattle.operations.proofs.room_script.put_scale_up.Statement.{statement}
+use Rattle.operations.proofs.room_script.put_scale_up.Tie as tie
+
+returns : tie.Need-returns
+unfolding stores segmented
+returns c = c .before .before .put-fenced .ensures
+
+pub put-scale-up-spec : {M : Type 1} → statement M
+put-scale-up-spec =
+    tie.close
+    (tie.spec
+    (λ c. search needs)
+    (λ c. search needs)
+    (λ c. search needs)
+    (λ c. search needs)
+    (λ c. search needs)
+    (λ c. search needs)
+    (λ c κs. search needs)
+    (λ c. search needs)
+    returns)

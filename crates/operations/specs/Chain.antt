@@ -1,0 +1,117 @@
+-- The chain from the exported contracts to the demands: statements alone. A contract says that what the driver finds is `ends op s b`; the
+-- demands speak of histories, whose steps are `done op s`. A driver that carries out the words that it was handed makes that step.
+use mathlib.Core.Path.{_≡_}
+use mathlib.Core.Logic.{_≢_}
+use mathlib.Core.Option.{some}
+use mathlib.Core.List.{List, [], _∷_, List·Memᴰ}
+use Prim.Native.Nat.{ℕ}
+use lib.ListN.{length, take}
+use Rattle.tree.specs.Memory.{reads, segmented, decode, Fit}
+use Rattle.tree.specs.Layout.{mapWords, geometryOf}
+use Rattle.book.specs.State.{State, Operation, format, recover, openReel, claim, fill, commit, abandon, remove, has, list, retire, arguments}
+use Rattle.book.specs.Perform.{perform}
+use Rattle.book.specs.CarryOut.{carry, carried}
+use Rattle.book.specs.Table.{Table, emptyTable}
+use Rattle.book.specs.Agrees.{EachOnce}
+use Rattle.book.specs.Histories.{done, replied, Follows}
+use Rattle.operations.specs.Ends.{Buffers, state, Ends, ended, ends}
+
+-- ---- what the driver has been handed
+
+-- what the count handed back is a count of
+pub data Counted : Type 0 where
+  nothing script-words yes-or-no frames : Counted
+
+abbrev pub counted : Operation → Counted
+counted (format words slots nodes) = nothing
+counted (recover words) = nothing
+counted (openReel words script reel) = script-words
+counted (claim words script h reel f) = script-words
+counted (fill script h) = script-words
+counted (commit script h) = script-words
+counted (abandon script h) = script-words
+counted (remove script reel f) = script-words
+counted (has reel f) = yes-or-no
+counted (list scratch room reel) = frames
+counted (retire words scratch script reel) = script-words
+
+-- the script's words
+abbrev pub wordsIn : Counted → Ends → List ℕ
+wordsIn script-words e = take (e .count) (e .buffers .script)
+wordsIn nothing e = []
+wordsIn yes-or-no e = []
+wordsIn frames e = []
+
+-- List's frames
+abbrev pub framesIn : Counted → Ends → List ℕ
+framesIn frames e = take (e .count) (e .buffers .list)
+framesIn nothing e = []
+framesIn script-words e = []
+framesIn yes-or-no e = []
+
+-- Has's yes or no, and how many frames List has
+abbrev pub valueIn : Counted → Ends → ℕ
+valueIn yes-or-no e = e .count
+valueIn frames e = e .count
+valueIn nothing e = 0
+valueIn script-words e = 0
+
+-- the driver's state once it has carried out the script's words
+abbrev pub next : Operation → Ends → State
+next op e = state (carry (e .after .image) (wordsIn (counted op) e) .image) (e .after .pool) (e .after .heads)
+
+-- ---- how an operation ends
+
+pub record Answered (op : Operation) (s : State) (e : Ends) : Type 0 where
+  -- the words are the entries of which histories say what a crash leaves
+  pub entries : decode (length (s .image)) (wordsIn (counted op) e) ≡ some (segmented (perform op s .work .script))
+  -- carried out, they answer 0 and leave the image that a history goes on with; map and heads are as it has them already
+  pub carried-out : carry (e .after .image) (wordsIn (counted op) e) ≡ carried 0 (done op s .image)
+  pub pool : e .after .pool ≡ done op s .pool
+  pub heads : e .after .heads ≡ done op s .heads
+
+pub record Refused (op : Operation) (s : State) (b : Buffers) (e : Ends) : Type 0 where
+  pub count : e .count ≡ 0
+  pub script : e .buffers .script ≡ b .script
+  pub list : e .buffers .list ≡ b .list
+  pub after : e .after ≡ done op s
+
+-- ---- a map of another length
+
+-- the operation is lent a map of another length than the geometry's
+pub data OtherMap (image : List ℕ) : Operation → Type 0 where
+  by-format : {words slots nodes : ℕ} → words ≢ mapWords (record { slots = slots; nodes = nodes }) → OtherMap image (format words slots nodes)
+  by-recover : {words : ℕ} → words ≢ mapWords (geometryOf (reads image)) → OtherMap image (recover words)
+  by-open : {words script reel : ℕ} → words ≢ mapWords (geometryOf (reads image)) → OtherMap image (openReel words script reel)
+  by-claim : {words script h reel f : ℕ} → words ≢ mapWords (geometryOf (reads image)) → OtherMap image (claim words script h reel f)
+  by-retire : {words scratch script reel : ℕ} → words ≢ mapWords (geometryOf (reads image)) → OtherMap image (retire words scratch script reel)
+
+-- it is refused with the same number whatever the map has, and leaves everything: so the book's own map may stand in the contract for the one lent
+pub record Unread (op : Operation) (image heads : List ℕ) (b : Buffers) (e : Ends) : Type 0 where
+  pub number : List·Memᴰ (e .answer) (1 ∷ 2 ∷ 3 ∷ [])
+  pub same : (pool : List ℕ) → perform op (state image pool heads) .answer ≡ e .answer
+  pub leaves-all : (pool : List ℕ) → ends op (state image pool heads) b ≡ ended (e .answer) 0 (state image pool heads) b
+
+-- ---- in a history
+
+-- the driver is told what the table replies, and with its next state the history goes on
+pub record GoesOn (op : Operation) (s : State) (t : Table) (e : Ends) : Type 0 where
+  pub answer : e .answer ≡ replied op s t .answer
+  pub value : valueIn (counted op) e ≡ replied op s t .work .value
+  pub listing : EachOnce (framesIn (counted op) e) (replied op s t .work .frames)
+  pub follows : Follows (next op e) (replied op s t .work .after)
+
+-- image, heads and arguments are words of 64 bits, as they are in the code
+pub record Fits (op : Operation) (s : State) : Type 0 where
+  pub image : Fit (s .image)
+  pub heads : Fit (s .heads)
+  pub numbers : Fit (arguments op)
+
+pub record Chain : Type 0 where
+  pub answered : (op : Operation) (s : State) (b : Buffers) (e : Ends) → Fits op s → e ≡ ends op s b → e .answer ≡ 0 → Answered op s e
+  pub refused : (op : Operation) (s : State) (b : Buffers) (e : Ends) → e ≡ ends op s b → e .answer ≢ 0 → Refused op s b e
+  pub other-map : (op : Operation) (image pool heads : List ℕ) (b : Buffers) (e : Ends) → OtherMap image op
+      → e ≡ ends op (state image pool heads) b → Unread op image heads b e
+  pub starts : (words slots nodes : ℕ) (s : State) (b : Buffers) (e : Ends) → Fits (format words slots nodes) s
+      → e ≡ ends (format words slots nodes) s b → e .answer ≡ 0 → Follows (next (format words slots nodes) e) (emptyTable slots nodes)
+  pub goes-on : (op : Operation) (s : State) (t : Table) (b : Buffers) (e : Ends) → Follows s t → Fits op s → e ≡ ends op s b → GoesOn op s t e

@@ -1,0 +1,5 @@
+pub mod Answers
+pub mod HeadLists
+pub mod Ends
+pub mod Checked
+pub mod Chain

@@ -1,0 +1,24 @@
+// Carry out: the driver's own call.
+ghost use mathlib.Core.Path.{_≡_};
+ghost use Rattle.book.specs.CarryOut.{carry, carried};
+ghost use Rattle.operations.specs.Answers.{answerOf};
+use crate::answer::Answer;
+use crate::answer::Refusal;
+use memory::apply::Applied;
+use memory::apply::apply as apply_script;
+use tree::layout::bad_image;
+use tree::layout::geometry_in;
+
+// Applies a script of whole entries to the image, or refuses it and writes nothing.
+pub fn apply(image: &mut [u64], script: &[u64]) -> Answer
+    ensures { λ r. ⌜ carried (answerOf r) (now (image .exit)) ≡ carry (now (image .entry)) (now (script .entry)) ⌝ }
+{
+    let g = geometry_in(image);
+    if bad_image(image.len(), g) {
+        return Answer::Refused(Refusal::Image);
+    }
+    match apply_script(image, script) {
+        Applied::Done => Answer::Done(0),
+        Applied::Refused => Answer::Refused(Refusal::Buffer),
+    }
+}

@@ -1,0 +1,57 @@
+// The checks that come first: 1 for the image, 2 for its edition, 3 for the other buffers.
+ghost use mathlib.Core.Path.{_≡_};
+ghost use Prim.Native.Nat.{_≤_};
+ghost use Rattle.tree.specs.Test.{holds};
+ghost use Rattle.operations.specs.Answers.{numberOf};
+ghost use Rattle.operations.specs.Checked.{mapBad, scriptBad, firstChecks};
+use crate::answer::Refusal;
+use tree::layout::Geometry;
+use tree::layout::bad_edition;
+use tree::layout::bad_image;
+use tree::layout::geometry_in;
+use tree::layout::map_words;
+
+// A buffer that an operation borrows, by its length, or does not borrow.
+pub enum Buffer {
+    Absent,
+    Words(usize),
+}
+
+// Is a map or scratch map not of the map's length?
+fn map_bad(g: Geometry, b: Buffer) -> bool
+    requires { ⌜ g .nodes ≤ 65536 ⌝ }
+    ensures { λ r. ⌜ r ≡ holds (mapBad g b) ⌝ }
+{
+    match b {
+        Buffer::Absent => false,
+        Buffer::Words(n) => n != map_words(g),
+    }
+}
+
+// Is a script too short?
+fn script_bad(b: Buffer) -> bool
+    ensures { λ r. ⌜ r ≡ holds (scriptBad b) ⌝ }
+{
+    match b {
+        Buffer::Absent => false,
+        Buffer::Words(n) => n < 50,
+    }
+}
+
+// 1, 2 and 3, in this sequence.
+pub fn checks(image: &[u64], map: Buffer, scratch: Buffer, script: Buffer) -> Refusal
+    ensures { λ r. ⌜ numberOf r ≡ firstChecks (now (image .entry)) map scratch script ⌝ }
+{
+    let g = geometry_in(image);
+    if bad_image(image.len(), g) {
+        return Refusal::Image;
+    }
+    if bad_edition(image) {
+        return Refusal::Edition;
+    }
+    let buffer_bad = map_bad(g, map) | (map_bad(g, scratch) | script_bad(script));
+    if buffer_bad {
+        return Refusal::Buffer;
+    }
+    Refusal::None
+}

@@ -1,0 +1,95 @@
+// Has and Remove: a frame looked up in its reel.
+ghost use mathlib.Core.Path.{_≡_};
+ghost use mathlib.Core.List.{List, []};
+ghost use Prim.Native.Nat.{ℕ, _≤_, _<_};
+ghost use lib.ListN.{length};
+ghost use Rattle.memory.specs.Script.{segmented, written};
+ghost use Rattle.tree.specs.Memory.{reads};
+ghost use Rattle.tree.specs.Layout.{Sized};
+ghost use Rattle.book.specs.State.{remove, has};
+ghost use Rattle.book.specs.Perform.{removeScript};
+ghost use Rattle.operations.specs.Answers.{answerOf, countOf};
+ghost use Rattle.operations.specs.HeadLists.{headsIn};
+ghost use Rattle.operations.specs.Ends.{buffers, noBuffers, state, ended, ends};
+use crate::answer::Answer;
+use crate::answer::Refusal;
+use crate::answer::refuses;
+use crate::checks::Buffer;
+use crate::checks::checks;
+use crate::heads::is_busy;
+use book::Head;
+use memory::script::put_fenced_pair;
+use memory::words::without_bit;
+use tree::layout::Geometry;
+use tree::layout::geometry_in;
+use tree::path::Spot;
+use tree::reels::slot_of;
+use walks::descent::Found;
+use walks::descent::find;
+
+// Does a reel hold a frame? The count is 1 or 0.
+pub fn has(image: &[u64], reel: u64, frame: u64) -> Answer
+    ensures { λ r. ⌜ ((pool ws : List ℕ) → ended (answerOf r) (countOf r) (state (now (image .entry)) pool ws) noBuffers ≡ ends (has reel frame) (state (now (image .entry)) pool ws) noBuffers) ⌝ }
+{
+    let why = checks(image, Buffer::Absent, Buffer::Absent, Buffer::Absent);
+    if refuses(why) {
+        return Answer::Refused(why);
+    }
+    let g = geometry_in(image);
+    let slot = slot_of(image, g, reel);
+    if g.slots <= slot {
+        return Answer::Refused(Refusal::NoReel);
+    }
+    match find(image, g, slot, frame) {
+        Found::Malformed => Answer::Refused(Refusal::Malformed),
+        Found::Absent => Answer::Done(0),
+        Found::At(_) => Answer::Done(1),
+    }
+}
+
+// Remove's script: the set word without the place's bit, then the locate word without it.
+fn put_remove(image: &[u64], g: Geometry, script: &mut [u64], t: Spot)
+    requires { ⌜ Sized (now image) g × (t .node < g .nodes) × (t .place < 64) × (8 ≤ length (now script)) ⌝ }
+    ensures { λ _. ⌜ now (script .exit) ≡ written (segmented (removeScript g (reads (now (image .entry))) t)) (now (script .entry)) ⌝ }
+{
+    let at = 64 + 2 * g.slots + 80 * t.node;
+    let place = t.place as u32;
+    put_fenced_pair(
+        script,
+        (at + 2) as u64,
+        without_bit(image[at + 2], place),
+        (at + 1) as u64,
+        without_bit(image[at + 1], place),
+    );
+}
+
+// Take a frame out of its reel, unless a head that is not idle works on the reel.
+pub fn remove(image: &[u64], heads: [Head; 2], script: &mut [u64], reel: u64, frame: u64) -> Answer
+    ensures { λ r. ⌜ ((pool ws : List ℕ) → headsIn ws ≡ heads → ended (answerOf r) (countOf r) (state (now (image .entry)) pool ws) (buffers [] (now (script .exit)) []) ≡ ends (remove (length (now (script .entry))) reel frame) (state (now (image .entry)) pool ws) (buffers [] (now (script .entry)) [])) ⌝ }
+{
+    let why = checks(
+        image,
+        Buffer::Absent,
+        Buffer::Absent,
+        Buffer::Words(script.len()),
+    );
+    if refuses(why) {
+        return Answer::Refused(why);
+    }
+    let g = geometry_in(image);
+    let slot = slot_of(image, g, reel);
+    if g.slots <= slot {
+        return Answer::Refused(Refusal::NoReel);
+    }
+    if is_busy(heads, slot) {
+        return Answer::Refused(Refusal::Busy);
+    }
+    match find(image, g, slot, frame) {
+        Found::Malformed => Answer::Refused(Refusal::Malformed),
+        Found::Absent => Answer::Refused(Refusal::FrameNotHeld),
+        Found::At(t) => {
+            put_remove(image, g, script, t);
+            Answer::Done(8)
+        }
+    }
+}

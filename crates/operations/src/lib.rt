@@ -1,0 +1,16 @@
+// The operations in code: each computes what book's `perform` says.
+pub mod answer;
+pub mod apply;
+pub mod checks;
+pub mod claim;
+pub mod format;
+pub mod frames;
+pub mod hand_over;
+pub mod head_words;
+pub mod heads;
+pub mod list;
+pub mod open;
+pub mod recover;
+pub mod retire;
+pub mod room_script;
+pub mod targets;

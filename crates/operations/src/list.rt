@@ -1,0 +1,44 @@
+// List: a reel's frames.
+ghost use mathlib.Core.Path.{_≡_};
+ghost use mathlib.Core.List.{List, []};
+ghost use Prim.Native.Nat.{ℕ};
+ghost use lib.ListN.{length};
+ghost use Rattle.book.specs.State.{list as list-reel};
+ghost use Rattle.operations.specs.Answers.{answerOf, countOf};
+ghost use Rattle.operations.specs.Ends.{buffers, state, ended, ends};
+use crate::answer::Answer;
+use crate::answer::Refusal;
+use crate::answer::refuses;
+use crate::checks::Buffer;
+use crate::checks::checks;
+use tree::layout::geometry_in;
+use tree::pool_map::clear_map;
+use tree::reels::slot_of;
+use walks::trees::Listing;
+use walks::trees::list_tree;
+
+// List a reel's frames: all of them, or the list stays as it is. Past the checks the scratch map is all 0 in the end.
+pub fn list(image: &[u64], scratch: &mut [u64], list: &mut [u64], reel: u64) -> Answer
+    ensures { λ r. ⌜ ((pool ws : List ℕ) → ended (answerOf r) (countOf r) (state (now (image .entry)) pool ws) (buffers (now (scratch .exit)) [] (now (list .exit))) ≡ ends (list-reel (length (now (scratch .entry))) (length (now (list .entry))) reel) (state (now (image .entry)) pool ws) (buffers (now (scratch .entry)) [] (now (list .entry)))) ⌝ }
+{
+    let why = checks(
+        image,
+        Buffer::Absent,
+        Buffer::Words(scratch.len()),
+        Buffer::Absent,
+    );
+    if refuses(why) {
+        return Answer::Refused(why);
+    }
+    let g = geometry_in(image);
+    let slot = slot_of(image, g, reel);
+    if g.slots <= slot {
+        clear_map(scratch);
+        return Answer::Refused(Refusal::NoReel);
+    }
+    match list_tree(image, scratch, list, g, slot) {
+        Listing::Malformed => Answer::Refused(Refusal::Malformed),
+        Listing::Short => Answer::Refused(Refusal::ListShort),
+        Listing::Listed(frames) => Answer::Done(frames as u64),
+    }
+}

@@ -1,0 +1,54 @@
+-- What crates above cite: the proof of specs/Laws.antt.
+use mathlib.Core.Path.{_≡_, refl, sym, _∙_, ap}
+use mathlib.Core.Bool.{Bool, true, false, cond}
+use mathlib.Core.List.{List, _++_}
+use Prim.Native.Nat.{ℕ, _*_, _≤_}
+use native.Mathlib.Omega.{arith}
+use lib.ListN.{length, drop, length-append, length-drop}
+use lib.Dec.{eqb}
+use Rattle.memory.specs.Script.{encode}
+use Rattle.memory.proofs.Laws.{script-laws}
+use Rattle.tree.specs.Memory.{written, segmented}
+use Rattle.tree.specs.Subtree.{listed}
+use Rattle.book.specs.State.{State, Operation, list, Work, leaving}
+use Rattle.book.specs.Refusals.{refusal}
+use Rattle.book.specs.Checks.{refusals}
+use Rattle.book.specs.Perform.{perform, granted}
+use Rattle.operations.specs.Ends.{Buffers, Ends, ended, handed, found, ends}
+use Rattle.reelbook.specs.Laws.{CountsScript, CountLaws}
+
+-- a buffer that is as long with other words at its start in place of its own has room for them
+at-start : (n : ℕ) (xs buffer : List ℕ) → length xs ≡ n → length (xs ++ drop n buffer) ≡ length buffer → n ≤ length buffer
+at-start n xs buffer counted same =
+    let whole = length-append xs (drop n buffer) in
+    let rest = length-drop n buffer in
+    omega arith
+
+script-inside : (op : Operation) (s : State) (b : Buffers) {n k : ℕ} {s' : State} {b' : Buffers} → CountsScript op
+    → ended n k s' b' ≡ ends op s b → length (b' .script) ≡ length (b .script) → k ≤ length (b' .script)
+unfolding ends found written
+script-inside op s b counts e same =
+    let es = segmented (perform op s .work .script) in
+    let inside = at-start (2 * length es) (encode es) (b .script) (script-laws .length-encode es) (sym (ap (λ (x : Ends). length (x .buffers .script)) e) ∙ same) in
+    rw (ap (λ (x : Ends). x .count) e ∙ counts (perform op s .work), same) inside
+
+-- a refusal hands back nothing
+granted-or-left : (t : Bool) (w : Work) (s : State) → w .value ≡ length (w .listing) → cond t w (leaving s) .value ≡ length (cond t w (leaving s) .listing)
+granted-or-left true w s e = e
+granted-or-left false w s e = refl
+
+-- List's count is that of its frames, or 0 of none where it is refused
+counts-frames : (scratch room reel : ℕ) (s : State) → let w = perform (list scratch room reel) s .work in w .value ≡ length (w .listing)
+unfolding perform granted
+counts-frames scratch room reel s = granted-or-left (eqb (refusal (refusals (list scratch room reel) s)) 0) (granted (list scratch room reel) s) _ refl
+
+list-inside : (scratch room reel : ℕ) (s : State) (b : Buffers) {n k : ℕ} {s' : State} {b' : Buffers}
+    → ended n k s' b' ≡ ends (list scratch room reel) s b → length (b' .list) ≡ length (b .list) → k ≤ length (b' .list)
+unfolding ends found listed
+list-inside scratch room reel s b e same =
+    let fs = perform (list scratch room reel) s .work .listing in
+    let inside = at-start (length fs) fs (b .list) refl (sym (ap (λ (x : Ends). length (x .buffers .list)) e) ∙ same) in
+    rw (ap (λ (x : Ends). x .count) e ∙ counts-frames scratch room reel s, same) inside
+
+pub count-laws : CountLaws
+count-laws = record { script-inside = script-inside; list-inside = list-inside }

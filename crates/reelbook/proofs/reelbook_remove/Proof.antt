@@ -1,0 +1,20 @@
+use mathlib.Core.Path.{sym}
+use borrow.Author.Needs.{needs}
+use Rattle.reelbook.proofs.reelbook_remove.Statement.{statement}
+use Rattle.reelbook.proofs.reelbook_remove.Tie as tie
+
+returns : tie.Need-returns
+returns c pool =
+    let done = c .before .before .before .before in
+    rw (c .hand-over .ensures .0, c .hand-over .ensures .1)
+    (done .remove .ensures pool (done .before .before .before .before .before .args .heads .now) (sym (done .before .before .read-heads .ensures)))
+
+pub reelbook-remove-spec : {M : Type 1} → statement M
+reelbook-remove-spec =
+    tie.close
+    (tie.spec
+    (λ c κs. search needs)
+    (λ c κs. search needs)
+    (λ c κs. search needs)
+    (λ c. search needs)
+    returns)

@@ -1,6 +1,14 @@
 # make run: prove and build the bench program, and run it on standard input, or on the paper's Case A where nothing is given: at a
-# terminal, from /dev/null, or with standard input closed. make test: the whole gate.
-.PHONY: run test
+# terminal, from /dev/null, or with standard input closed. make test: the whole gate. make lib: build/libreelbook.a for a driver.
+# driver/, tests/ and bench/ have targets of their own: make tool, check-tool, check-header, fuzz, faults, bench.
+.PHONY: run lib test
+
+CC ?= cc
+CXX ?= c++
+CFLAGS ?= -O2
+WARNINGS = -std=c99 -Wall -Wextra -Wpedantic -Wshadow -Wconversion -Werror
+LIBRARY = build/libreelbook.a
+RATTLE_SOURCES = crates.txt $(shell find crates/memory crates/tree crates/walks crates/book crates/operations crates/reelbook -name '*.rt' -o -name '*.antt')
 
 run:
 	@mkdir -p target
@@ -10,6 +18,15 @@ run:
 	else \
 	    ./target/bin/bookrun; \
 	fi
+
+lib: $(LIBRARY)
+
+$(LIBRARY): $(RATTLE_SOURCES)
+	@mkdir -p build
+	@rt staticlib reelbook >build/library.log 2>&1 </dev/null || { cat build/library.log; exit 1; }
+	cp target/staticlib/libreelbook.a $@
+
+-include driver/build.mk tests/build.mk bench/build.mk
 
 test:
 	rt fmt --check

@@ -1,0 +1,149 @@
+/* The reel book: sets of 64-bit frames per reel, in a suffix bit tree in persistent memory.
+ *
+ * Every function takes its arguments as words. A slice is a pointer and a length in words; no buffer may overlap another, and nobody
+ * else writes image, map or heads meanwhile. A function answers REELBOOK_DONE or the number of its refusal: its refusals are tried in
+ * the sequence given with it, the first that applies is the answer, the count handed back is then 0, and nothing lent has changed
+ * except as said. Contents and lengths may be anything: no call is out of bounds or without end.
+ *
+ * A function with a script stores nothing to the image. It writes entries of two words to the script's start and their number of words
+ * to *used; the caller carries them out in their sequence before the next call: a store (word index, value) is one aligned 8-byte
+ * store to that word of the image, a barrier (REELBOOK_BARRIER, 0) returns when every store before it is lasting. What the operation
+ * does is lasting when its last barrier has passed; after a power failure before that, recovery finds all of it or nothing of it.
+ * Map and heads have changed when the function returns, and are lost in a power failure.
+ *
+ * docs/DRIVER.md shows the whole loop. */
+#ifndef REELBOOK_H
+#define REELBOOK_H
+
+#include <stddef.h>
+#include <stdint.h>
+
+#ifdef __cplusplus
+extern "C" {
+#endif
+
+/* Answers. */
+enum {
+    REELBOOK_DONE = 0,
+    REELBOOK_BAD_IMAGE = 1,    /* the image's length, its number of slots or its number of nodes is wrong */
+    REELBOOK_BAD_EDITION = 2,  /* the image is of another edition */
+    REELBOOK_BAD_BUFFER = 3,   /* map or scratch map is not of the map's length, or the script is too short */
+    REELBOOK_MALFORMED = 4,    /* the tree is malformed, or a head's node or place is outside */
+    REELBOOK_NO_REEL = 5,      /* no such reel */
+    REELBOOK_ALREADY_OPEN = 6, /* the reel is open already */
+    REELBOOK_NO_SLOT = 7,      /* no empty reel slot */
+    REELBOOK_NO_RUN = 8,       /* not enough adjacent free nodes */
+    REELBOOK_FRAME_HELD = 9,   /* the reel holds the frame already */
+    REELBOOK_NOT_HELD = 10,    /* the reel does not hold the frame */
+    REELBOOK_BAD_HEAD = 11,    /* no such head */
+    REELBOOK_HEAD_STATE = 12,  /* the head is in another state than the operation needs */
+    REELBOOK_BUSY = 13,        /* a head that is not idle is about this reel */
+    REELBOOK_LIST_SHORT = 14   /* the list has too little room */
+};
+
+/* Scripts. No operation writes more words than the minimum that it asks for. */
+#define REELBOOK_BARRIER UINT64_MAX
+#define REELBOOK_SCRIPT_WORDS 50
+
+/* The image: word 0 is the edition, 1 the number of slots, 2 that of nodes. */
+#define REELBOOK_EDITION 1
+#define REELBOOK_EDITION_AT 0
+#define REELBOOK_SLOTS_AT 1
+#define REELBOOK_NODES_AT 2
+#define REELBOOK_HEADER_WORDS 64
+#define REELBOOK_MAX_SLOTS 4096
+#define REELBOOK_MAX_NODES 65536
+
+/* Slots and nodes, for tools that only read. A root or next word has a node's number plus 1, or 0 for none. */
+#define REELBOOK_SLOT_WORDS 2
+#define REELBOOK_SLOT_REEL 0
+#define REELBOOK_SLOT_ROOT 1
+#define REELBOOK_NODE_WORDS 80
+#define REELBOOK_NODE_NEXT 0
+#define REELBOOK_NODE_LOCATE 1
+#define REELBOOK_NODE_SET 2
+#define REELBOOK_NODE_LEVEL 3
+#define REELBOOK_NODE_SIZE 4
+#define REELBOOK_NODE_FINGERPRINTS 8
+#define REELBOOK_NODE_FRAMES 16
+
+/* Head records: five words for each head. Any other state is read as idle; a record written idle is all 0. */
+#define REELBOOK_HEADS 2
+#define REELBOOK_HEAD_WORDS 5
+#define REELBOOK_HEAD_STATE_AT 0
+#define REELBOOK_HEAD_SLOT_AT 1
+#define REELBOOK_HEAD_NODE_AT 2
+#define REELBOOK_HEAD_PLACE_AT 3
+#define REELBOOK_HEAD_FRAME_AT 4
+enum { REELBOOK_IDLE = 0, REELBOOK_CLAIMED = 1, REELBOOK_FILLED = 2 };
+#define REELBOOK_HEADS_WORDS (REELBOOK_HEADS * REELBOOK_HEAD_WORDS)
+
+/* The words of an image, for numbers within the maxima. */
+static inline size_t reelbook_image_words(uint64_t slots, uint64_t nodes) {
+    return (size_t)(REELBOOK_HEADER_WORDS + REELBOOK_SLOT_WORDS * slots + REELBOOK_NODE_WORDS * nodes);
+}
+
+/* The words of its pool map, and of a scratch map: bit n % 64 of word n / 64 is 1 if node n is used. */
+static inline size_t reelbook_map_words(uint64_t nodes) {
+    return (size_t)((nodes + 63) / 64);
+}
+
+/* Makes the image anew. Refusals 1, 3. Writes the image's header and roots itself, clears the map, makes the heads idle; lasting when
+ * the caller has passed a barrier. Not safe against a power failure before that: then format again. */
+uint64_t reelbook_format(uint64_t *image, size_t image_words, uint64_t *map, size_t map_words, uint64_t heads[REELBOOK_HEADS_WORDS],
+                         uint64_t slots, uint64_t nodes);
+
+/* After power-up, before anything else, and again until it answers 0. Refusals 1, 2, 3, 4; after 4 the image is as it was and the map
+ * all 0. Stores to the image itself, each word whole; builds the map, makes the heads idle; open claims are lost. It has ended when the
+ * caller has passed a barrier; a power failure before that does no harm. */
+uint64_t reelbook_recover(uint64_t *image, size_t image_words, uint64_t *map, size_t map_words, uint64_t heads[REELBOOK_HEADS_WORDS]);
+
+/* Opens a reel. Refusals 1, 2, 3, 6, 7, 8. Marks a node in the map. */
+uint64_t reelbook_open(const uint64_t *image, size_t image_words, uint64_t *map, size_t map_words, uint64_t *script,
+                       size_t script_words, uint64_t reel, uint64_t *used);
+
+/* Takes a place for a frame. Refusals 1, 2, 3, 11, 12 unless the head is idle, 5, 13, 4, 9, 8. The head is claimed; new nodes are marked in
+ * the map. The frame is not held before its commit, and a claim that a power failure cuts short leaves no frame. */
+uint64_t reelbook_claim(const uint64_t *image, size_t image_words, uint64_t *map, size_t map_words,
+                        uint64_t heads[REELBOOK_HEADS_WORDS], uint64_t *script, size_t script_words, uint64_t head, uint64_t reel,
+                        uint64_t frame, uint64_t *used);
+
+/* Writes the frame to the claimed place. Refusals 1, 2, 3, 11, 12 unless the head is claimed, 4. The head is filled. */
+uint64_t reelbook_fill(const uint64_t *image, size_t image_words, uint64_t heads[REELBOOK_HEADS_WORDS], uint64_t *script,
+                       size_t script_words, uint64_t head, uint64_t *used);
+
+/* Makes the frame a member of its reel: it is held from this script's barrier on. Refusals 1, 2, 3, 11, 12 unless the head is filled, 4. The head is idle. */
+uint64_t reelbook_commit(const uint64_t *image, size_t image_words, uint64_t heads[REELBOOK_HEADS_WORDS], uint64_t *script,
+                         size_t script_words, uint64_t head, uint64_t *used);
+
+/* Gives the claimed place back. Refusals 1, 2, 3, 11, 12 if the head is idle, 4. The head is idle. */
+uint64_t reelbook_abandon(const uint64_t *image, size_t image_words, uint64_t heads[REELBOOK_HEADS_WORDS], uint64_t *script,
+                          size_t script_words, uint64_t head, uint64_t *used);
+
+/* Takes a frame out of its reel. Refusals 1, 2, 3, 5, 13, 4, 10. */
+uint64_t reelbook_remove(const uint64_t *image, size_t image_words, const uint64_t heads[REELBOOK_HEADS_WORDS], uint64_t *script,
+                         size_t script_words, uint64_t reel, uint64_t frame, uint64_t *used);
+
+/* Does a reel hold a frame? 1 or 0 in *yes. Refusals 1, 2, 5, 4. */
+uint64_t reelbook_has(const uint64_t *image, size_t image_words, uint64_t reel, uint64_t frame, uint64_t *yes);
+
+/* Writes a reel's frames to the list's start, each once, and their number to *count. Refusals 1, 2, 3, 5, 4, 14; nothing is written to the list then.
+ * The scratch map is all 0 after any end but 1, 2 or 3. */
+uint64_t reelbook_list(const uint64_t *image, size_t image_words, uint64_t *scratch, size_t scratch_words, uint64_t *list,
+                       size_t list_words, uint64_t reel, uint64_t *count);
+
+/* Takes a reel out with all its frames; its nodes become free in the map. Refusals 1, 2, 3, 5, 13, 4. The scratch map is all 0 after any
+ * end but 1, 2 or 3. */
+uint64_t reelbook_retire(const uint64_t *image, size_t image_words, uint64_t *map, size_t map_words,
+                         const uint64_t heads[REELBOOK_HEADS_WORDS], uint64_t *scratch, size_t scratch_words, uint64_t *script,
+                         size_t script_words, uint64_t reel, uint64_t *used);
+
+/* Makes a script's stores on an image, barriers skipped: not for an image that must outlast a power failure meanwhile. Refusals 1; 3 if the
+ * script is odd in length or an entry is neither a barrier nor a store inside the image, with nothing written. */
+uint64_t reelbook_apply(uint64_t *image, size_t image_words, const uint64_t *script, size_t script_words);
+
+#ifdef __cplusplus
+}
+#endif
+
+#endif

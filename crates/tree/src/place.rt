@@ -7,7 +7,6 @@ ghost use Rattle.memory.specs.Search.{first};
 ghost use Rattle.tree.specs.Layout.{Sized, setAt, fingerprintsAt};
 ghost use Rattle.tree.specs.Fingerprint.{editionOne, fingerprint};
 ghost use Rattle.tree.specs.Lookup.{matches, foundAt};
-use crate::fingerprint::fingerprint;
 use crate::layout::Geometry;
 use memory::words::byte_of;
 use memory::words::is_set;
@@ -62,12 +61,12 @@ fn found_in_word(
     k
 }
 
-// The lowest place of a node of the pool that holds the frame, or 64: a step for each fingerprint word.
-pub fn found_place(image: &[u64], g: Geometry, n: usize, frame: u64) -> usize
-    requires { ⌜ Sized (now image) g × (n < g .nodes) ⌝ }
+// The lowest place of a node of the pool that holds the frame, or 64: a step for each fingerprint word. The caller has the frame's
+// fingerprint, once for all nodes of a path.
+pub fn found_place(image: &[u64], g: Geometry, n: usize, frame: u64, print: u64) -> usize
+    requires { ⌜ Sized (now image) g × (n < g .nodes) × (print ≡ fingerprint editionOne frame) ⌝ }
     ensures { λ r. ⌜ r ≡ foundAt editionOne g (reads (now (image .entry))) frame n ⌝ }
 {
-    let print = fingerprint(frame);
     let set = image[64 + 2 * g.slots + 80 * n + 2];
     let mut j = 0;
     while j < 8 {

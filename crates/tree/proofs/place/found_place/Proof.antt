@@ -15,14 +15,14 @@ abbrev μ-loop : tie.MeasureT-loop
 returns : tie.Need-returns Inv-loop μ-loop
 returns c =
     let l = c .before .before .before in
-    let a = l .before .before .before .before .before .args in
+    let a = l .before .before .before .before .args in
     found-in (a .g) (readsWords (a .image .now)) (a .frame) (a .n) (l .loop .j) (c .before .found-in-word .result) (omega arith) (c .if1 .taken)
     (l .loop .inv .1) (c .before .found-in-word .ensures)
 
 loop-again : tie.Need-loop-again Inv-loop μ-loop
 loop-again c =
     let l = c .before .before .before in
-    let a = l .before .before .before .before .before .args in (
+    let a = l .before .before .before .before .args in (
       search needs,
       past-word (a .g) (readsWords (a .image .now)) (a .frame) (a .n) (l .loop .j) (c .before .found-in-word .result) (omega arith)
           (l .loop .inv .1) (c .before .found-in-word .ensures),
@@ -37,7 +37,6 @@ found-place-spec =
     (tie.spec
     Inv-loop
     μ-loop
-    (λ c κs. search needs)
     (λ c. search needs)
     (λ c. search needs)
     (λ c. search needs)

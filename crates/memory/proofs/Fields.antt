@@ -105,6 +105,10 @@ changed-bit w k b j h n =
     test-bit (withField w k 1 b) j w j
     (field-other w k 1 b j 1 h (elim (beside j k n) [ inl l ↦ inl (omega arith) | inr l ↦ inr (omega arith) ]))
 
+pub bit-lt : (w k : ℕ) → bit w k < 2
+unfolding bit field
+bit-lt w k = omega arith
+
 pub bit-zero : (w : ℕ) → bit w 0 ≡ w % 2
 unfolding bit field
 bit-zero w = ap (λ (x : ℕ). x % 2) (div-one w)

@@ -4,6 +4,7 @@ mod Fields
 mod Masks
 mod First
 mod Bitmap
+mod Trailing
 mod Written
 mod Passes
 mod Stores

@@ -5,6 +5,7 @@ mod Masks
 mod First
 mod Bitmap
 mod Trailing
+mod Bytes
 mod Written
 mod Passes
 mod Stores

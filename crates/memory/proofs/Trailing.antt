@@ -1,14 +1,18 @@
 -- Trailing zeros are the one search, for a word's lowest set bit; those of the complement, for its lowest clear bit.
 use mathlib.Core.Path.{_≡_, refl, sym, _∙_, ap, ap₂}
-use mathlib.Core.Bool.{not, cond}
+use mathlib.Core.Bool.{true, not, cond}
+use mathlib.Core.Logic.{_≢_}
 use Prim.Native.Nat.{ℕ, zero, suc, _-_, _*_, _/_, _%_, _^_, _≤_, _<_}
-use native.Mathlib.Nat.{pow-suc}
+use native.Mathlib.Nat.{pow-suc, zero-mul, one-mul}
 use native.Mathlib.Omega.{arith}
+use native.Mathlib.Decide.{decLt}
 use lib.Dec.{eqb}
 use lib.Count.{trailingZeros, under}
-use Rattle.memory.specs.Words.{bit, isSet}
+use lib.Pow.{pow-pos}
+use borrow.Author.Tests.{eqb-true}
+use Rattle.memory.specs.Words.{field, withField, bit, isSet, withoutBit}
 use Rattle.memory.specs.Search.{first}
-use Rattle.memory.proofs.Fields.{bit-zero, bit-suc, bit-lt}
+use Rattle.memory.proofs.Fields.{bit-zero, bit-suc, bit-lt, bit-laws, no-bit}
 use Rattle.memory.proofs.First.{first-laws}
 use Rattle.memory.proofs.Bitmap.{clearIn}
 
@@ -30,6 +34,24 @@ trailing-first (suc k) w =
     under-bit (w % 2) (trailingZeros k (w / 2)) (omega arith)
     ∙ ap₂ (λ (d t : ℕ). cond (eqb d 1) 0 (suc t)) (sym (bit-zero w))
     (trailing-first k (w / 2) ∙ first-laws (isSet (w / 2)) k .equal-tests _ (λ i l. ap (λ (d : ℕ). eqb d 1) (sym (bit-suc w i))))
+
+-- a word other than 0 has a lowest set bit
+module _ (w : ℕ) (o : w ≢ 0) (h : w < 2 ^ 64) where
+  pub lowest-in : trailingZeros 64 w < 64
+  lowest-in = elim (decLt (trailingZeros 64 w) 64) [
+    | yes l ↦ l
+    | no l ↦ absurd (o (bit-laws .same-word w 0 64 h (omega arith)
+        (λ k b. first-laws (isSet w) 64 .none-before k (omega (arith, trailing-first 64 w)) ∙ sym (no-bit k))))
+  ]
+
+  pub lowest-set : isSet w (trailingZeros 64 w) ≡ true
+  lowest-set = rw (trailing-first 64 w) (first-laws (isSet w) 64 .holds (rw (← trailing-first 64 w) lowest-in))
+
+  pub lowest-taken : withoutBit w (trailingZeros 64 w) < w
+  unfolding withoutBit withField isSet bit
+  lowest-taken =
+      let t : ℕ = trailingZeros 64 w in
+      rw (eqb-true (field w t 1) 1 lowest-set, one-mul (2 ^ t), zero-mul (2 ^ t)) (omega (arith, pow-pos t))
 
 -- the bits of `!w`
 odd-not : (p w : ℕ) → w < p * 2 → (p * 2 - 1 - w) % 2 ≡ 1 - w % 2

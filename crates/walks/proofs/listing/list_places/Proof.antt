@@ -6,8 +6,9 @@ use borrow.Author.Needs.{needs}
 use lib.Count.{trailingZeros}
 use Rattle.memory.proofs.Laws.{bit-laws}
 use Rattle.tree.specs.Layout.{nodeAt}
+use Rattle.tree.proofs.Bits.{lowest-in}
 use Rattle.walks.proofs.Listings.{Writing, starts, ends, one-more}
-use Rattle.walks.proofs.ListingsPlaces.{lowest-in, framesOf, frames-in, frames-none, frames-next}
+use Rattle.walks.proofs.ListingsPlaces.{framesOf, frames-in, frames-none, frames-next}
 use Rattle.walks.proofs.listing.list_places.Statement.{statement}
 use Rattle.walks.proofs.listing.list_places.Tie as tie
 

@@ -19,7 +19,7 @@ use crate::visit::Check;
 use crate::visit::visit_slot;
 use tree::layout::Geometry;
 use tree::pool_map::clear_map;
-use tree::pool_map::is_used;
+use tree::pool_map::next_used;
 use tree::reels::is_filled;
 use tree::reels::slot_of;
 
@@ -46,26 +46,19 @@ fn visit_slots(image: &[u64], pool: &mut [u64], g: Geometry) -> bool
 }
 
 // Sets each locate word of a marked node to the node's set word where the two differ. The store in this loop is the
-// only one that recovery makes to an image, and it comes once to each such word. A word of the map that marks no node is
-// passed over whole.
+// only one that recovery makes to an image, and it comes once to each such word: the nodes are taken in turn, rising.
 fn mend(image: &mut [u64], pool: &[u64], g: Geometry)
     requires { ⌜ Sized (now image) g × (length (now pool) ≡ mapWords g) ⌝ }
     ensures { λ _. ⌜ now (image .exit) ≡ mendedBelow g (now (pool .entry)) (now (image .entry)) (g .nodes) ⌝ }
 {
-    let mut n = 0;
+    let mut n = next_used(pool, 0, g.nodes);
     while n < g.nodes {
-        if n % 64 == 0 && pool[n / 64] == 0 {
-            n += 64;
-            continue;
+        let at = 64 + 2 * g.slots + 80 * n;
+        let set = image[at + 2];
+        if image[at + 1] != set {
+            image[at + 1] = set;
         }
-        if is_used(pool, n) {
-            let at = 64 + 2 * g.slots + 80 * n;
-            let set = image[at + 2];
-            if image[at + 1] != set {
-                image[at + 1] = set;
-            }
-        }
-        n += 1;
+        n = next_used(pool, n + 1, g.nodes);
     }
 }
 

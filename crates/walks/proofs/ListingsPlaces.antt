@@ -51,7 +51,7 @@ trailing-lowest (suc k) n = lowest-step n k (trailingZeros k (n / 2)) (n % 2) re
 unfoldable pub places : ℕ → List ℕ
 places w = keep (isSet w) (upTo 64)
 
-places-none : (w : ℕ) → w ≡ 0 → places w ≡ []
+pub places-none : (w : ℕ) → w ≡ 0 → places w ≡ []
 unfolding places
 places-none w z = rw z (keep-none (isSet 0) (upTo 64) (λ k x. no-bit k))
 
@@ -62,7 +62,7 @@ lowest-in w o h = elim (decLt (trailingZeros 64 w) 64) [
   | no l ↦ absurd (o (bit-laws .same-word w 0 64 h (omega arith) (λ k b. trailing-lowest 64 w .none-below k (omega arith) ∙ sym (no-bit k))))
 ]
 
-places-next : (w : ℕ) → w ≢ 0 → w < 2 ^ 64 → places w ≡ trailingZeros 64 w ∷ places (withoutBit w (trailingZeros 64 w))
+pub places-next : (w : ℕ) → w ≢ 0 → w < 2 ^ 64 → places w ≡ trailingZeros 64 w ∷ places (withoutBit w (trailingZeros 64 w))
 unfolding places upTo
 places-next w o h =
     let t = trailingZeros 64 w in

@@ -1,5 +1,6 @@
 pub mod Answers
 pub mod Descent
 pub mod Walk
+pub mod Settled
 pub mod Marked
 pub mod Laws

@@ -16,14 +16,16 @@ pub fn is_filled(image: &[u64], g: Geometry, s: usize) -> bool
     image[64 + 2 * s + 1] != 0
 }
 
-// Is slot s filled with this reel's number? An empty slot's number means nothing.
+// Is slot s filled with this reel's number? An empty slot's number means nothing. The number comes first: it
+// is rarely the reel's.
 pub fn is_reel(image: &[u64], g: Geometry, s: usize, reel: u64) -> bool
     requires { ⌜ Sized (now image) g × (s < g .slots) ⌝ }
     ensures { λ r. ⌜ r ≡ holds (is (filled (reads (now (image .entry))) s) and eq (reads (now (image .entry)) (reelAt s)) reel) ⌝ }
 {
-    let has_root = is_filled(image, g, s);
-    let has_number = image[64 + 2 * s] == reel;
-    has_root & has_number
+    if image[64 + 2 * s] != reel {
+        return false;
+    }
+    is_filled(image, g, s)
 }
 
 // A reel's slot: the lowest that is filled with its number; the number of slots where there is none.

@@ -6,7 +6,7 @@ ghost use Rattle.memory.specs.Words.{reads};
 ghost use Rattle.tree.specs.Layout.{Sized};
 ghost use Rattle.tree.specs.Lists.{every};
 ghost use Rattle.tree.specs.Path.{levels, bitsTo};
-ghost use Rattle.tree.specs.Fingerprint.{editionOne, fingerprint};
+ghost use Rattle.tree.specs.Fingerprint.{editionOne, theTable, fingerprint};
 ghost use Rattle.tree.specs.Slots.{Filled};
 ghost use Rattle.tree.specs.Subtree.{tree};
 ghost use Rattle.tree.specs.Check.{isSoundTree, inPlace};
@@ -14,7 +14,8 @@ ghost use Rattle.walks.specs.Settled.{Formed, absentBelow, settledAt, se
 use crate::descent::Step;
 use crate::descent::step_from;
 use memory::words::without_bit;
-use tree::fingerprint::fingerprint;
+use tree::fingerprint::fold;
+use tree::fingerprint::table;
 use tree::layout::Geometry;
 use tree::path::fanout;
 use tree::place::found_place;
@@ -44,6 +45,7 @@ fn absent_below(image: &[u64], g: Geometry, left: u64, n: usize, frame: u64, pri
 // frames on their path have the low bits that the way to the node reads: the suffix, a number below the unit.
 fn settled_at(
     image: &[u64],
+    table: &[u8],
     g: Geometry,
     left: u64,
     n: usize,
@@ -51,14 +53,14 @@ fn settled_at(
     unit: u64,
     p: usize,
 ) -> bool
-    requires { ⌜ Sized (now image) g × Formed g (reads (now image)) left n × (unit ≡ 2 ^ bitsTo (levels - left)) × (p < 64) ⌝ }
+    requires { ⌜ Sized (now image) g × Formed g (reads (now image)) left n × (unit ≡ 2 ^ bitsTo (levels - left)) × (p < 64) × (now table ≡ theTable) ⌝ }
     ensures { λ r. ⌜ r ≡ settledAt g (reads (now (image .entry))) left (levels - left) n suffix p ⌝ }
 {
     let frame = image[64 + 2 * g.slots + 80 * n + 16 + p];
     if frame & (unit - 1) != suffix {
         return false;
     }
-    let print = fingerprint(frame);
+    let print = fold(table, frame);
     if found_place(image, g, n, frame, print) != p {
         return false;
     }
@@ -66,15 +68,23 @@ fn settled_at(
 }
 
 // Is every frame held in a node settled?
-fn settled_node(image: &[u64], g: Geometry, left: u64, n: usize, suffix: u64, unit: u64) -> bool
-    requires { ⌜ Sized (now image) g × Formed g (reads (now image)) left n × (unit ≡ 2 ^ bitsTo (levels - left)) ⌝ }
+fn settled_node(
+    image: &[u64],
+    table: &[u8],
+    g: Geometry,
+    left: u64,
+    n: usize,
+    suffix: u64,
+    unit: u64,
+) -> bool
+    requires { ⌜ Sized (now image) g × Formed g (reads (now image)) left n × (unit ≡ 2 ^ bitsTo (levels - left)) × (now table ≡ theTable) ⌝ }
     ensures { λ r. ⌜ r ≡ settledNode g (reads (now (image .entry))) left (levels - left) n suffix ⌝ }
 {
     // The set bits of the places not yet tested.
     let mut rest = image[64 + 2 * g.slots + 80 * n + 2];
     while rest != 0 {
         let p = u64::trailing_zeros(rest);
-        if !settled_at(image, g, left, n, suffix, unit, p as usize) {
+        if !settled_at(image, table, g, left, n, suffix, unit, p as usize) {
             return false;
         }
         rest = without_bit(rest, p);
@@ -83,11 +93,19 @@ fn settled_node(image: &[u64], g: Geometry, left: u64, n: usize, suffix: u64, un
 }
 
 // Is every frame held in a node and in all below it, levels left, settled?
-fn settled_tree(image: &[u64], g: Geometry, left: u64, n: usize, suffix: u64, unit: u64) -> bool
-    requires { ⌜ Sized (now image) g × Formed g (reads (now image)) left n × (unit ≡ 2 ^ bitsTo (levels - left)) × (suffix < unit) ⌝ }
+fn settled_tree(
+    image: &[u64],
+    table: &[u8],
+    g: Geometry,
+    left: u64,
+    n: usize,
+    suffix: u64,
+    unit: u64,
+) -> bool
+    requires { ⌜ Sized (now image) g × Formed g (reads (now image)) left n × (unit ≡ 2 ^ bitsTo (levels - left)) × (suffix < unit) × (now table ≡ theTable) ⌝ }
     ensures { λ r. ⌜ r ≡ settledTree g (reads (now (image .entry))) left (levels - left) n suffix ⌝ }
 {
-    if !settled_node(image, g, left, n, suffix, unit) {
+    if !settled_node(image, table, g, left, n, suffix, unit) {
         return false;
     }
     let next = image[64 + 2 * g.slots + 80 * n] as usize;
@@ -96,6 +114,7 @@ fn settled_tree(image: &[u64], g: Geometry, left: u64, n: usize, suffix: u64, un
     }
     settled_group(
         image,
+        table,
         g,
         left - 1,
         next - 1,
@@ -108,6 +127,7 @@ fn settled_tree(image: &[u64], g: Geometry, left: u64, n: usize, suffix: u64, un
 // The same of a group of children, whose suffixes are a unit apart.
 fn settled_group(
     image: &[u64],
+    table: &[u8],
     g: Geometry,
     left: u64,
     start: usize,
@@ -115,13 +135,13 @@ fn settled_group(
     suffix: u64,
     unit: u64,
 ) -> bool
-    requires { ⌜ Sized (now image) g × ((c : ℕ) → c < count → Formed g (reads (now image)) left (start + c)) × (count * unit ≡ 2 ^ bitsTo (levels - left)) × (suffix < unit) ⌝ }
+    requires { ⌜ Sized (now image) g × ((c : ℕ) → c < count → Formed g (reads (now image)) left (start + c)) × (count * unit ≡ 2 ^ bitsTo (levels - left)) × (suffix < unit) × (now table ≡ theTable) ⌝ }
     ensures { λ r. ⌜ r ≡ settledGroup g (reads (now (image .entry))) left (levels - left) start count unit suffix ⌝ }
 {
     let mut own = suffix;
     let mut c = 0;
     while c < count {
-        if !settled_tree(image, g, left, start + c, own, count as u64 * unit) {
+        if !settled_tree(image, table, g, left, start + c, own, count as u64 * unit) {
             return false;
         }
         own += unit;
@@ -136,5 +156,6 @@ pub fn frames_in_place(image: &[u64], g: Geometry, slot: usize) -> bool
     ensures { λ r. ⌜ r ≡ every (inPlace editionOne g (reads (now (image .entry))) slot) (tree g (reads (now (image .entry))) slot) ⌝ }
 {
     let root = image[64 + 2 * slot + 1] as usize;
-    settled_tree(image, g, 32, root - 1, 0, 1)
+    let table = table();
+    settled_tree(image, &table, g, 32, root - 1, 0, 1)
 }

@@ -15,12 +15,12 @@ use Rattle.walks.proofs.frames.settled_node.Statement.{statement}
 use Rattle.walks.proofs.frames.settled_node.Tie as tie
 
 abbrev Inv-loop : tie.InvT-loop
-Inv-loop image g left n suffix unit rest₀ rest =
+Inv-loop image table g left n suffix unit rest₀ rest =
     let m = reads image in
     (rest < 2 ^ 64) × (every (settledAt g m left (levels - left) n suffix) (places rest) ≡ settledNode g m left (levels - left) n suffix)
 
 abbrev μ-loop : tie.MeasureT-loop
-μ-loop image g left n suffix unit rest₀ rest = length (places rest)
+μ-loop image table g left n suffix unit rest₀ rest = length (places rest)
 
 inside : (c : tie.Start Inv-loop μ-loop) → c .args .n < c .args .g .nodes
 inside c = known-facts _ _ (c .pre .1) .inside
@@ -37,12 +37,12 @@ settled-node-spec =
     μ-loop
     (λ c. search needs)
     (λ c. search needs)
-    (λ c. search (needs, inside (c .before .before)))
-    (λ c. search (needs, inside (c .before .before)))
-    (λ c. search (needs, inside (c .before .before)))
-    (λ c. search (needs, inside (c .before .before)))
     (λ c. search (needs, inside (c .before .before .before)))
-    (λ c. (c .shared-slice-known2 .given _ .fits, sym (settled-places _ _ _ _ _ _)))
+    (λ c. search (needs, inside (c .before .before .before)))
+    (λ c. search (needs, inside (c .before .before .before)))
+    (λ c. search (needs, inside (c .before .before .before)))
+    (λ c. search (needs, inside (c .before .before .before .before)))
+    (λ c. (c .shared-slice-known3 .given _ .fits, sym (settled-places _ _ _ _ _ _)))
     (λ c. search (needs, low c))
     (λ c κs. search (needs, low c))
     (λ c. let l = c .before .before .before .loop in

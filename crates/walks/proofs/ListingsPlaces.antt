@@ -28,11 +28,11 @@ frames-in g image n = refl
 
 -- ---- a word's set bits, from the lowest on
 
-places-none : (w : ℕ) → w ≡ 0 → setPlaces w ≡ []
+pub places-none : (w : ℕ) → w ≡ 0 → setPlaces w ≡ []
 unfolding setPlaces
 places-none w z = rw z (keep-none (isSet 0) (upTo 64) (λ k x. no-bit k))
 
-places-next : (w : ℕ) → w ≢ 0 → w < 2 ^ 64 → setPlaces w ≡ trailingZeros 64 w ∷ setPlaces (withoutBit w (trailingZeros 64 w))
+pub places-next : (w : ℕ) → w ≢ 0 → w < 2 ^ 64 → setPlaces w ≡ trailingZeros 64 w ∷ setPlaces (withoutBit w (trailingZeros 64 w))
 unfolding setPlaces upTo
 places-next w o h =
     let t = trailingZeros 64 w in

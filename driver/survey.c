@@ -1,0 +1,49 @@
+#include "survey.h"
+
+#include <stdlib.h>
+
+static void count_node(struct tally *t, const uint64_t *node) {
+    t->nodes++;
+    t->places += node[REELBOOK_NODE_SIZE];
+    t->located += (uint64_t)__builtin_popcountll(node[REELBOOK_NODE_LOCATE]);
+    t->frames += (uint64_t)__builtin_popcountll(node[REELBOOK_NODE_SET]);
+}
+
+static void visit(struct survey *s, struct survey_reel *r, const struct book *b, uint64_t number, unsigned level) {
+    const uint64_t *node = book_node(b, number);
+    count_node(&r->levels[level], node);
+    count_node(&r->total, node);
+    count_node(&s->total, node);
+    r->deepest = level > r->deepest ? level : r->deepest;
+    s->owners[number] = (uint32_t)(r - s->reels) + 1;
+    if (node[REELBOOK_NODE_NEXT] == 0)
+        return;
+    for (unsigned child = 0; child < survey_fanout(level); child++)
+        visit(s, r, b, node[REELBOOK_NODE_NEXT] - 1 + child, level + 1);
+}
+
+uint64_t survey_take(struct survey *s, const struct book *b) {
+    *s = (struct survey){.reels = calloc((size_t)b->file.slots, sizeof *s->reels),
+                         .owners = calloc((size_t)b->file.nodes, sizeof *s->owners)};
+    if (!s->reels || !s->owners) {
+        survey_free(s);
+        return BOOK_SYSTEM;
+    }
+    for (uint64_t slot = 0; slot < b->file.slots; slot++) {
+        const uint64_t *words = book_slot(b, slot);
+        if (words[REELBOOK_SLOT_ROOT] == 0)
+            continue;
+        struct survey_reel *r = &s->reels[s->count++];
+        r->reel = words[REELBOOK_SLOT_REEL];
+        r->slot = slot;
+        r->root = words[REELBOOK_SLOT_ROOT] - 1;
+        visit(s, r, b, r->root, 0);
+        s->deepest = r->deepest > s->deepest ? r->deepest : s->deepest;
+    }
+    return REELBOOK_DONE;
+}
+
+void survey_free(struct survey *s) {
+    free(s->reels);
+    free(s->owners);
+}

@@ -28,9 +28,9 @@ struct arguments {
 
 struct command {
     const char *name, *operands, *about;
-    int least, most;     /* operands */
-    unsigned options;    /* a bit for each that it has, besides --help */
-    const char *steady;  /* why it has no --crash-after, where that is to be said */
+    int least, most;    /* operands */
+    unsigned options;   /* a bit for each that it has, besides --help */
+    const char *steady; /* why it has no --crash-after, where that is to be said */
     int (*run)(const struct arguments *a);
 };
 

@@ -10,15 +10,15 @@ static uint64_t done_unless(int failed) {
     return failed ? BOOK_SYSTEM : REELBOOK_DONE;
 }
 
-/* The clean flag and the saved map, against a power failure between any two stores. Where the flag is lasting as 1, the saved map is
- * lasting and is the image's, and no place is claimed:
+/* The clean flag and the saved map, against a power failure between any two stores. Where the flag is lasting as 1, the saved map
+ * is lasting and is the image's, and no place is claimed.
  *   opening   flag 1: the map is loaded; flag 0; barrier; only then comes the first store to the image.
- *             flag 0: the saved map may be torn or of old, and is not read; recovery builds it from the image; barrier over the image.
+ *             flag 0: the saved map may be torn or old and is not read; recovery builds the map; barrier over the image.
  *   working   the flag is 0, whatever happens: the next opening recovers.
  *   closing   every head is idle, every script's last barrier has passed; the map is saved; barrier; flag 1; barrier.
- * The flag is one word, so a failure leaves it 0 or 1, and while its own barrier has not passed either is right: the map is lasting
- * before the flag can be 1, and the image is untouched before it is 0. Where closing is left out, as after a failed barrier, the next
- * opening recovers. */
+ * The flag is one word, so a failure leaves it 0 or 1, and while its own barrier has not passed either is right: the map is
+ * lasting before the flag can be 1, and the image is untouched before it is 0. Where closing is left out, as after a failed
+ * barrier, the next opening recovers. */
 static uint64_t set_clean_flag(struct book *b, uint64_t value) {
     medium_store(&b->medium, FILE_CLEAN_AT, value);
     return done_unless(medium_barrier(&b->medium));
@@ -49,7 +49,8 @@ static uint64_t write_book(const struct file *f, struct medium *m, const char *p
     medium_store(m, FILE_MAGIC_AT, 0);
     if (medium_barrier(m) != 0)
         return BOOK_SYSTEM;
-    uint64_t answer = reelbook_format(m->words + f->image_at, f->image_words, m->words + f->map_at, f->map_words, heads, f->slots, f->nodes);
+    uint64_t answer =
+        reelbook_format(m->words + f->image_at, f->image_words, m->words + f->map_at, f->map_words, heads, f->slots, f->nodes);
     if (answer != REELBOOK_DONE)
         return answer;
     memset(m->words, 0, FILE_PAGE_WORDS * sizeof *m->words);

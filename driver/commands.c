@@ -21,7 +21,7 @@ int begin(struct book *b, const struct arguments *a, enum book_mode mode) {
         return -1;
     }
     if (b->unclean && b->recovered && mode != BOOK_RECOVER)
-        say("%s: not closed cleanly: recovered, %zu locate words mended", path, b->mended);
+        say("%s: not closed cleanly; recovered, locate words mended: %zu", path, b->mended);
     return 0;
 }
 

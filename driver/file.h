@@ -27,8 +27,8 @@ void file_lay_out(struct file *f, uint64_t slots, uint64_t nodes);
 /* Opens a book's file and locks it, for this process alone if it is to be written. */
 uint64_t file_open(struct file *f, const char *path, int writable);
 
-/* Makes a file of the length that was laid out, all of it allocated, or takes an existing one if `force`; locks it. A file that was there
- * keeps its contents, and if this fails its length. *created says whether it was not there. */
+/* Makes a file of the length that was laid out, all of it allocated, or takes an existing one if `force`; locks it. A file that
+ * was there keeps its contents, and if this fails its length. *created says whether it was not there. */
 uint64_t file_create(struct file *f, const char *path, int force, int *created);
 
 /* Returns when the file's length and name are lasting. */

@@ -11,8 +11,8 @@ struct frames {
     char error[120]; /* why there is no next one, or empty */
 };
 
-/* Frames that are given as words, or, if there is none or just -, on standard input, separated by white space. 0, or -1 after a line
- * on standard error if a word is not a number. */
+/* Frames that are given as words, or, if there is none or just -, on standard input, separated by white space. 0, or -1 after a
+ * line on standard error if a word is not a number. */
 int frames_begin(struct frames *f, char **words, int count);
 
 /* 1 and the next frame, or 0 at the end, after an error and after an interrupt. */

@@ -16,20 +16,81 @@
 enum { ANY = 1 << 30 };
 
 static const struct command commands[] = {
-    {"format", "FILE --reels R --nodes N [--force]", "Makes a book with room for R reels and a pool of N nodes.", 1, 1,
-     BIT(OPTION_REELS) | BIT(OPTION_NODES) | BIT(OPTION_FORCE), "formatting is done on steady power", run_format},
-    {"open", "FILE REEL", "Opens a reel, without frames.", 2, 2, CRASHES, NULL, run_open},
-    {"add", "FILE REEL [FRAME..]", "Adds frames to a reel: those given, or, with none or -, those on standard input, separated by white space.",
-     2, ANY, CRASHES | BIT(OPTION_SKIP_HELD) | BIT(OPTION_PROGRESS), NULL, run_add},
-    {"remove", "FILE REEL FRAME..", "Removes frames from a reel: those given, or, with -, those on standard input.", 3, ANY, CRASHES, NULL,
-     run_remove},
-    {"has", "FILE REEL FRAME", "Says whether a reel holds a frame: yes or no.", 3, 3, 0, NULL, run_has},
-    {"list", "FILE REEL", "Lists a reel's frames, one on a line, in the order of its tree.", 2, 2, 0, NULL, run_list},
-    {"retire", "FILE REEL", "Takes a reel out with all its frames.", 2, 2, CRASHES, NULL, run_retire},
-    {"recover", "FILE", "Recovers a book, though it was closed cleanly, and says what it found.", 1, 1, CRASHES, NULL, run_recover},
-    {"stat", "FILE [--by-reel]", "Counts reels, frames, nodes and places.", 1, 1, BIT(OPTION_BY_REEL), NULL, run_stat},
-    {"check", "FILE", "Says whether a book is sound and was closed cleanly. Never writes to it.", 1, 1, 0, NULL, run_check},
-    {"draw", "FILE [-o OUT.svg]", "Draws pool and trees as SVG, on standard output or to OUT.", 1, 1, BIT(OPTION_OUTPUT), NULL, run_draw},
+    {.name = "format",
+     .operands = "FILE --reels R --nodes N [--force]",
+     .about = "Makes a book with room for R reels and a pool of N nodes.",
+     .least = 1,
+     .most = 1,
+     .options = BIT(OPTION_REELS) | BIT(OPTION_NODES) | BIT(OPTION_FORCE),
+     .steady = "formatting is done on steady power",
+     .run = run_format},
+    {.name = "open",
+     .operands = "FILE REEL",
+     .about = "Opens a reel, without frames.",
+     .least = 2,
+     .most = 2,
+     .options = CRASHES,
+     .run = run_open},
+    {.name = "add",
+     .operands = "FILE REEL [FRAME..]",
+     .about = "Adds frames to a reel: those given, or, with none or -, those on standard input, separated by white space.",
+     .least = 2,
+     .most = ANY,
+     .options = BIT(OPTION_SKIP_HELD) | BIT(OPTION_PROGRESS) | CRASHES,
+     .run = run_add},
+    {.name = "remove",
+     .operands = "FILE REEL FRAME..",
+     .about = "Removes frames from a reel: those given, or, with -, those on standard input.",
+     .least = 3,
+     .most = ANY,
+     .options = CRASHES,
+     .run = run_remove},
+    {.name = "has",
+     .operands = "FILE REEL FRAME",
+     .about = "Says whether a reel holds a frame: yes or no.",
+     .least = 3,
+     .most = 3,
+     .run = run_has},
+    {.name = "list",
+     .operands = "FILE REEL",
+     .about = "Lists a reel's frames, one on a line, in the sequence of its tree.",
+     .least = 2,
+     .most = 2,
+     .run = run_list},
+    {.name = "retire",
+     .operands = "FILE REEL",
+     .about = "Takes a reel out with all its frames.",
+     .least = 2,
+     .most = 2,
+     .options = CRASHES,
+     .run = run_retire},
+    {.name = "recover",
+     .operands = "FILE",
+     .about = "Recovers a book, however it was closed, and says what it found.",
+     .least = 1,
+     .most = 1,
+     .options = CRASHES,
+     .run = run_recover},
+    {.name = "stat",
+     .operands = "FILE [--by-reel]",
+     .about = "Counts reels, frames, nodes and places.",
+     .least = 1,
+     .most = 1,
+     .options = BIT(OPTION_BY_REEL),
+     .run = run_stat},
+    {.name = "check",
+     .operands = "FILE",
+     .about = "Says whether a book is sound and was closed cleanly. Never writes to it.",
+     .least = 1,
+     .most = 1,
+     .run = run_check},
+    {.name = "draw",
+     .operands = "FILE [-o OUT]",
+     .about = "Draws the pool and the trees as an SVG picture, on standard output or to OUT.",
+     .least = 1,
+     .most = 1,
+     .options = BIT(OPTION_OUTPUT),
+     .run = run_draw},
 };
 
 enum { COMMANDS = sizeof commands / sizeof commands[0] };
@@ -45,8 +106,8 @@ static int help(void) {
     puts("reelbook COMMAND FILE .. keeps sets of frames, reel by reel, in a book that outlasts power failures.\n");
     for (int i = 0; i < COMMANDS; i++)
         printf("  reelbook %s %s\n      %s\n", commands[i].name, commands[i].operands, commands[i].about);
-    puts("\nNumbers are decimal, from 0 to 2^64 - 1. The exit status is 0, or 1 after a line on standard error.\n"
-         "reelbook COMMAND --help tells a command's options.");
+    puts("\nNumbers are decimal, from 0 to 2^64 - 1. The exit status is 0, or 1 after a line on standard error.");
+    puts("reelbook COMMAND --help tells a command's options.");
     return 0;
 }
 
@@ -58,7 +119,7 @@ static void on_bus_error(int signal_number) {
     _exit(1);
 }
 
-/* A book must not get the number of a closed standard stream, lest output goes to it. A file size limit is an error to be reported. */
+/* A book must not get the number of a closed standard stream, lest output goes to it. A limit of the file size is reported. */
 static void prepare_process(void) {
     int fd;
     do
@@ -106,7 +167,8 @@ int main(int count, char **words) {
         return flush_output(help());
     const struct command *c = count < 2 ? NULL : find(words[1]);
     if (!c) {
-        say("%s%s; reelbook --help tells them", count < 2 ? "" : words[1], count < 2 ? "a command is missing" : ": no such command");
+        say("%s%s; reelbook --help tells them", count < 2 ? "" : words[1],
+            count < 2 ? "a command is missing" : ": no such command");
         return 1;
     }
     say_command = c->name;

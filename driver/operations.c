@@ -5,39 +5,47 @@
 
 enum { HEAD = 0 };
 
+/* Buffers as the library takes them: where, and how many words. */
+#define IMAGE b->image, b->file.image_words
+#define MAP b->map, b->file.map_words
+#define SCRATCH b->scratch, b->file.map_words
+#define SCRIPT b->script, REELBOOK_SCRIPT_WORDS
+
 static uint64_t carry(struct book *b, uint64_t answer) {
     if (answer != REELBOOK_DONE)
         return answer;
     size_t at = b->file.image_at, words = (size_t)b->used;
-    b->failed = b->crash ? crash_carry_out(b->crash, &b->medium, at, b->script, words) : carry_out(&b->medium, at, b->script, words);
-    return b->failed ? BOOK_SYSTEM : REELBOOK_DONE;
+    int failed =
+        b->crash ? crash_carry_out(b->crash, &b->medium, at, b->script, words) : carry_out(&b->medium, at, b->script, words);
+    if (!failed)
+        return REELBOOK_DONE;
+    b->failed = 1;
+    return BOOK_SYSTEM;
 }
 
 uint64_t book_open_reel(struct book *b, uint64_t reel) {
-    return carry(b, reelbook_open(b->image, b->file.image_words, b->map, b->file.map_words, b->script, REELBOOK_SCRIPT_WORDS, reel, &b->used));
+    return carry(b, reelbook_open(IMAGE, MAP, SCRIPT, reel, &b->used));
 }
 
 uint64_t book_add(struct book *b, uint64_t reel, uint64_t frame) {
-    uint64_t answer = carry(b, reelbook_claim(b->image, b->file.image_words, b->map, b->file.map_words, b->heads, b->script,
-                                              REELBOOK_SCRIPT_WORDS, HEAD, reel, frame, &b->used));
+    uint64_t answer = carry(b, reelbook_claim(IMAGE, MAP, b->heads, SCRIPT, HEAD, reel, frame, &b->used));
     if (answer == REELBOOK_DONE)
-        answer = carry(b, reelbook_fill(b->image, b->file.image_words, b->heads, b->script, REELBOOK_SCRIPT_WORDS, HEAD, &b->used));
+        answer = carry(b, reelbook_fill(IMAGE, b->heads, SCRIPT, HEAD, &b->used));
     if (answer == REELBOOK_DONE)
-        answer = carry(b, reelbook_commit(b->image, b->file.image_words, b->heads, b->script, REELBOOK_SCRIPT_WORDS, HEAD, &b->used));
+        answer = carry(b, reelbook_commit(IMAGE, b->heads, SCRIPT, HEAD, &b->used));
     return answer;
 }
 
 uint64_t book_remove(struct book *b, uint64_t reel, uint64_t frame) {
-    return carry(b, reelbook_remove(b->image, b->file.image_words, b->heads, b->script, REELBOOK_SCRIPT_WORDS, reel, frame, &b->used));
+    return carry(b, reelbook_remove(IMAGE, b->heads, SCRIPT, reel, frame, &b->used));
 }
 
 uint64_t book_retire(struct book *b, uint64_t reel) {
-    return carry(b, reelbook_retire(b->image, b->file.image_words, b->map, b->file.map_words, b->heads, b->scratch, b->file.map_words,
-                                    b->script, REELBOOK_SCRIPT_WORDS, reel, &b->used));
+    return carry(b, reelbook_retire(IMAGE, MAP, b->heads, SCRATCH, SCRIPT, reel, &b->used));
 }
 
 uint64_t book_has(const struct book *b, uint64_t reel, uint64_t frame, uint64_t *yes) {
-    return reelbook_has(b->image, b->file.image_words, reel, frame, yes);
+    return reelbook_has(IMAGE, reel, frame, yes);
 }
 
 uint64_t book_list(struct book *b, uint64_t reel, uint64_t **frames, uint64_t *count) {
@@ -45,7 +53,7 @@ uint64_t book_list(struct book *b, uint64_t reel, uint64_t **frames, uint64_t *c
     *frames = malloc(room * sizeof **frames);
     if (!*frames)
         return BOOK_SYSTEM;
-    uint64_t answer = reelbook_list(b->image, b->file.image_words, b->scratch, b->file.map_words, *frames, room, reel, count);
+    uint64_t answer = reelbook_list(IMAGE, SCRATCH, *frames, room, reel, count);
     if (answer != REELBOOK_DONE)
         free(*frames);
     return answer;
@@ -79,7 +87,7 @@ uint64_t book_recover(struct book *b) {
     uint64_t *before = copy_locate_words(b);
     if (!before)
         return BOOK_SYSTEM;
-    uint64_t answer = reelbook_recover(b->image, b->file.image_words, b->map, b->file.map_words, b->heads);
+    uint64_t answer = reelbook_recover(IMAGE, MAP, b->heads);
     if (answer == REELBOOK_DONE && end_recovery(b, before) != 0)
         answer = BOOK_SYSTEM;
     free(before);

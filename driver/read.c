@@ -12,7 +12,8 @@
 int run_has(const struct arguments *a) {
     struct book b;
     uint64_t reel, frame, yes;
-    if (arguments_number(a->operands[1], &reel) != 0 || arguments_number(a->operands[2], &frame) != 0 || begin(&b, a, BOOK_READ) != 0)
+    if (arguments_number(a->operands[1], &reel) != 0 || arguments_number(a->operands[2], &frame) != 0 ||
+        begin(&b, a, BOOK_READ) != 0)
         return 1;
     uint64_t answer = book_has(&b, reel, frame, &yes);
     if (answer != REELBOOK_DONE)
@@ -35,13 +36,10 @@ int run_list(const struct arguments *a) {
     return finish(&b, a, 0);
 }
 
-/* Opens a book and counts it. A private copy is recovered first, so that trees are walked only if they are sound. */
 static int begin_survey(struct book *b, struct survey *s, const struct arguments *a) {
     if (begin(b, a, BOOK_READ) != 0)
         return -1;
-    uint64_t answer = b->recovered ? REELBOOK_DONE : book_recover(b);
-    if (answer == REELBOOK_DONE)
-        answer = survey_take(s, b);
+    uint64_t answer = survey_take(s, b);
     if (answer == REELBOOK_DONE)
         return 0;
     finish(b, a, refuse(answer, a->operands[0]));
@@ -53,8 +51,8 @@ static void print_reels(const struct survey *s) {
     for (size_t i = 0; i < s->count; i++) {
         const struct survey_reel *r = &s->reels[i];
         const struct tally *t = &r->total;
-        printf("%20" PRIu64 " %5" PRIu64 " %6" PRIu64 " %8" PRIu64 " %6" PRIu64 " %8u %8" PRIu64 " %8" PRIu64 "\n", r->reel, r->slot, r->root,
-               t->frames, t->nodes, r->deepest, t->places, t->located);
+        printf("%20" PRIu64 " %5" PRIu64 " %6" PRIu64 " %8" PRIu64 " %6" PRIu64 " %8u %8" PRIu64 " %8" PRIu64 "\n", r->reel,
+               r->slot, r->root, t->frames, t->nodes, r->deepest, t->places, t->located);
     }
 }
 
@@ -91,7 +89,7 @@ int run_check(const struct arguments *a) {
     else if (saved_map_wrong(&b))
         say("%s: not sound: the saved map is not the image's; %s", a->operands[0], closed);
     else
-        status = printf("sound; %s; %zu locate words differ\n", closed, b.mended) < 0;
+        status = printf("sound; %s; locate words that differ: %zu\n", closed, b.mended) < 0;
     return finish(&b, a, status);
 }
 

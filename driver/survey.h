@@ -29,7 +29,7 @@ struct survey {
     struct tally total;
 };
 
-/* Counts a book whose image recovery has accepted. */
+/* REELBOOK_MALFORMED if the trees cannot be walked through; more than that only recovery finds out. */
 uint64_t survey_take(struct survey *s, const struct book *b);
 
 void survey_free(struct survey *s);

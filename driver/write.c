@@ -84,7 +84,8 @@ static int report(const struct job *j, const struct frames *f, uint64_t answer) 
     return 1;
 }
 
-/* The frames on the command line are all read before the first is done; Has tells whether there is such a reel, even if no frame comes. */
+/* The frames on the command line are all read before the first is done; Has tells whether there is such a reel, even if no frame
+ * comes. */
 static int on_frames(const struct arguments *a, struct job j) {
     struct book b;
     struct frames f;
@@ -117,8 +118,8 @@ int run_recover(const struct arguments *a) {
     uint64_t answer = survey_take(&s, &b);
     if (answer != REELBOOK_DONE)
         return finish(&b, a, refuse(answer, a->operands[0]));
-    printf("%s; %zu reels, %" PRIu64 " frames, %zu locate words mended\n", b.unclean ? "not closed cleanly" : "closed cleanly", s.count,
-           s.total.frames, b.mended);
+    printf("%s; reels: %zu, frames: %" PRIu64 ", locate words mended: %zu\n", b.unclean ? "not closed cleanly" : "closed cleanly",
+           s.count, s.total.frames, b.mended);
     survey_free(&s);
     return finish(&b, a, 0);
 }

@@ -3,8 +3,6 @@
 #include <inttypes.h>
 #include <string.h>
 
-#include "svg.h"
-
 enum { TILES = 5, SWATCH = 11, GAP = 34 };
 
 /* Colours of a reel: how much of it is in a node's ground, in its filled part and in its border. */
@@ -15,26 +13,20 @@ double draw_fill(const struct tally *t) {
 }
 
 void draw_swatch(const struct picture *p, size_t reel, double x, double y) {
-    svg_put(p->out, "<rect x=\"%g\" y=\"%g\" width=\"%d\" height=\"%d\" rx=\"2\" fill=\"%s\" stroke=\"%s\"/>\n", x, y, SWATCH,
-            SWATCH, svg_colour(reel, FILLED).text, svg_colour(reel, BORDER).text);
-}
-
-struct tally draw_tally(const uint64_t *node) {
-    return (struct tally){.places = node[REELBOOK_NODE_SIZE], .frames = (uint64_t)__builtin_popcountll(node[REELBOOK_NODE_SET])};
+    svg_rect(p->out, (struct box){x, y, SWATCH, SWATCH}, "rx=\"2\" fill=\"%s\" stroke=\"%s\"", svg_colour(reel, FILLED).text,
+             svg_colour(reel, BORDER).text);
 }
 
 static void put_box(FILE *out, struct box b, double fill, struct svg_colour ground, struct svg_colour filled,
                     struct svg_colour border) {
     double height = b.height * fill;
-    svg_put(out, "<rect x=\"%g\" y=\"%g\" width=\"%g\" height=\"%g\" fill=\"%s\"/>", b.x, b.y, b.width, b.height, ground.text);
-    svg_put(out, "<rect x=\"%g\" y=\"%g\" width=\"%g\" height=\"%g\" fill=\"%s\"/>", b.x, b.y + b.height - height, b.width,
-            height, filled.text);
-    svg_put(out, "<rect x=\"%g\" y=\"%g\" width=\"%g\" height=\"%g\" fill=\"none\" stroke=\"%s\"/>\n", b.x, b.y, b.width,
-            b.height, border.text);
+    svg_rect(out, b, "fill=\"%s\"", ground.text);
+    svg_rect(out, (struct box){b.x, b.y + b.height - height, b.width, height}, "fill=\"%s\"", filled.text);
+    svg_rect(out, b, "fill=\"none\" stroke=\"%s\"", border.text);
 }
 
 static void put_free(FILE *out, struct box b) {
-    svg_put(out, "<rect x=\"%g\" y=\"%g\" width=\"%g\" height=\"%g\" class=\"free\"/>\n", b.x, b.y, b.width, b.height);
+    svg_rect(out, b, "class=\"free\"");
 }
 
 static void put_numbers(FILE *out, uint64_t node, struct box b, const struct tally *t) {
@@ -57,7 +49,8 @@ void draw_node(const struct picture *p, uint64_t node, struct box box) {
         return;
     }
     const uint64_t *words = book_node(p->book, node);
-    struct tally t = draw_tally(words);
+    struct tally t = {0};
+    tally_node(&t, words);
     size_t reel = owner - 1;
     svg_put(p->out,
             "<g><title>node %" PRIu64 ": reel %" PRIu64 ", level %" PRIu64 ", %" PRIu64 " of %" PRIu64 " places held</title>",
@@ -67,26 +60,20 @@ void draw_node(const struct picture *p, uint64_t node, struct box box) {
     svg_put(p->out, "</g>\n");
 }
 
-static void put_tile(const struct picture *p, int number, double y, const char *label, const char *value) {
-    double x = DRAW_MARGIN + number * (double)DRAW_INNER / TILES;
-    svg_text(p->out, x, y, "label", "%s", label);
-    svg_text(p->out, x, y + 26, "big", "%s", value);
-}
-
 static double draw_numbers(const struct picture *p, double y) {
+    static const char *const labels[TILES] = {"reels", "frames", "nodes used", "places (held)", "deepest level"};
     const struct tally *t = &p->survey->total;
-    char value[64];
-    snprintf(value, sizeof value, "%zu of %" PRIu64, p->survey->count, p->book->file.slots);
-    put_tile(p, 0, y, "reels", value);
-    snprintf(value, sizeof value, "%" PRIu64, t->frames);
-    put_tile(p, 1, y, "frames", value);
-    snprintf(value, sizeof value, "%" PRIu64 " of %" PRIu64, t->nodes, p->book->file.nodes);
-    put_tile(p, 2, y, "nodes used", value);
-    snprintf(value, sizeof value, "%" PRIu64 " (%.0f%%)", t->places, 100 * draw_fill(t));
-    put_tile(p, 3, y, "places (held)", value);
-    snprintf(value, sizeof value, "%u", p->survey->deepest);
-    put_tile(p, 4, y, "deepest level", value);
-    return y + 26;
+    double x[TILES], base = y + 26;
+    for (int i = 0; i < TILES; i++) {
+        x[i] = DRAW_MARGIN + i * (double)DRAW_INNER / TILES;
+        svg_text(p->out, x[i], y, "label", "%s", labels[i]);
+    }
+    svg_text(p->out, x[0], base, "big", "%zu of %" PRIu64, p->survey->count, p->book->file.slots);
+    svg_text(p->out, x[1], base, "big", "%" PRIu64, t->frames);
+    svg_text(p->out, x[2], base, "big", "%" PRIu64 " of %" PRIu64, t->nodes, p->book->file.nodes);
+    svg_text(p->out, x[3], base, "big", "%" PRIu64 " (%.0f%%)", t->places, 100 * draw_fill(t));
+    svg_text(p->out, x[4], base, "big", "%u", p->survey->deepest);
+    return base;
 }
 
 static double draw_samples(const struct picture *p, double y) {

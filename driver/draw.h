@@ -5,6 +5,7 @@
 #include <stdio.h>
 
 #include "survey.h"
+#include "svg.h"
 
 enum { DRAW_WIDTH = 1200, DRAW_MARGIN = 40, DRAW_INNER = DRAW_WIDTH - 2 * DRAW_MARGIN };
 
@@ -12,10 +13,6 @@ struct picture {
     FILE *out; /* NULL while it is measured */
     const struct book *book;
     const struct survey *survey;
-};
-
-struct box {
-    double x, y, width, height;
 };
 
 void draw(FILE *out, const struct book *b, const struct survey *s, const char *path);
@@ -26,8 +23,7 @@ void draw_node(const struct picture *p, uint64_t node, struct box box);
 /* A square in a reel's colour. */
 void draw_swatch(const struct picture *p, size_t reel, double x, double y);
 
-/* A node's places and frames; how much of the places is held, from 0 to 1. */
-struct tally draw_tally(const uint64_t *node);
+/* How much of the places is held, from 0 to 1. */
 double draw_fill(const struct tally *t);
 
 /* The pool, the trees, from y down: each node, or, where there are too many, a summary. Each answers where it ends. */

@@ -2,7 +2,6 @@
 #include <string.h>
 
 #include "draw.h"
-#include "svg.h"
 
 /* The pool as a grid: a box for each node, or, where they are too many, a dot whose colour is the deeper the fuller the node. */
 struct grid {
@@ -39,7 +38,8 @@ static struct svg_colour dot_colour(const struct picture *p, uint64_t node) {
     const double steps = 6, weakest = 0.2;
     if (p->survey->owners[node] == 0)
         return (struct svg_colour){"#ededE8"};
-    struct tally t = draw_tally(book_node(p->book, node));
+    struct tally t = {0};
+    tally_node(&t, book_node(p->book, node));
     int step = (int)(steps * draw_fill(&t));
     return svg_colour(p->survey->owners[node] - 1, weakest + (1 - weakest) * step / steps);
 }

@@ -2,7 +2,7 @@
 
 #include <stdlib.h>
 
-static void count_node(struct tally *t, const uint64_t *node) {
+void tally_node(struct tally *t, const uint64_t *node) {
     t->nodes++;
     t->places += node[REELBOOK_NODE_SIZE];
     t->located += (uint64_t)__builtin_popcountll(node[REELBOOK_NODE_LOCATE]);
@@ -14,9 +14,9 @@ static int visit(struct survey *s, struct survey_reel *r, const struct book *b, 
     if (level >= SURVEY_LEVELS || number >= b->file.nodes || s->owners[number] != 0)
         return 0;
     const uint64_t *node = book_node(b, number);
-    count_node(&r->levels[level], node);
-    count_node(&r->total, node);
-    count_node(&s->total, node);
+    tally_node(&r->levels[level], node);
+    tally_node(&r->total, node);
+    tally_node(&s->total, node);
     r->deepest = level > r->deepest ? level : r->deepest;
     s->owners[number] = (uint32_t)(r - s->reels) + 1;
     int through = node[REELBOOK_NODE_SIZE] <= NODE_PLACES;

@@ -15,6 +15,9 @@ struct tally {
     uint64_t nodes, places, located, frames;
 };
 
+/* Adds a node. */
+void tally_node(struct tally *t, const uint64_t *node);
+
 struct survey_reel {
     uint64_t reel, slot, root;
     unsigned deepest; /* level */

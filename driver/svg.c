@@ -19,7 +19,8 @@ static const char style[] =
 void svg_begin(FILE *out, double width, double height) {
     svg_put(out, "<svg xmlns=\"http://www.w3.org/2000/svg\" width=\"%g\" height=\"%g\" viewBox=\"0 0 %g %g\">\n", width, height,
             width, height);
-    svg_put(out, "<style>%s</style>\n<rect width=\"%g\" height=\"%g\" fill=\"#fafaf7\"/>\n", style, width, height);
+    svg_put(out, "<style>%s</style>\n", style);
+    svg_rect(out, (struct box){0, 0, width, height}, "fill=\"#fafaf7\"");
 }
 
 void svg_end(FILE *out) {
@@ -33,6 +34,17 @@ void svg_put(FILE *out, const char *format, ...) {
     va_start(arguments, format);
     vfprintf(out, format, arguments);
     va_end(arguments);
+}
+
+void svg_rect(FILE *out, struct box b, const char *attributes, ...) {
+    va_list arguments;
+    if (!out)
+        return;
+    svg_put(out, "<rect x=\"%g\" y=\"%g\" width=\"%g\" height=\"%g\" ", b.x, b.y, b.width, b.height);
+    va_start(arguments, attributes);
+    vfprintf(out, attributes, arguments);
+    va_end(arguments);
+    svg_put(out, "/>\n");
 }
 
 static void put_escaped(FILE *out, const char *text) {

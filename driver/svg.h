@@ -10,6 +10,13 @@ void svg_end(FILE *out);
 
 void svg_put(FILE *out, const char *format, ...) __attribute__((format(printf, 2, 3)));
 
+struct box {
+    double x, y, width, height;
+};
+
+/* A rectangle with attributes as of printf(). */
+void svg_rect(FILE *out, struct box b, const char *attributes, ...) __attribute__((format(printf, 3, 4)));
+
 /* Text of one of the classes in svg.c, its baseline at y. What XML cannot have is escaped or replaced. */
 void svg_text(FILE *out, double x, double y, const char *class, const char *format, ...) __attribute__((format(printf, 5, 6)));
 

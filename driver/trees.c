@@ -1,7 +1,6 @@
 #include <inttypes.h>
 
 #include "draw.h"
-#include "svg.h"
 
 /* More than this are not drawn node by node. */
 enum { MOST_LEAVES = 140, MOST_TREES = 64 };
@@ -69,8 +68,7 @@ static struct box panel_box(const struct survey_reel *r, double x, double y) {
 static void put_panel(const struct picture *p, size_t reel, struct box box) {
     const struct survey_reel *r = &p->survey->reels[reel];
     double left = box.x + PADDING;
-    svg_put(p->out, "<rect class=\"panel\" x=\"%g\" y=\"%g\" width=\"%g\" height=\"%g\" rx=\"6\"/>\n", box.x, box.y, box.width,
-            box.height);
+    svg_rect(p->out, box, "class=\"panel\" rx=\"6\"");
     draw_swatch(p, reel, left, box.y + 13);
     svg_text(p->out, left + 19, box.y + 23, "name", "reel %" PRIu64, r->reel);
     svg_text(p->out, left, box.y + 42, "label", "slot %" PRIu64 ", frames %" PRIu64 ", nodes %" PRIu64 ", %.0f%% held", r->slot,
@@ -125,8 +123,7 @@ static void put_table_row(const struct picture *p, size_t reel, double x, double
     svg_text(p->out, x + NODES_END, base, "right", "%" PRIu64, r->total.nodes);
     for (unsigned level = 0; level <= r->deepest; level++) {
         double left = x + CELLS + cell * level, fill = draw_fill(&r->levels[level]);
-        svg_put(p->out, "<rect x=\"%g\" y=\"%g\" width=\"%g\" height=\"%g\" fill=\"%s\"/>\n", left, y, cell - 1, LINE - 1,
-                svg_colour(reel, 0.06 + 0.6 * fill).text);
+        svg_rect(p->out, (struct box){left, y, cell - 1, LINE - 1}, "fill=\"%s\"", svg_colour(reel, 0.06 + 0.6 * fill).text);
         svg_text(p->out, left + cell / 2, base, "middle", "%" PRIu64, r->levels[level].nodes);
     }
 }

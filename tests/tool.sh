@@ -2,6 +2,8 @@
 # Tries the tool: its commands, its errors, damaged files, then power failures, each held against a model in plain files.
 # tests/tool.sh TOOL [SEED [ROUNDS]]
 set -u
+export LC_ALL=C
+here=$(cd "$(dirname "$0")" && pwd)
 tool=$(cd "$(dirname "$1")" && pwd)/$(basename "$1")
 seed=${2:-$(date +%s)}
 rounds=${3:-400}
@@ -15,10 +17,11 @@ cd "$work" || exit 1
 
 checks=0
 input=/dev/null
+failing=
 most=18446744073709551615
 
 fail() {
-    printf 'tool.sh: %s\nseed %s, check %s\n' "$1" "$seed" "$checks" >&2
+    printf 'tool.sh: %s\nseed %s, check %s%s\n' "$1" "$seed" "$checks" "${failing:+; the power failed in: $failing}" >&2
     exit 1
 }
 
@@ -46,7 +49,7 @@ does() { # OUT COMMAND..
 refuses() { # ERR COMMAND..: and the book stays as it was, byte for byte
     wanted=$1
     shift
-    cp book kept
+    cp -f book kept
     run "$@"
     expect 1 '' "$wanted"
     cmp -s book kept || fail "$command: the book has changed"
@@ -54,7 +57,7 @@ refuses() { # ERR COMMAND..: and the book stays as it was, byte for byte
 
 holds() { # a test that the command line states
     checks=$((checks + 1))
-    "$@" || fail "not so: $*"
+    "$@" || fail "not so: $*; after $command: $(cat out err)"
 }
 
 poke() { # FILE BYTE..: writes bytes, in octal, at an offset
@@ -91,7 +94,11 @@ try_commands() {
     input=/dev/null
     does '0 frames added' add book 7
     does '' open book 0
-    does "$(printf 'reels    2 of 4\nframes   6\nnodes    2 used, 14 free\ndeepest  level 0\nplaces   32, 6 used, 6 located')" stat book
+    does 'reels    2 of 4
+frames   6
+nodes    2 used, 14 free
+deepest  level 0
+places   32, 6 used, 6 located' stat book
     does 'closed cleanly; reels: 2, frames: 6, locate words mended: 0' recover book
     does '' retire book 0
     seq 100 260 >frames
@@ -148,7 +155,7 @@ try_refusals() {
     input=frames
     run add book 1
     holds test "$status" = 1
-    holds grep -q '^reelbook: add: reel 1: frame [0-9]*: not enough adjacent free nodes (8); [1-9][0-9]* frames added before it$' err
+    holds grep -q '^reelbook: add: reel 1: frame [0-9]*: not enough adjacent free nodes (8); [1-9][0-9]* frames added before' err
     input=/dev/null
     does "$sound" check book
     for reel in 1 2 3; do does '' retire book $reel; done
@@ -217,24 +224,25 @@ try_files() {
     does '1 frame removed' remove book 7 1
 }
 
-# Commands that read leave a book that was closed cleanly alone: they need no permission to write.
+# Commands that read leave a book that was closed cleanly alone: they need no permission to write. (Root has it always.)
 try_reading() {
     cp book kept
-    [ "$(id -u)" = 0 ] || chmod a-w book
+    cp book unclean
+    poke unclean "$clean_at" 000
+    chmod a-w book unclean
     does 'yes' has book 7 5
     does "$sound" check book
+    does 'sound; not closed cleanly; locate words that differ: 0' check unclean
     for name in 'list book 7' 'stat book' 'draw book'; do
         run $name
         holds test "$status" = 0
     done
     holds cmp -s book kept
-    [ "$(id -u)" = 0 ] || refuses 'open: book: Permission denied' open book 1
-    poke kept "$clean_at" 000
-    [ "$(id -u)" = 0 ] || chmod a-w kept
-    run check kept
-    expect 0 'sound; not closed cleanly; locate words that differ: 0' ''
-    [ "$(id -u)" = 0 ] || { run list kept 7 && expect 1 '' 'list: kept: not closed cleanly, and not recovered: Permission denied'; }
-    chmod u+w book kept
+    if [ "$(id -u)" != 0 ]; then
+        refuses 'open: book: Permission denied' open book 1
+        refuses 'list: unclean: not closed cleanly, and not recovered: Permission denied' list unclean 7
+    fi
+    chmod u+w book unclean
 }
 
 try_locks() {
@@ -313,175 +321,9 @@ try_damage() {
     cp good book
 }
 
-# Power failures. The model is a file with a line for each reel, "REEL", and one for each of its frames, "REEL FRAME".
+. "$here/tool-failures.sh"
 
-dump() { # the book in the model's form, recovered if it needs to be
-    "$tool" stat book --by-reel >counts 2>err || fail "$command: stat: $(cat err)"
-    for open in $(awk 'NR > 7 { print $1 }' counts); do
-        echo "$open"
-        "$tool" list book "$open" | sed "s/^/$open /"
-    done | sort >dumped
-}
-
-# What each round does, to which reel; where the power fails, as a part of its entries, from 1 on after all; a seed; how many
-# recoveries are cut short after it; frames, or, to remove some, numbers to choose them by.
-plan() {
-    awk -v seed="$seed" -v rounds="$rounds" '
-        function below(n) { return int(rand() * n) }
-        BEGIN {
-            srand(seed)
-            for (round = 0; round < rounds; round++) {
-                kind = below(20)
-                kind = kind < 10 ? "add" : kind < 13 ? "remove" : kind < 17 ? "open" : kind < 18 ? "retire" : "recover"
-                printf "%s %d %f %d %d", kind, 1 + int(below(21) / 5), rand() * 1.4, below(2147483647), below(3)
-                for (frames = 1 + below(3); frames > 0; frames--)
-                    printf " %d", below(2) ? below(160) : 64 * below(100)
-                print ""
-            }
-        }'
-}
-
-held_frame() { # REEL NUMBER: one of the frames that the model has
-    awk -v reel="$1" -v number="$2" '$1 == reel && NF == 2 { frame[count++] = $2 } END { print count ? frame[number % count] : number }' model
-}
-
-model_refusal() { # KIND REEL FRAME: the refusal that the model gives, if any
-    if [ "$1" = recover ]; then
-        return
-    elif grep -qx "$2" before; then
-        case $1 in
-        open) echo 6 ;;
-        add) if grep -qx "$2 $3" before; then echo 9; fi ;;
-        remove) if ! grep -qx "$2 $3" before; then echo 10; fi ;;
-        esac
-    elif [ "$1" != open ]; then
-        echo 5
-    elif [ "$(grep -cv ' ' before)" = 4 ]; then
-        echo 7
-    fi
-}
-
-model_change() { # KIND REEL FRAME: the model after it
-    case $1 in
-    open) { cat before && echo "$2"; } | sort ;;
-    add) { cat before && echo "$2 $3"; } | sort ;;
-    remove) grep -vx "$2 $3" before ;;
-    retire) grep -v "^$2\( \|\$\)" before ;;
-    recover) cat before ;;
-    esac
-}
-
-# Does one thing to a copy of the book, whole. Its entries are added to `passed`. 1 if it is refused, which the model must be too,
-# unless it is for want of nodes.
-probe() { # KIND [REEL [FRAME]]
-    run "$1" copy ${2+"$2"} ${3+"$3"} --crash-after "$most"
-    number=$(sed -n 's/^reelbook: .* (\([0-9]*\)).*/\1/p' err)
-    wanted=$(model_refusal "$1" "${2-}" "${3-}")
-    [ "$number" != 8 ] || wanted=${wanted:-8}
-    holds test "$number" = "$wanted"
-    passed=$((passed + $(sed -n 's/.*: ended before the power failure, after \([0-9]*\) entries$/\1/p' err)))
-    [ "$status" = 0 ]
-}
-
-# Does all of a round to the copy, thing by thing: model.N is the model after N of them, and `ends` has how many entries they take.
-rehearse() { # KIND REEL FRAME..
-    cp book copy
-    cp model model.0
-    things=0 passed=0 ends=0
-    kind=$1 reel=$2
-    shift 2
-    for frame in ${*:-none}; do
-        cp model.$things before
-        case $kind in
-        recover) probe recover ;;
-        open | retire) probe "$kind" "$reel" ;;
-        *) probe "$kind" "$reel" "$frame" ;;
-        esac || break
-        things=$((things + 1)) ends="$ends $passed"
-        model_change "$kind" "$reel" "$frame" >model.$things
-    done
-}
-
-# After so many entries the book is as after those things that were ended, or, within one, as before it or after it.
-compare() { # ENTRIES
-    done=-1 within=0
-    for end in $ends; do
-        if [ "$end" -le "$1" ]; then done=$((done + 1)) within=$(($1 - end)); fi
-    done
-    dump
-    checks=$((checks + 1))
-    if cmp -s dumped model.$done; then
-        cp model.$done model
-    elif [ "$within" -gt 0 ] && cmp -s dumped model.$((done + 1)); then
-        cp model.$((done + 1)) model
-        kept=$((kept + 1))
-    else
-        fail "$failing: the book is neither as before nor as after:
-$(diff model.$done dumped)"
-    fi
-}
-
-stock() { # REEL KIND: frames up to where a root becomes larger or branches out
-    case $2 in 0) last=14 ;; 1) last=30 ;; 2) last=62 ;; esac
-    seq 0 $last >frames
-    input=frames
-    does "$((last + 1)) frames added" add book "$1"
-    input=/dev/null
-    { cat model && sed "s/^/$1 /" frames; } | sort >stocked
-    mv stocked model
-}
-
-cut_recovery() { # SEED
-    run recover book --crash-after $(($1 % 3)) --seed "$1"
-    holds test "$status" = 0
-    if grep -q crashed err; then cuts=$((cuts + 1)); fi
-    run check book
-    holds grep -q '^sound; ' out
-}
-
-round() { # KIND REEL PART SEED RECOVERIES FRAME..
-    kind=$1 reel=$2 part=$3 chance=$4 recoveries=$5
-    shift 5
-    case $kind in
-    remove) set -- $(for number in "$@"; do held_frame "$reel" "$number"; done) ;;
-    open | retire | recover) set -- ;;
-    esac
-    rehearse "$kind" "$reel" "$@"
-    [ "$things" -gt 0 ] || return
-    entries=$(awk -v part="$part" -v all="$passed" 'BEGIN { print part < 1 ? int(part * (all + 1)) : all }')
-    if [ "$kind" = recover ]; then reel=; fi
-    run "$kind" book $reel "$@" --crash-after "$entries" --seed "$chance"
-    failing=$command
-    expect 0 '' "$kind: crashed after $entries entries, seed $chance"
-    failures=$((failures + 1))
-    run check book
-    holds grep -q '^sound; not closed cleanly; ' out
-    while [ "$recoveries" -gt 0 ]; do
-        cut_recovery $((chance / 3 + recoveries))
-        recoveries=$((recoveries - 1))
-    done
-    compare "$entries"
-    does "$sound" check book
-    if [ "$kind" = open ] && grep -qx "$reel" model; then stock "$reel" $((chance % 3)); fi
-}
-
-try_power_failures() {
-    failures=0 kept=0 cuts=0
-    does '' format book --reels 4 --nodes 9 --force
-    : >model
-    for reel in 1 2 3; do
-        does '' open book $reel
-        echo $reel >>model
-        stock $reel $((reel - 1))
-    done
-    plan >rounds
-    while read -r line <&4; do round $line; done 4<rounds
-    holds test "$failures" -gt "$((rounds / 2))"
-    holds test "$kept" -gt 0
-    holds test "$cuts" -gt 0
-}
-
-for part in commands pictures help refusals arguments files reading locks damage power_failures; do
+for part in commands pictures help refusals arguments files reading locks damage mixtures power_failures; do
     "try_$part"
 done
 echo "$checks checks, $failures power failures, $cuts recoveries cut short; all as they should be"

@@ -197,6 +197,12 @@ cut_recovery() { # SEED
 round() { # KIND REEL PART SEED RECOVERIES FRAME..
     kind=$1 reel=$2 part=$3 chance=$4 recoveries=$5
     shift 5
+    if [ "$kind" = open ] || [ $((chance % 4)) = 0 ] || grep -qx "$reel" model; then
+        : # the reel that was planned; else the lowest one that is open
+    else
+        reel=$(grep -v ' ' model | head -n 1)
+        reel=${reel:-1}
+    fi
     case $kind in
     remove) set -- $(for number in "$@"; do held_frame "$reel" "$number"; done) ;;
     open | retire | recover) set -- ;;
@@ -231,7 +237,7 @@ try_power_failures() {
     done
     plan >rounds
     while read -r line <&4; do round $line; done 4<rounds
-    holds test "$failures" -gt "$((rounds / 2))"
+    holds test "$failures" -gt "$((rounds / 3))"
     holds test "$kept" -gt 0
     holds test "$cuts" -gt 0
 }

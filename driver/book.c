@@ -1,4 +1,3 @@
-#define _DEFAULT_SOURCE /* for MAP_PRIVATE with -std=c99 */
 #include "book.h"
 
 #include <stdlib.h>

@@ -33,6 +33,7 @@ static int open_any(const char *path, int flags) {
     return open(path, flags | O_CLOEXEC | O_NONBLOCK, 0666);
 }
 
+/* Locks a regular file and tells its length. */
 static uint64_t lock_regular(int fd, int kind, off_t *bytes) {
     struct stat status;
     if (fstat(fd, &status) != 0)
@@ -122,7 +123,7 @@ static int settle_name(const char *path) {
     free(copy);
     if (directory < 0)
         return -1;
-    int failed = fsync(directory);
+    int failed = fsync(directory) != 0 && errno != EINVAL; /* EINVAL: this file system has no need of it */
     close(directory);
     return failed;
 }

@@ -137,7 +137,7 @@ static uint64_t some_seed(void) {
     return (uint64_t)now.tv_sec * UINT64_C(1000000000) + (uint64_t)now.tv_nsec;
 }
 
-static int run(const struct command *c, struct arguments *a) {
+static int run(const struct command *c, struct arguments *a, struct crash *crash) {
     if (a->values[OPTION_HELP]) {
         arguments_help(c);
         return 0;
@@ -147,9 +147,9 @@ static int run(const struct command *c, struct arguments *a) {
         return 1;
     }
     uint64_t seed = a->values[OPTION_SEED] ? a->numbers[OPTION_SEED] : some_seed();
-    struct crash crash = {.after = a->numbers[OPTION_CRASH_AFTER], .seed = seed, .state = seed};
+    *crash = (struct crash){.after = a->numbers[OPTION_CRASH_AFTER], .seed = seed, .state = seed};
     if (a->values[OPTION_CRASH_AFTER])
-        a->crash = &crash;
+        a->crash = crash;
     return c->run(a);
 }
 
@@ -162,8 +162,9 @@ static int flush_output(int status) {
 
 int main(int count, char **words) {
     struct arguments a;
+    struct crash crash;
     prepare_process();
-    if (count == 2 && strcmp(words[1], "--help") == 0)
+    if (count >= 2 && strcmp(words[1], "--help") == 0)
         return flush_output(help());
     const struct command *c = count < 2 ? NULL : find(words[1]);
     if (!c) {
@@ -174,5 +175,5 @@ int main(int count, char **words) {
     say_command = c->name;
     if (arguments_read(&a, c, count - 2, words + 2) != 0)
         return 1;
-    return flush_output(run(c, &a));
+    return flush_output(run(c, &a, &crash));
 }

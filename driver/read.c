@@ -93,14 +93,22 @@ int run_check(const struct arguments *a) {
     return finish(&b, a, status);
 }
 
-static int draw_to(FILE *out, const struct book *b, const struct survey *s, const char *path) {
-    draw(out, b, s, path);
-    return fflush(out) != 0 || ferror(out);
+static int draw_to_file(const char *to, const struct book *b, const struct survey *s, const char *path) {
+    FILE *out = fopen(to, "w");
+    if (out)
+        draw(out, b, s, path);
+    int failed = !out || ferror(out);
+    if (out && fclose(out) != 0)
+        failed = 1;
+    if (failed)
+        say("%s: %s", to, strerror(errno));
+    return failed;
 }
 
 int run_draw(const struct arguments *a) {
     struct book b;
     struct survey s;
+    int status = 0;
     const char *to = a->values[OPTION_OUTPUT];
     if (to && file_is_book(to)) {
         say("%s: a reel book, not overwritten", to);
@@ -108,12 +116,10 @@ int run_draw(const struct arguments *a) {
     }
     if (begin_survey(&b, &s, a) != 0)
         return 1;
-    FILE *out = to ? fopen(to, "w") : stdout;
-    int failed = !out || draw_to(out, &b, &s, a->operands[0]);
-    if (failed)
-        say("%s: %s", to ? to : "standard output", strerror(errno));
-    if (out && to)
-        failed |= fclose(out) != 0;
+    if (to)
+        status = draw_to_file(to, &b, &s, a->operands[0]);
+    else
+        draw(stdout, &b, &s, a->operands[0]);
     survey_free(&s);
-    return finish(&b, a, failed);
+    return finish(&b, a, status);
 }

@@ -5,10 +5,10 @@
 #include "book.h"
 
 /* A tree has levels 0 to 31; a node has two children below level 3 and four from there on, where it has any. */
-enum { SURVEY_LEVELS = 32, SURVEY_WIDE_LEVEL = 3 };
+enum { SURVEY_LEVELS = 32, SURVEY_WIDE_LEVEL = 3, SURVEY_MOST_CHILDREN = 4 };
 
 static inline unsigned survey_fanout(unsigned level) {
-    return level < SURVEY_WIDE_LEVEL ? 2 : 4;
+    return level < SURVEY_WIDE_LEVEL ? 2 : SURVEY_MOST_CHILDREN;
 }
 
 struct tally {

@@ -47,7 +47,8 @@ static void put_link(const struct panel *panel, double from, double to, double y
 static double put_subtree(struct panel *panel, uint64_t number, unsigned level) {
     const uint64_t *node = book_node(panel->picture->book, number);
     unsigned children = node[REELBOOK_NODE_NEXT] ? survey_fanout(level) : 0;
-    double y = panel->top + ROW * level, left = panel->left + panel->column * (double)panel->leaves, middles[4];
+    double y = panel->top + ROW * level, left = panel->left + panel->column * (double)panel->leaves;
+    double middles[SURVEY_MOST_CHILDREN] = {0};
     for (unsigned i = 0; i < children; i++)
         middles[i] = put_subtree(panel, node[REELBOOK_NODE_NEXT] - 1 + i, level + 1);
     panel->leaves += children == 0;

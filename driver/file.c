@@ -1,4 +1,4 @@
-#define _DEFAULT_SOURCE /* for flock */
+#define _DEFAULT_SOURCE 1 /* for flock */
 #include "file.h"
 
 #include <errno.h>

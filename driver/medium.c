@@ -1,4 +1,4 @@
-#define _DEFAULT_SOURCE /* for MAP_SYNC */
+#define _DEFAULT_SOURCE 1 /* for MAP_SYNC */
 #include "medium.h"
 
 #include <sys/mman.h>

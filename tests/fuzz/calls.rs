@@ -64,10 +64,14 @@ impl Case {
         self.found.clone_from(&self.lent);
         let kept = self.lend(&mut call);
         self.expected.clone_from(&self.found);
+        let heads = self.found.heads.clone();
         let outcome = operations::perform(&call, &mut self.expected, Fault::None);
         let found = self.subject.perform(&call, &mut self.found, self.random.word());
         coverage.call(call.function, outcome.ending);
-        report::compare(&call, (outcome.ending.answer, outcome.count), found, &self.expected, &self.found, &self.lent)?;
+        let expected = (outcome.ending.answer, outcome.count);
+        if expected != found || self.expected != self.found {
+            return Err(report::difference(&call, &heads, (expected, &self.expected), (found, &self.found)));
+        }
         if kept {
             std::mem::swap(&mut self.lent, &mut self.found);
             if !matches!(call.function, Function::Has | Function::List) {

@@ -67,8 +67,8 @@ fn scripts(function: Function) -> &'static [usize] {
         Claim => &[2, 4, 15, 25, 0],
         Fill | Remove => &[4, 0],
         Commit | Abandon | Retire => &[2, 0],
-        Recover | Has | List => &[0],
-        Format | Apply => &[],
+        Format | Recover | Has | List => &[0],
+        Apply => &[],
     }
 }
 

@@ -1,7 +1,6 @@
 //! Histories from a fresh format on, with crashes, held against the plain table: every answer, what Has and List read, and at any
 //! time the book as a whole.
 use crate::coverage::Coverage;
-use crate::crash::Crash;
 use crate::model::buffer::Buffer;
 use crate::model::call::{Call, Function, Lent};
 use crate::model::image::*;
@@ -67,29 +66,26 @@ enum Which {
 impl History<'_> {
     fn step(&mut self, call: &mut Call) -> Result<(), String> {
         let crash = self.random.one_in(if call.function == Function::Open { 3 } else { self.plan.crash });
-        let before = if crash { Some(self.table.reels.clone()) } else { None };
-        let image = if crash && call.function == Function::Recover { Some(self.lent.image.clone()) } else { None };
-        let entries = self.perform(call)?;
-        let branch = call.function == Function::Claim && entries.len() > 2;
+        let before = if crash { Some((self.table.reels.clone(), self.lent.image.clone())) } else { None };
+        let (answer, entries) = self.perform(call)?;
         // An answered Format runs on steady power.
-        if call.function == Function::Format || before.is_none() && !(branch && self.random.one_in(2)) {
+        let steady = call.function == Function::Format && answer == 0;
+        let branch = call.function == Function::Claim && entries.len() > 2;
+        if steady || before.is_none() && !(branch && self.random.one_in(2)) {
             script::carry_out(&mut self.lent.image, &entries);
             return if self.random.one_in(self.plan.crash) { check_book(&self.lent, &self.table) } else { Ok(()) };
         }
-        // A crash decided on only now is in a claim, which changes no reel.
-        let before = before.unwrap_or_else(|| self.table.reels.clone());
-        let cut = self.random.below(entries.len() as u64 + 1) as usize;
-        let crash = match image {
-            Some(image) => Crash::in_recover(&image, &self.lent.image),
-            None => Crash::after(&self.lent.image, &entries[..cut]),
-        };
-        self.coverage.crash(call.function, entries.len(), cut);
-        let passed = !entries[cut..].contains(&BARRIER);
-        self.crash(&crash, &before, passed).map_err(|text| format!("crash after {} of {} entries: {}", cut, entries.len(), text))
+        // A crash decided on only now is in a claim, which changes no reel and leaves the stores to its script.
+        let (reels, image) = before.unwrap_or_else(|| (self.table.reels.clone(), self.lent.image.clone()));
+        if call.function == Function::Recover {
+            self.crash_in_recover(&image, &reels)
+        } else {
+            self.crash_in_script(call.function, &entries, &reels)
+        }
     }
 
-    /// Calls book and table, and compares. The entries handed out.
-    fn perform(&mut self, call: &mut Call) -> Result<Vec<Entry>, String> {
+    /// Calls book and table, and compares. The answer, and the entries handed out.
+    fn perform(&mut self, call: &mut Call) -> Result<(u64, Vec<Entry>), String> {
         let own = self.lend(call);
         let (answer, count) = self.subject.perform(call, &mut self.lent, self.random.word());
         let reply = self.table.perform(call, &Lengths::of(&self.lent), answer);
@@ -99,7 +95,7 @@ impl History<'_> {
         if let Some((which, buffer)) = own {
             *self.buffer(which) = buffer;
         }
-        Ok(entries)
+        Ok((answer, entries))
     }
 
     fn buffer(&mut self, which: Which) -> &mut Buffer {
@@ -118,12 +114,14 @@ impl History<'_> {
             self.other_geometry(call);
             return None;
         }
-        let which = match self.random.below(80) {
+        // More often for the operations that are seldom.
+        let seldom = !matches!(call.function, Function::Claim | Function::Fill | Function::Commit);
+        let which = match self.random.below(if seldom { 25 } else { 100 }) {
             0 => Which::Image,
-            1 | 2 => Which::Map,
-            3 | 4 => Which::Scratch,
-            5 => Which::Script,
-            6..=25 if call.function == Function::List => Which::List,
+            1 => Which::Map,
+            2 => Which::Scratch,
+            3 => Which::Script,
+            4..=9 if call.function == Function::List => Which::List,
             _ => return None,
         };
         let own = self.buffer(which).clone();

@@ -1,6 +1,7 @@
 //! Fuzzing of the library against the model: cases for some seconds, one case again, or the deliberate faults.
 //! A case is known by its seed: an even one is some calls on one image, an odd one a history with crashes.
 mod calls;
+mod cases;
 mod coverage;
 mod crash;
 mod damage;

@@ -17,6 +17,8 @@ pub struct Plan {
     pub steps: u64,
     /// One step in this many is crashed, and the book read whole as often.
     pub crash: u64,
+    /// A crash is tried at every moment of its script.
+    pub every_moment: bool,
     /// All mixtures that a crash can leave are tried up to this many; of more, some.
     pub mixtures: u64,
     /// One step in this many is another operation than the head's next.
@@ -37,35 +39,55 @@ const DEEP_NODES: u64 = 1 + 3 * 2 + 28 * 4;
 
 impl Plan {
     pub fn draw(random: &mut Random) -> Plan {
-        if random.one_in(64) {
-            Plan::deep(random)
-        } else {
-            Plan::few(random)
+        match random.below(64) {
+            0 => Plan::deep(random),
+            1..=24 => Plan::growing(random),
+            _ => Plan::few(random),
         }
     }
 
+    /// Few frames, many operations of every kind.
     fn few(random: &mut Random) -> Plan {
         let slots = random.between(1, 5);
         let most = random.pick(&[4, 12, 40, 70]);
         Plan {
             slots,
             nodes: random.between(1, most),
-            steps: random.pick(&[60, 300, 1500]),
-            crash: random.pick(&[4, 12, 60]),
+            steps: random.pick(&[60, 300, 1000]),
+            crash: random.pick(&[8, 24, 100]),
+            every_moment: true,
             mixtures: 256,
-            other: random.pick(&[2, 6, 40, 100]),
+            other: random.pick(&[2, 6, 40]),
             others: &OTHERS,
             reels: [u64::MAX, 0, 7, 8, 9, 10, 11][..slots as usize + 2].to_vec(),
-            frames: Frames::Few { bound: random.pick(&[4, 30, 200, 1000]), shift: random.pick(&[0, 0, 0, 1, 3, 20, 57]) },
+            frames: Frames::Few { bound: random.pick(&[4, 30, 200]), shift: random.pick(&[0, 0, 0, 1, 3, 20, 57]) },
         }
     }
 
+    /// More frames than a root holds, few of which go.
+    fn growing(random: &mut Random) -> Plan {
+        Plan {
+            slots: random.between(1, 2),
+            nodes: random.between(1, 30),
+            steps: 1200,
+            crash: 100,
+            every_moment: true,
+            mixtures: 16,
+            other: 60,
+            others: &OTHERS,
+            reels: vec![7, 8],
+            frames: Frames::Few { bound: 10_000, shift: random.pick(&[0, 3]) },
+        }
+    }
+
+    /// Down to level 31.
     fn deep(random: &mut Random) -> Plan {
         Plan {
             slots: random.between(1, 2),
             nodes: random.between(DEEP_NODES, DEEP_NODES + 12),
             steps: 7000,
             crash: 1000,
+            every_moment: false,
             mixtures: 8,
             other: 30,
             others: &OTHERS_DEEP,
@@ -107,7 +129,8 @@ impl Plan {
         match table.heads.get(head as usize) {
             Some(Head::Claimed { .. }) => Fill,
             Some(Head::Filled { .. }) => Commit,
-            _ => Claim,
+            Some(Head::Idle) => Claim,
+            None => random.pick(&[Claim, Fill, Commit, Abandon]),
         }
     }
 

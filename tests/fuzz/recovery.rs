@@ -2,12 +2,15 @@
 //! after, with idle heads and the map of the nodes reached.
 use crate::crash::Crash;
 use crate::history::History;
+use crate::model::buffer::Buffer;
 use crate::model::call::{Call, Function, Lent};
 use crate::model::ending::Ending;
 use crate::model::fault::Fault;
 use crate::model::image::*;
+use crate::model::script::{Entry, BARRIER};
 use crate::model::table::{self, Reels, Table};
 use crate::model::tree;
+use crate::report::reels_differ;
 use std::collections::HashSet;
 
 const SOME_MIXTURES: u64 = 4;
@@ -31,7 +34,7 @@ fn contents(image: &[u64]) -> Result<(Reels, Vec<u64>), String> {
 pub fn check_book(lent: &Lent, table: &Table) -> Result<(), String> {
     let (reels, map) = contents(&lent.image)?;
     if reels != table.reels {
-        return Err(format!("the table has {:?}, the image {:?}", table.reels, reels));
+        return Err(reels_differ(&table.reels, &reels));
     }
     if map != lent.map[..] {
         return Err(format!("nodes reached {:x?}, map {:x?}", map, &lent.map[..]));
@@ -52,23 +55,50 @@ pub fn check_book(lent: &Lent, table: &Table) -> Result<(), String> {
 }
 
 impl History<'_> {
-    /// Tries what the crash can leave, and goes on from the last one tried. `passed`: the script's last barrier has passed.
-    pub fn crash(&mut self, crash: &Crash, before: &Reels, passed: bool) -> Result<(), String> {
-        let after = self.table.reels.clone();
-        let mixtures = crash.mixtures();
-        let all = mixtures <= self.plan.mixtures;
-        let start = self.random.below(mixtures);
-        for tried in 0..if all { mixtures } else { SOME_MIXTURES } {
-            let number = if all { (start + tried) % mixtures } else { self.random.below(mixtures) };
-            self.lent.image = crash.mixture(number);
-            self.recover()?;
-            let undone = !passed && contents(&self.lent.image)?.0 == *before;
-            self.table.reels.clone_from(if undone { before } else { &after });
-            self.table.heads = [table::Head::Idle; HEADS as usize];
-            check_book(&self.lent, &self.table).map_err(|text| format!("mixture {} of {}: {}", number, mixtures, text))?;
-            self.coverage.mixture(undone, *before != after);
+    /// In a script: at every moment of it, or at one.
+    pub fn crash_in_script(&mut self, function: Function, entries: &[Entry], before: &Reels) -> Result<(), String> {
+        let (image, after) = (self.lent.image.clone(), self.table.reels.clone());
+        let moments = entries.len() as u64 + 1;
+        let first = self.random.below(moments);
+        for moment in first..first + if self.plan.every_moment { moments } else { 1 } {
+            let (done, left) = entries.split_at((moment % moments) as usize);
+            let passed = !left.contains(&BARRIER);
+            self.coverage.crash(function, entries.len(), done.len());
+            self.crash(&Crash::after(&image, done), before, &after, passed)
+                .map_err(|text| format!("crash after {} of {} entries: {}", done.len(), entries.len(), text))?;
         }
         Ok(())
+    }
+
+    /// In a Recover that the history has, or between it and the driver's barrier.
+    pub fn crash_in_recover(&mut self, image: &Buffer, reels: &Reels) -> Result<(), String> {
+        self.coverage.crash(Function::Recover, 0, 0);
+        self.crash(&Crash::in_recover(image, &self.lent.image), reels, reels, false)
+    }
+
+    /// Tries what the crash can leave, and goes on from the last one tried. `passed`: the script's last barrier has passed.
+    fn crash(&mut self, crash: &Crash, before: &Reels, after: &Reels, passed: bool) -> Result<(), String> {
+        let mixtures = crash.mixtures();
+        let all = mixtures <= self.plan.mixtures;
+        let first = self.random.below(mixtures);
+        for tried in 0..if all { mixtures } else { SOME_MIXTURES } {
+            let number = if all { (first + tried) % mixtures } else { self.random.below(mixtures) };
+            self.lent.image = crash.mixture(number);
+            let undone =
+                self.recovered(before, after, passed).map_err(|text| format!("mixture {} of {}: {}", number, mixtures, text))?;
+            self.coverage.mixture(undone, before != after);
+        }
+        Ok(())
+    }
+
+    /// Recovers, and takes the table of before or after, whichever the image then is. True if it is before's.
+    fn recovered(&mut self, before: &Reels, after: &Reels, passed: bool) -> Result<bool, String> {
+        self.recover()?;
+        let undone = !passed && contents(&self.lent.image)?.0 == *before;
+        self.table.reels.clone_from(if undone { before } else { after });
+        self.table.heads = [table::Head::Idle; HEADS as usize];
+        check_book(&self.lent, &self.table)?;
+        Ok(undone)
     }
 
     /// Recovers, after none or some recoveries that crash.

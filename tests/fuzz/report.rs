@@ -1,7 +1,7 @@
 //! What a difference looks like in print.
 use crate::model::call::{Call, Function, Lent};
 use crate::model::image::*;
-use std::fmt::Write;
+use crate::model::table::Reels;
 
 const SHOWN: usize = 16;
 
@@ -33,35 +33,38 @@ fn part(image: &[u64], index: usize) -> String {
     }
 }
 
-/// Ok if answers, counts and all buffers are equal; else the call, its lengths, and what differs.
-pub fn compare(
-    call: &Call,
-    expected: (u64, u64),
-    found: (u64, u64),
-    expected_lent: &Lent,
-    found_lent: &Lent,
-    before: &Lent,
-) -> Result<(), String> {
-    let pairs = expected_lent.named().into_iter().zip(found_lent.named());
-    let differing: Vec<_> = pairs.filter(|(a, b)| a.1 != b.1).collect();
-    if expected == found && differing.is_empty() {
-        return Ok(());
-    }
-    let mut text = describe(call);
-    for (name, buffer) in found_lent.named() {
-        let _ = write!(text, ", {} {}", name, buffer.len());
-    }
-    let header: Vec<u64> = before.image.iter().copied().take(3).collect();
-    let _ = write!(text, "\nimage begins {:?}, heads {:x?}", header, &before.heads[..]);
-    let _ = write!(text, "\nanswer: expected {} found {}; count: expected {} found {}", expected.0, found.0, expected.1, found.1);
-    for ((name, a), (_, b)) in differing {
+/// The call, what it was lent, and where answer, count and buffers are not as expected.
+pub fn difference(call: &Call, heads: &[u64], expected: ((u64, u64), &Lent), found: ((u64, u64), &Lent)) -> String {
+    let mut lines = vec![describe(call)];
+    let lengths = found.1.named().map(|(name, buffer)| format!("{} {}", name, buffer.len()));
+    let header = found.1.image.iter().take(3).collect::<Vec<_>>();
+    lines.push(format!("words: {}; image begins {:?}; heads were {:x?}", lengths.join(", "), header, heads));
+    lines.push(format!("expected answer {}, count {}", expected.0 .0, expected.0 .1));
+    lines.push(format!("found answer {}, count {}", found.0 .0, found.0 .1));
+    for ((name, a), (_, b)) in expected.1.named().into_iter().zip(found.1.named()) {
         if !b.guards_hold() {
-            let _ = write!(text, "\n{}: written outside", name);
+            lines.push(format!("{}: words outside are written", name));
         }
         for index in (0..a.len()).filter(|&index| a[index] != b[index]).take(SHOWN) {
-            let place = if name == "image" { part(&expected_lent.image, index) } else { String::new() };
-            let _ = write!(text, "\n{}[{}]{}: expected {:#x} found {:#x}", name, index, place, a[index], b[index]);
+            let part = if name == "image" { part(a, index) } else { String::new() };
+            lines.push(format!("{}[{}]{}: expected {:#x}, found {:#x}", name, index, part, a[index], b[index]));
         }
     }
-    Err(text)
+    lines.join("\n")
+}
+
+/// What the image lacks of the table, and what it has besides.
+pub fn reels_differ(table: &Reels, image: &Reels) -> String {
+    let less = |a: &Reels, b: &Reels| {
+        let mut lines = Vec::new();
+        for (reel, frames) in a {
+            match b.get(reel) {
+                None => lines.push(format!("reel {}", reel)),
+                Some(others) => lines.extend(frames.difference(others).map(|frame| format!("reel {} frame {}", reel, frame))),
+            }
+        }
+        lines.truncate(SHOWN);
+        lines.join(", ")
+    };
+    format!("the image lacks [{}], it has besides [{}]", less(table, image), less(image, table))
 }

@@ -90,7 +90,7 @@ impl Builder<'_> {
     }
 
     fn plan(&mut self) -> Plan {
-        let target = if self.random.one_in(3) { 0 } else { self.random.word() };
+        let target = if self.random.one_in(2) { 0 } else { self.random.word() };
         let depth = self.random.pick(&[0, 0, 1, 2, 3, 4, 6, 31]);
         Plan { target, depth, fill: self.random.pick(&FILLS), locate: self.random.pick(&LOCATES), held: HashSet::new() }
     }
@@ -146,7 +146,7 @@ impl Builder<'_> {
     /// A path down to level 31 or near it in few nodes: groups of children overlap, which the operations on a path do not see.
     fn chain(&mut self) {
         let mut plan = self.plan();
-        plan.depth = self.random.pick(&[4, 12, 29, 30, 30, 31, 31, 31]);
+        plan.depth = self.random.pick(&[4, 12, 29, 30, 30, LAST_LEVEL, LAST_LEVEL, LAST_LEVEL]);
         let slot = self.random.below(self.slots);
         self.store(slot_index(slot), 7);
         self.store(slot_index(slot) + 1, 1);
@@ -154,7 +154,8 @@ impl Builder<'_> {
         for level in 0..=plan.depth {
             self.node(level, level, 64, low_bits(plan.target, path_bits(level)), &mut plan);
             mark_used(&mut self.map, level);
-            if level < plan.depth {
+            // Level 31 has no children; now and then they are there all the same.
+            if level < plan.depth || level == LAST_LEVEL && self.random.one_in(8) {
                 self.store(node_index(self.slots, level) + NEXT, level + 2 - child(level, plan.target));
             }
         }

@@ -50,6 +50,7 @@ pub struct Call {
 }
 
 /// Every buffer there is; a function is lent those that it has.
+#[derive(PartialEq, Eq)]
 pub struct Lent {
     pub image: Buffer,
     pub map: Buffer,

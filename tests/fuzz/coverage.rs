@@ -1,6 +1,7 @@
 //! What the fuzzing has reached: each way in which a function can end, each answer in a history, each moment of a script to crash in.
 use crate::model::call::{Function, Function::*};
 use crate::model::ending::*;
+use crate::model::node::LAST_LEVEL;
 use std::collections::BTreeMap;
 
 #[derive(Default)]
@@ -9,6 +10,7 @@ pub struct Coverage {
     answers: BTreeMap<(Function, u64), u64>,
     /// By function, entries of its script, and how many of these were carried out.
     crashes: BTreeMap<(Function, usize, usize), u64>,
+    deepest: u64,
     mixtures: u64,
     undone: u64,
     completed: u64,
@@ -83,6 +85,11 @@ impl Coverage {
         *self.answers.entry((function, answer)).or_default() += 1;
     }
 
+    /// A history, and the highest level in it.
+    pub fn history(&mut self, deepest: u64) {
+        self.deepest = self.deepest.max(deepest);
+    }
+
     /// A crash after some of a script's entries.
     pub fn crash(&mut self, function: Function, entries: usize, cut: usize) {
         *self.crashes.entry((function, entries, cut)).or_default() += 1;
@@ -140,6 +147,9 @@ impl Coverage {
         let all: Vec<_> = Function::ALL.iter().flat_map(|&f| moments(f)).collect();
         lines
             .extend(missed(&all, &self.crashes, |key| format!("crash in {} after {} of {} entries", key.0.name(), key.2, key.1)));
+        if self.deepest < LAST_LEVEL {
+            lines.push(format!("never reached: level {} in a history", LAST_LEVEL));
+        }
         lines
     }
 }

@@ -8,7 +8,7 @@ use crate::model::script::{self, Entry, BARRIER, SCRIPT_WORDS};
 use crate::model::table::{Lengths, Reply, Table, Value};
 use crate::plan::Plan;
 use crate::random::Random;
-use crate::recovery::check_book;
+use crate::recovery::{check_book, deepest};
 use crate::report::describe;
 use crate::subject::Subject;
 
@@ -36,6 +36,7 @@ pub fn case(seed: u64, subject: Subject, coverage: &mut Coverage) -> Result<(), 
         let mut call = history.plan.call(&mut history.random, &history.table);
         history.step(&mut call).map_err(|text| format!("step {}, {}: {}", step, describe(&call), text))?;
     }
+    history.coverage.history(deepest(&history.lent));
     check_book(&history.lent, &history.table).map_err(|text| format!("after the last step: {}", text))
 }
 

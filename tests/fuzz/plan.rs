@@ -39,9 +39,9 @@ const DEEP_NODES: u64 = 1 + 3 * 2 + 28 * 4;
 
 impl Plan {
     pub fn draw(random: &mut Random) -> Plan {
-        match random.below(64) {
+        match random.below(40) {
             0 => Plan::deep(random),
-            1..=24 => Plan::growing(random),
+            1..=15 => Plan::growing(random),
             _ => Plan::few(random),
         }
     }
@@ -85,7 +85,7 @@ impl Plan {
         Plan {
             slots: random.between(1, 2),
             nodes: random.between(DEEP_NODES, DEEP_NODES + 12),
-            steps: 7000,
+            steps: 7800,
             crash: 1000,
             every_moment: false,
             mixtures: 8,
@@ -135,10 +135,8 @@ impl Plan {
     }
 
     fn frame(&self, random: &mut Random, table: &Table, reel: u64) -> u64 {
-        if random.one_in(60) {
-            return random.word();
-        }
         match self.frames {
+            Frames::Few { .. } if random.one_in(60) => random.word(),
             Frames::Few { bound, shift } => random.below(bound) << shift,
             Frames::Deep { target } => {
                 // Every 64 frames fill a node of the path, and the next ones have to agree with it one level further.

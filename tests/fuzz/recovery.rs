@@ -7,6 +7,7 @@ use crate::model::call::{Call, Function, Lent};
 use crate::model::ending::Ending;
 use crate::model::fault::Fault;
 use crate::model::image::*;
+use crate::model::node::LEVEL_AT;
 use crate::model::script::{Entry, BARRIER};
 use crate::model::table::{self, Reels, Table};
 use crate::model::tree;
@@ -28,6 +29,13 @@ fn contents(image: &[u64]) -> Result<(Reels, Vec<u64>), String> {
         reels.insert(image.reel(slot), tree::frames(&walk).into_iter().collect());
     }
     Ok((reels, map))
+}
+
+/// The highest level of a node in use.
+pub fn deepest(lent: &Lent) -> u64 {
+    let (slots, nodes) = (lent.image[1], lent.image[2]);
+    let level = |node: u64| lent.image[(node_index(slots, node) + LEVEL_AT) as usize];
+    (0..nodes).filter(|&node| is_used(&lent.map, node)).map(level).max().unwrap_or(0)
 }
 
 /// The book is the table's, and its map has the nodes reached.

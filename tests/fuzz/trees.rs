@@ -72,8 +72,8 @@ pub fn build(random: &mut Random) -> Built {
 /// Mostly small; now and then of several map words, seldom large, and very seldom the largest.
 fn geometry(random: &mut Random) -> (u64, u64) {
     match random.below(1 << 16) {
-        0 => (MAX_SLOTS, MAX_NODES),
-        1..=31 => (random.between(1, MAX_SLOTS), random.between(1, 2000)),
+        0..=2 => (MAX_SLOTS, MAX_NODES),
+        3..=31 => (random.between(1, MAX_SLOTS), random.between(1, 2000)),
         32..=8191 => (random.between(1, 5), random.between(60, 200)),
         8192..=32767 => (random.between(1, 5), random.between(1, 8)),
         _ => (random.between(1, 5), random.between(1, 40)),

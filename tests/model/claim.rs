@@ -55,7 +55,8 @@ fn check_frame(path: &[Node], frame: u64, fault: Fault) -> Result<(), Ending> {
     if fault == Fault::HeldBeforeFull {
         held?;
     }
-    check(clear.is_some() || path.len() as u64 - 1 < LAST_LEVEL, LAST_FULL)?;
+    let full = if fault == Fault::FullIsNoRun { TOO_FEW } else { LAST_FULL };
+    check(clear.is_some() || path.len() as u64 - 1 < LAST_LEVEL, full)?;
     held
 }
 
@@ -98,13 +99,15 @@ fn branched<'a>(image: Image<'a>, parent: Node<'a>, frame: u64, map: &[u64]) -> 
     Ok(Taken { ending, node, place: 0, entries, locate: 0, new })
 }
 
+/// The first of the lowest run of free nodes. Refusal 8 exactly if there is none.
 fn run(image: Image, map: &[u64], count: u64) -> Result<u64, Ending> {
-    let free: Vec<u64> = (0..image.nodes).filter(|&node| !is_used(map, node)).collect();
+    let free = (0..image.nodes).filter(|&node| !is_used(map, node)).count() as u64;
     let lowest = free_run(map, image.nodes, count);
-    match image.fault {
-        Fault::FreeNodesCounted if free.len() as u64 >= count => return Ok(lowest.unwrap_or(free[0].min(image.nodes - count))),
-        Fault::RunInOneWord if lowest.map_or(false, |first| first / 64 != (first + count - 1) / 64) => return Err(NO_RUN),
-        _ => (),
-    }
-    lowest.ok_or(if free.len() as u64 >= count { NO_RUN } else { TOO_FEW })
+    let found = match image.fault {
+        Fault::FreeNodesCounted if free >= count => lowest.or_else(|| free_run(map, image.nodes, 1)),
+        Fault::RunInOneWord => lowest.filter(|first| first / 64 == (first + count - 1) / 64),
+        Fault::RunPastPool => free_run(map, 64 * map.len() as u64, count),
+        _ => lowest,
+    };
+    found.ok_or(if free >= count { NO_RUN } else { TOO_FEW })
 }

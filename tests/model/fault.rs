@@ -12,8 +12,10 @@ pub enum Fault {
     ReelBeforeState,
     FirstClearPlace,
     HeldBeforeFull,
+    FullIsNoRun,
     FreeNodesCounted,
     RunInOneWord,
+    RunPastPool,
     SpareBitsCleared,
     BytesLost,
     LastPlaceRemoved,
@@ -36,7 +38,7 @@ pub enum Fault {
 
 impl Fault {
     /// Found by single calls: one buffer or answer differs from the sound model's.
-    pub const OF_CALLS: [(Fault, &'static str); 21] = [
+    pub const OF_CALLS: [(Fault, &'static str); 23] = [
         (Fault::NoSlots, "an image without slots is taken"),
         (Fault::EmptySlotRead, "an empty slot's reel number counts as open"),
         (Fault::HighestSlot, "a reel is the highest filled slot with its number"),
@@ -46,8 +48,10 @@ impl Fault {
         (Fault::ReelBeforeState, "claim tries 5 before 12"),
         (Fault::FirstClearPlace, "claim does not look for the frame below the first clear place"),
         (Fault::HeldBeforeFull, "claim tries 9 before the full path to level 31"),
+        (Fault::FullIsNoRun, "claim answers 8 for a full path to level 31"),
         (Fault::FreeNodesCounted, "8 judged by the number of free nodes"),
         (Fault::RunInOneWord, "a run across two map words is not found"),
+        (Fault::RunPastPool, "a run may end past the pool, in the map's spare bits"),
         (Fault::SpareBitsCleared, "open clears the map's spare bits"),
         (Fault::BytesLost, "fill loses the fingerprint word's other bytes"),
         (Fault::LastPlaceRemoved, "remove takes the last place"),

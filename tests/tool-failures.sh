@@ -237,6 +237,7 @@ try_power_failures() {
     done
     plan >rounds
     while read -r line <&4; do round $line; done 4<rounds
+    [ "$rounds" -lt 100 ] && return # too few for all kinds to come
     holds test "$failures" -gt "$((rounds / 3))"
     holds test "$kept" -gt 0
     holds test "$cuts" -gt 0

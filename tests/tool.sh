@@ -262,10 +262,10 @@ try_locks() {
     done
     printf '1 2 3 ' >&3
     kill -INT "$holder"
+    exec 3>&-
     wait "$holder"
     holds test $? = 1
     holder=
-    exec 3>&-
     added=$(sed -n 's/^reelbook: add: interrupted; \([0-3]\) frames* added$/\1/p' interrupted)
     holds test -n "$added"
     does "$sound" check book

@@ -1,7 +1,8 @@
 # make check-header: include/reelbook.h as C and as C++, and its constants against the library.
-# make fuzz: the library against the model for SECONDS. SEED=random takes other cases than the gate's; SEED=number repeats one case.
+# make check-stores: Recover's stores to the image, one by one.
+# make fuzz: the library against the model for SECONDS. SEED=random takes new cases; SEED=number repeats one.
 # make faults: deliberate faults, each of which the fuzzing has to find.
-.PHONY: check-header fuzz faults
+.PHONY: check-header check-stores fuzz faults
 
 RUSTC ?= rustc
 SECONDS ?= 60
@@ -17,11 +18,17 @@ check-header: build/header-c build/header-c++
 	build/header-c
 	build/header-c++
 
-build/header-c: tests/header.c $(HEADER) $(LIBRARY)
-	$(AS_C) -o $@ $< -x none $(LIBRARY)
+build/header-c: tests/header.c tests/book.c tests/book.h $(HEADER) $(LIBRARY)
+	$(AS_C) -o $@ tests/header.c tests/book.c -x none $(LIBRARY)
 
-build/header-c++: tests/header.c $(HEADER) $(LIBRARY)
-	$(AS_CXX) -o $@ $< -x none $(LIBRARY)
+build/header-c++: tests/header.c tests/book.c tests/book.h $(HEADER) $(LIBRARY)
+	$(AS_CXX) -o $@ tests/header.c tests/book.c -x none $(LIBRARY)
+
+check-stores: build/stores
+	build/stores
+
+build/stores: tests/stores.c tests/book.c tests/book.h $(HEADER) $(LIBRARY)
+	$(CC) $(WARNINGS) $(CFLAGS) -Iinclude -o $@ tests/stores.c tests/book.c $(LIBRARY)
 
 fuzz: build/fuzz
 	build/fuzz $(if $(filter-out random,$(SEED)),case $(SEED),$(SECONDS) $(SEED))

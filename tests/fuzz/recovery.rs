@@ -1,5 +1,5 @@
-//! Crashes of a history: every image that one can leave is recovered, recovery itself being cut, and is then the table's of before or
-//! after, with idle heads and the map of the nodes reached.
+//! Crashes of a history: every image that one can leave is recovered, by recoveries that crash too, and is then the table's of
+//! before or after, with idle heads and the map of the nodes reached.
 use crate::crash::Crash;
 use crate::history::History;
 use crate::model::buffer::Buffer;

@@ -1,27 +1,33 @@
 # make check-header: include/reelbook.h as C and as C++, and its constants against the library.
-# make fuzz: the library against the model for SECONDS. SEED=random takes other cases than the gate's; SEED=number repeats one case.
+# make check-stores: Recover's stores to the image, one by one.
+# make fuzz: the library against the model for SECONDS. SEED=random takes new cases; SEED=number repeats one.
 # make faults: deliberate faults, each of which the fuzzing has to find.
-.PHONY: check-header fuzz faults
+.PHONY: check-header check-stores fuzz faults
 
 RUSTC ?= rustc
 SECONDS ?= 60
 SEED ?=
-HEADER = include/reelbook.h
 HEADER_WARNINGS = -Wall -Wextra -Wpedantic -Wshadow -Wconversion -Wsign-conversion -Wcast-qual -Wundef -Werror
-AS_C = $(CC) -x c -std=c99 $(HEADER_WARNINGS) -Wstrict-prototypes -Iinclude $(CFLAGS)
-AS_CXX = $(CXX) -x c++ -std=c++11 $(HEADER_WARNINGS) -Iinclude $(CFLAGS)
+HEADER_AS_C = $(CC) -x c -std=c99 $(HEADER_WARNINGS) -Wstrict-prototypes -Iinclude $(CFLAGS)
+HEADER_AS_CXX = $(CXX) -x c++ -std=c++11 $(HEADER_WARNINGS) -Iinclude $(CFLAGS)
 
 check-header: build/header-c build/header-c++
-	echo '#include "reelbook.h"' | $(AS_C) -fsyntax-only -
-	echo '#include "reelbook.h"' | $(AS_CXX) -fsyntax-only -
+	echo '#include "reelbook.h"' | $(HEADER_AS_C) -fsyntax-only -
+	echo '#include "reelbook.h"' | $(HEADER_AS_CXX) -fsyntax-only -
 	build/header-c
 	build/header-c++
 
-build/header-c: tests/header.c $(HEADER) $(LIBRARY)
-	$(AS_C) -o $@ $< -x none $(LIBRARY)
+build/header-c: tests/header.c tests/book.c tests/book.h include/reelbook.h $(LIBRARY)
+	$(HEADER_AS_C) -o $@ tests/header.c tests/book.c -x none $(LIBRARY)
 
-build/header-c++: tests/header.c $(HEADER) $(LIBRARY)
-	$(AS_CXX) -o $@ $< -x none $(LIBRARY)
+build/header-c++: tests/header.c tests/book.c tests/book.h include/reelbook.h $(LIBRARY)
+	$(HEADER_AS_CXX) -o $@ tests/header.c tests/book.c -x none $(LIBRARY)
+
+check-stores: build/stores
+	build/stores
+
+build/stores: tests/stores.c tests/book.c tests/book.h include/reelbook.h $(LIBRARY)
+	$(CC) $(WARNINGS) $(CFLAGS) -Iinclude -o $@ tests/stores.c tests/book.c $(LIBRARY)
 
 fuzz: build/fuzz
 	build/fuzz $(if $(filter-out random,$(SEED)),case $(SEED),$(SECONDS) $(SEED))

@@ -1,4 +1,5 @@
-//! What the fuzzing has reached: each way in which a function can end, each answer in a history, each moment of a script to crash in.
+//! What the fuzzing has reached: each way in which a function can end, each answer in a history, each moment of a script for a
+//! crash.
 use crate::model::call::{Function, Function::*};
 use crate::model::ending::*;
 use crate::model::node::LAST_LEVEL;

@@ -1,5 +1,5 @@
-//! What a crash in a script can leave: each word stored to since the last barrier passed holds its content from then or any one of
-//! those stores, each word for itself; all others are as carried out.
+//! What a crash can leave: each word stored to since the last barrier passed holds its content from then or any one of those
+//! stores, each word for itself; all others are as carried out.
 use crate::model::buffer::Buffer;
 use crate::model::script::{carry_out, Entry, BARRIER};
 use std::collections::BTreeMap;

@@ -91,6 +91,9 @@ impl History<'_> {
         let (answer, count) = self.subject.perform(call, &mut self.lent, self.random.word());
         let reply = self.table.perform(call, &Lengths::of(&self.lent), answer);
         self.coverage.answer(call.function, answer);
+        if let Some((name, _)) = self.lent.named().iter().find(|(_, buffer)| !buffer.guards_hold()) {
+            return Err(format!("words outside the {} are written", name));
+        }
         self.compare(answer, count, &reply)?;
         let entries = if reply == Ok(Value::None) { script::read(&self.lent.script[..count as usize]) } else { Vec::new() };
         if let Some((which, buffer)) = own {

@@ -9,7 +9,9 @@ type Read = *const u64;
 extern "C" {
     fn reelbook_format(image: Words, words: usize, map: Words, map_words: usize, heads: Words, slots: u64, nodes: u64) -> u64;
     fn reelbook_recover(image: Words, words: usize, map: Words, map_words: usize, heads: Words) -> u64;
-    fn reelbook_open(image: Read, words: usize, map: Words, map_words: usize, script: Words, room: usize, reel: u64, used: Words) -> u64;
+    fn reelbook_open(
+        image: Read, words: usize, map: Words, map_words: usize, script: Words, room: usize, reel: u64, used: Words,
+    ) -> u64;
     fn reelbook_claim(
         image: Read, words: usize, map: Words, map_words: usize, heads: Words, script: Words, room: usize, head: u64, reel: u64,
         frame: u64, used: Words,

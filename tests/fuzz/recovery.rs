@@ -1,5 +1,5 @@
-//! Crashes of a history: every image that one can leave is recovered, recovery itself being cut, and is then the table's of before or
-//! after, with idle heads and the map of the nodes reached.
+//! Crashes of a history: every image that one can leave is recovered, by recoveries that crash too, and is then the table's of
+//! before or after, with idle heads and the map of the nodes reached.
 use crate::crash::Crash;
 use crate::history::History;
 use crate::model::buffer::Buffer;
@@ -17,10 +17,12 @@ use std::collections::HashSet;
 const SOME_MIXTURES: u64 = 4;
 const MOST_CUTS: u64 = 3;
 
+fn unsound(ending: Ending) -> String {
+    format!("the image is not sound: {}", ending.shape)
+}
+
 /// The image's reels with their frames, and the map of the nodes reached.
-fn contents(image: &[u64]) -> Result<(Reels, Vec<u64>), String> {
-    let unsound = |ending: Ending| format!("the image is not sound: {}", ending.shape);
-    let image = Image::read(image, Fault::None).map_err(unsound)?;
+fn contents(image: Image) -> Result<(Reels, Vec<u64>), String> {
     let mut map = vec![0; map_words(image.nodes) as usize];
     image.sound().map_err(unsound)?.iter().for_each(|&node| mark_used(&mut map, node));
     let mut reels = Reels::new();
@@ -40,7 +42,8 @@ pub fn deepest(lent: &Lent) -> u64 {
 
 /// The book is the table's, and its map has the nodes reached.
 pub fn check_book(lent: &Lent, table: &Table) -> Result<(), String> {
-    let (reels, map) = contents(&lent.image)?;
+    let image = Image::read(&lent.image, Fault::None).map_err(unsound)?;
+    let (reels, map) = contents(image)?;
     if reels != table.reels {
         return Err(reels_differ(&table.reels, &reels));
     }
@@ -49,11 +52,11 @@ pub fn check_book(lent: &Lent, table: &Table) -> Result<(), String> {
     }
     for head in 0..HEADS {
         let record = Head::read(&lent.heads, head);
-        let about = (lent.image[slot_index(record.slot) as usize], record.frame);
+        let about = |reel: u64, frame: u64| Some(record.slot) == image.slot_of(reel) && record.frame == frame;
         let agrees = match table.heads[head as usize] {
             table::Head::Idle => lent.heads[head as usize * HEAD_WORDS..][..HEAD_WORDS] == [0; HEAD_WORDS],
-            table::Head::Claimed { reel, frame } => record.state == State::Claimed && about == (reel, frame),
-            table::Head::Filled { reel, frame } => record.state == State::Filled && about == (reel, frame),
+            table::Head::Claimed { reel, frame } => record.state == State::Claimed && about(reel, frame),
+            table::Head::Filled { reel, frame } => record.state == State::Filled && about(reel, frame),
         };
         if !agrees {
             return Err(format!("the table's heads are {:?}, the records {:x?}", table.heads, &lent.heads[..]));
@@ -102,7 +105,8 @@ impl History<'_> {
     /// Recovers, and takes the table of before or after, whichever the image then is. True if it is before's.
     fn recovered(&mut self, before: &Reels, after: &Reels, passed: bool) -> Result<bool, String> {
         self.recover()?;
-        let undone = !passed && contents(&self.lent.image)?.0 == *before;
+        let image = Image::read(&self.lent.image, Fault::None).map_err(unsound)?;
+        let undone = !passed && contents(image)?.0 == *before;
         self.table.reels.clone_from(if undone { before } else { after });
         self.table.heads = [table::Head::Idle; HEADS as usize];
         check_book(&self.lent, &self.table)?;

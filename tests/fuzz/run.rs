@@ -45,7 +45,7 @@ pub fn repeat(seed: u64) -> bool {
     result.is_ok()
 }
 
-/// The cases under way, by kind, for what cannot return: a case without end, a fault in the library.
+/// The cases under way, by kind, to be named where one cannot return: without end, by a signal, by a panic.
 static UNDER_WAY: [AtomicU64; 2] = [AtomicU64::new(0), AtomicU64::new(0)];
 static FAILED: AtomicBool = AtomicBool::new(false);
 
@@ -58,6 +58,7 @@ extern "C" {
     fn signal(number: i32, handler: extern "C" fn(i32)) -> usize;
 }
 
+/// SIGILL, SIGBUS, SIGFPE, SIGSEGV.
 const FATAL_SIGNALS: [i32; 4] = [4, 7, 8, 11];
 
 extern "C" fn die(number: i32) {
@@ -109,7 +110,7 @@ pub fn run(time: Duration, base: u64) -> bool {
     match (calls, histories) {
         (Ok(calls), Ok(histories)) => report(&calls, &histories),
         _ => {
-            println!("the model panics; {}", under_way());
+            println!("a case panics; {}", under_way());
             false
         }
     }

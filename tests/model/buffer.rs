@@ -4,7 +4,8 @@ use std::ops::{Deref, DerefMut};
 const GUARD_WORDS: usize = 4;
 const GUARD: u64 = 0x5ca1_ab1e_0ddb_a115;
 
-/// Reads and writes as its content. Two are equal if contents and guards are: the guards of a copy that only safe code wrote to are whole.
+/// Reads and writes as its content. Two are equal if contents and guards are; the model, which sees the content alone, leaves the
+/// guards whole.
 #[derive(PartialEq, Eq)]
 pub struct Buffer {
     words: Vec<u64>,

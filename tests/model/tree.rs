@@ -25,7 +25,7 @@ impl<'a> Image<'a> {
         }
     }
 
-    /// The nodes of a root's tree: each before its children, these rising. Refusal 4 if one is malformed or already among those seen.
+    /// The nodes of a root's tree: each before its children, these rising. Refusal 4 if one is malformed or among those seen.
     pub fn walk(&self, root: u64, seen: &mut HashSet<u64>) -> Result<Vec<Reached<'a>>, Ending> {
         let mut reached = Vec::new();
         self.walk_from(root - 1, Vec::new(), seen, &mut reached)?;

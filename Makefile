@@ -26,8 +26,10 @@ $(LIBRARY): $(RATTLE_SOURCES)
 	@rt staticlib reelbook >build/library.log 2>&1 </dev/null || { cat build/library.log; exit 1; }
 	cp target/staticlib/libreelbook.a $@
 
--include driver/build.mk tests/build.mk bench/build.mk
+include driver/build.mk tests/build.mk
+-include bench/build.mk
 
 test:
 	rt fmt --check
+	$(MAKE) --no-print-directory check-header check-tool faults fuzz
 	rt ci

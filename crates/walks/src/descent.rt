@@ -41,7 +41,7 @@ pub enum Placement {
 }
 
 // How a frame's path goes on from a node.
-enum Step {
+pub enum Step {
     // The node has no children.
     End,
     // To this child.
@@ -49,7 +49,7 @@ enum Step {
 }
 
 // The step from a well-formed node. Its children are inside the pool, so the sum does not wrap.
-fn step_from(image: &[u64], g: Geometry, level: u64, n: usize, frame: u64) -> Step
+pub fn step_from(image: &[u64], g: Geometry, level: u64, n: usize, frame: u64) -> Step
     requires { ⌜ Sized (now image) g × (wellFormed g (reads (now image)) level n ≡ true) ⌝ }
     ensures { λ r. ⌜ r ≡ stepFrom g (reads (now (image .entry))) level n frame ⌝ }
 {

@@ -12,7 +12,7 @@ use borrow.Author.Tests.{not-false as is-true}
 use Rattle.memory.specs.Words.{Memory, reads, isSet, marked}
 use Rattle.memory.specs.Search.{first}
 use Rattle.memory.specs.Laws.{NoneBelow}
-use Rattle.memory.proofs.Laws.{no-bit, first-laws, clearIn, unmarked, full-word}
+use Rattle.memory.proofs.Laws.{no-bit, trailing-first, lowest-in, lowest-set, first-laws, clearIn, unmarked, full-word}
 use Rattle.tree.specs.declared.layout.Geometry.{Geometry}
 use Rattle.tree.specs.Lists.{range}
 use Rattle.tree.specs.Lookup.{isFreeRun, freeRun}
@@ -21,7 +21,7 @@ use Rattle.tree.specs.PoolLaws.{NoneUsed}
 use Rattle.tree.proofs.Cases.{test, true-not-false, not-false}
 use Rattle.tree.proofs.Pool.{pool-laws}
 use Rattle.tree.proofs.Runs.{run-laws}
-use Rattle.tree.proofs.Bits.{trailing-lowest, lowest-in, high-kept, low-cleared}
+use Rattle.tree.proofs.Bits.{high-kept, low-cleared}
 
 -- ---- marks
 
@@ -156,19 +156,16 @@ module _ {pool : List ℕ} {from i rest : ℕ} (t : Searched pool from i rest) w
     abbrev low : ℕ
     low = trailingZeros 64 rest
 
-    low-set : isSet rest low ≡ true
-    low-set = trailing-lowest 64 rest .hit (lowest-in rest o (t .fits))
-
     low-onward : from ≤ 64 * i + low
-    low-onward = elim (decLt (64 * i + low) from) [ yes l ↦ absurd (true-not-false low-set (t .behind low l)) | no l ↦ omega arith ]
+    low-onward = elim (decLt (64 * i + low) from) [ yes l ↦ absurd (true-not-false (lowest-set rest o (t .fits)) (t .behind low l)) | no l ↦ omega arith ]
 
     none-low : NoneUsed pool from (64 * i + low)
-    none-low = none-onto low low-onward (trailing-le 64 rest) (trailing-lowest 64 rest .none-below)
+    none-low = none-onto low low-onward (trailing-le 64 rest) (rw (trailing-first 64 rest) (first-laws (isSet rest) 64 .none-before))
 
     pub search-found : (bound : ℕ) → 64 * i + low < bound → 64 * i + low ≡ nextUsed pool from bound
     search-found bound l =
         pool-laws .next-is pool from bound (64 * i + low)
-        (record { none-before = none-low; within = omega arith; is-used = λ b. sym (t .ahead low (lowest-in rest o (t .fits)) low-onward) ∙ low-set })
+        (record { none-before = none-low; within = omega arith; is-used = λ b. sym (t .ahead low (lowest-in rest o (t .fits)) low-onward) ∙ lowest-set rest o (t .fits) })
 
     pub search-beyond : (bound : ℕ) → from ≤ bound → bound ≤ 64 * i + low → bound ≡ nextUsed pool from bound
     search-beyond bound l h = next-missing bound none-low l h

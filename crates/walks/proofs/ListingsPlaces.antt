@@ -7,14 +7,17 @@ use Prim.Native.Nat.{ℕ, zero, suc, _+_, _-_, _*_, _/_, _%_, _^_, _≤_, _<_}
 use native.Mathlib.Omega.{arith}
 use native.Mathlib.Nat.{mul-mod-left}
 use lib.ListN.{length, length-map}
-use lib.Count.{trailingZeros, trailing-le}
+use lib.Count.{trailingZeros}
+use borrow.Author.Tests.{not-false as is-true}
 use Rattle.memory.specs.Words.{isSet, withoutBit, reads}
-use Rattle.memory.proofs.Laws.{bit-laws, no-bit}
+use Rattle.memory.specs.Search.{first}
+use Rattle.memory.specs.Laws.{NoneBelow}
+use Rattle.memory.proofs.Laws.{bit-laws, no-bit, trailing-first, lowest-in, lowest-set, first-laws, clearIn}
 use Rattle.tree.specs.declared.layout.Geometry.{Geometry}
 use Rattle.tree.specs.Lists.{range, upTo, keep}
 use Rattle.tree.specs.Layout.{nodeAt, setAt}
 use Rattle.tree.specs.Subtree.{heldPlaces, framesIn, listed}
-use Rattle.tree.proofs.Bits.{trailing-lowest, lowest-in, set-below, high-kept, low-cleared}
+use Rattle.tree.proofs.Bits.{high-kept, low-cleared}
 use Rattle.tree.proofs.Lists.{keep-none, keep-same, keep-first, in-range, range-next}
 use Rattle.tree.proofs.Pigeon.{length-upTo}
 use Rattle.walks.specs.Places.{setPlaces, wordsAt}
@@ -36,18 +39,15 @@ pub places-next : (w : ℕ) → w ≢ 0 → w < 2 ^ 64 → setPlaces w ≡ trail
 unfolding setPlaces upTo
 places-next w o h =
     let t = trailingZeros 64 w in
-    let s = trailing-lowest 64 w in
     let l = lowest-in w o h in
-    keep-first (isSet w) (isSet (withoutBit w t)) 0 64 t (omega arith) (omega arith) (λ k a b. s .none-below k b) (s .hit l) (bit-laws .without-clears w t) (λ k d. bit-laws .without-keeps w t k d)
+    let none : NoneBelow (isSet w) t = rw (trailing-first 64 w) (first-laws (isSet w) 64 .none-before) in
+    keep-first (isSet w) (isSet (withoutBit w t)) 0 64 t (omega arith) (omega arith) (λ k a b. none k b) (lowest-set w o h) (bit-laws .without-clears w t) (λ k d. bit-laws .without-keeps w t k d)
 
 -- ---- a word's low set bits, then the others
 
--- how many of a word's low bits are all set, and the word without them
-abbrev pub lowOf : ℕ → ℕ
-lowOf w = trailingZeros 64 (2 ^ 64 - 1 - w)
-
-abbrev pub highOf : ℕ → ℕ
-highOf w = w / 2 ^ lowOf w * 2 ^ lowOf w % 2 ^ 64
+-- a word without its bits below k
+abbrev pub highOf : (w k : ℕ) → ℕ
+highOf w k = w / 2 ^ k * 2 ^ k % 2 ^ 64
 
 -- a test that holds at the first k numbers of a range keeps them, and then what a test keeps that holds where it does from there on
 keep-low : (p q : ℕ → Bool) (from n k : ℕ) → k ≤ n → ((j : ℕ) → from ≤ j → j < from + k → (p j ≡ true) × (q j ≡ false))
@@ -60,61 +60,61 @@ keep-low p q from (suc n) (suc k) l low high =
     rw (here .0, here .1)
     (ap (λ xs. from ∷ xs) (keep-low p q (suc from) n k (omega arith) (λ j a b. low j (omega arith) (omega arith)) (λ j a. high j (omega arith))))
 
-places-split : (w : ℕ) → w < 2 ^ 64 → setPlaces w ≡ upTo (lowOf w) ++ setPlaces (highOf w)
+places-split : (w k : ℕ) → w < 2 ^ 64 → k ≡ first (clearIn w) 64 → setPlaces w ≡ upTo k ++ setPlaces (highOf w k)
 unfolding setPlaces upTo
-places-split w h =
-    let k = lowOf w in
-    keep-low (isSet w) (isSet (highOf w)) 0 64 k (trailing-le 64 _) (λ j a b. (set-below w j h (omega arith), low-cleared w k h j (omega arith))) (λ j a. high-kept w k h j (omega arith))
+places-split w k h e =
+    let s = first-laws (clearIn w) 64 in
+    keep-low (isSet w) (isSet (highOf w k)) 0 64 k (omega (arith, s .within))
+    (λ j a b. (is-true (isSet w j) (s .none-before j (omega arith)), low-cleared w k h j (omega arith))) (λ j a. high-kept w k h j (omega arith))
 
 -- ---- the words there
 
-module _ (image : List ℕ) (first : ℕ) where
-  pub words-none : (set : ℕ) → set ≡ 0 → wordsAt image first (setPlaces set) ≡ []
+module _ (image : List ℕ) (start : ℕ) where
+  pub words-none : (set : ℕ) → set ≡ 0 → wordsAt image start (setPlaces set) ≡ []
   unfolding wordsAt
   words-none set z = rw (places-none set z) refl
 
   pub words-next : (set : ℕ) → set ≢ 0 → set < 2 ^ 64
-      → wordsAt image first (setPlaces set)
-      ≡ reads image (first + trailingZeros 64 set) ∷ wordsAt image first (setPlaces (withoutBit set (trailingZeros 64 set)))
+      → wordsAt image start (setPlaces set)
+      ≡ reads image (start + trailingZeros 64 set) ∷ wordsAt image start (setPlaces (withoutBit set (trailingZeros 64 set)))
   unfolding wordsAt
-  words-next set o h = ap (wordsAt image first) (places-next set o h)
+  words-next set o h = ap (wordsAt image start) (places-next set o h)
 
-  words-split : (set : ℕ) → set < 2 ^ 64
-      → wordsAt image first (setPlaces set) ≡ wordsAt image first (upTo (lowOf set)) ++ wordsAt image first (setPlaces (highOf set))
+  words-split : (set k : ℕ) → set < 2 ^ 64 → k ≡ first (clearIn set) 64
+      → wordsAt image start (setPlaces set) ≡ wordsAt image start (upTo k) ++ wordsAt image start (setPlaces (highOf set k))
   unfolding wordsAt
-  words-split set h = ap (wordsAt image first) (places-split set h) ∙ map-append _ (upTo (lowOf set)) (setPlaces (highOf set))
+  words-split set k h e = ap (wordsAt image start) (places-split set k h e) ∙ map-append _ (upTo k) (setPlaces (highOf set k))
 
-  length-words : (count : ℕ) → length (wordsAt image first (upTo count)) ≡ count
+  length-words : (count : ℕ) → length (wordsAt image start (upTo count)) ≡ count
   unfolding wordsAt
   length-words count = length-map (upTo count) _ ∙ length-upTo count
 
   -- adjacent words: all, one more, none left
-  pub run-all : (count : ℕ) → wordsAt image first (upTo count) ≡ wordsAt image first (range 0 (count - 0))
+  pub run-all : (count : ℕ) → wordsAt image start (upTo count) ≡ wordsAt image start (range 0 (count - 0))
   unfolding upTo
-  run-all count = ap (λ (k : ℕ). wordsAt image first (range 0 k)) (omega arith)
+  run-all count = ap (λ (k : ℕ). wordsAt image start (range 0 k)) (omega arith)
 
   pub run-next : (k count : ℕ) → k < count
-      → wordsAt image first (range k (count - k)) ≡ reads image (first + k) ∷ wordsAt image first (range (k + 1) (count - (k + 1)))
+      → wordsAt image start (range k (count - k)) ≡ reads image (start + k) ∷ wordsAt image start (range (k + 1) (count - (k + 1)))
   unfolding wordsAt
-  run-next k count l = ap (wordsAt image first) (range-next k count l)
+  run-next k count l = ap (wordsAt image start) (range-next k count l)
 
-  pub run-none : (k count : ℕ) → count ≤ k → wordsAt image first (range k (count - k)) ≡ []
+  pub run-none : (k count : ℕ) → count ≤ k → wordsAt image start (range k (count - k)) ≡ []
   unfolding wordsAt range
   run-none k count l = let z : count - k ≡ 0 = omega arith in rw z refl
 
 -- ---- all of them in two pieces
 
-module _ (image buffer : List ℕ) (first set : ℕ) {all : List ℕ} (e : all ≡ wordsAt image first (setPlaces set)) (fits : set < 2 ^ 64)
-    (room : length all ≤ length buffer) where
+module _ (image buffer : List ℕ) (start set : ℕ) {all : List ℕ} {k : ℕ} (e : all ≡ wordsAt image start (setPlaces set)) (fits : set < 2 ^ 64)
+    (room : length all ≤ length buffer) (low : k ≡ first (clearIn set) 64) where
   -- those at the low bits are copied, the others are left
-  pub low-copied : {list : List ℕ} → list ≡ listed (wordsAt image first (upTo (lowOf set))) buffer
-      → Writing all buffer (lowOf set) (wordsAt image first (setPlaces (highOf set))) list
+  pub low-copied : {list : List ℕ} → list ≡ listed (wordsAt image start (upTo k)) buffer → Writing all buffer k (wordsAt image start (setPlaces (highOf set k))) list
   low-copied c =
-      rw c (rw (length-words image first (lowOf set)) at (begun (wordsAt image first (upTo (lowOf set))) _ buffer (e ∙ words-split image first set fits) room))
+      rw c (rw (length-words image start k) at (begun (wordsAt image start (upTo k)) _ buffer (e ∙ words-split image start set k fits low) room))
 
-  pub low-room : lowOf set ≤ length buffer
+  pub low-room : k ≤ length buffer
   low-room = omega (arith, low-copied refl .counts)
 
 -- of a full word none is left
-pub none-high : (image : List ℕ) (first set : ℕ) → lowOf set ≡ 64 → wordsAt image first (setPlaces (highOf set)) ≡ []
-none-high image first set e = words-none image first (highOf set) (rw e (mul-mod-left (set / 2 ^ 64) (2 ^ 64)))
+pub none-high : (image : List ℕ) (start set k : ℕ) → k ≡ 64 → wordsAt image start (setPlaces (highOf set k)) ≡ []
+none-high image start set k e = words-none image start (highOf set k) (rw e (mul-mod-left (set / 2 ^ 64) (2 ^ 64)))

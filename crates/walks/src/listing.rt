@@ -12,6 +12,7 @@ ghost use Rattle.tree.specs.Subtree.{framesIn, listing, listed};
 ghost use Rattle.tree.specs.Check.{isSoundTree};
 ghost use Rattle.walks.specs.Places.{setPlaces, wordsAt};
 ghost use Rattle.walks.specs.Walk.{stops, groupStops, formedAt, framesAt};
+use memory::search::lowest_clear;
 use memory::words::without_bit;
 use tree::layout::Geometry;
 use tree::path::fanout;
@@ -53,7 +54,7 @@ fn list_places(image: &[u64], list: &mut [u64], g: Geometry, n: usize) -> usize
 {
     let at = 64 + 2 * g.slots + 80 * n;
     let set = image[at + 2];
-    let low = u64::trailing_zeros(!set);
+    let low = lowest_clear(set, 64);
     let copied = low as usize;
     copy_words(image, list, at + 16, copied);
     if low == 64 {

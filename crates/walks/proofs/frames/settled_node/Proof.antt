@@ -5,11 +5,10 @@ use borrow.Author.Needs.{needs}
 use lib.Count.{trailingZeros}
 use lib.ListN.{length}
 use Rattle.memory.specs.Words.{reads}
-use Rattle.memory.proofs.Laws.{bit-laws}
+use Rattle.memory.proofs.Laws.{bit-laws, lowest-in}
 use Rattle.tree.specs.Lists.{every}
 use Rattle.tree.specs.Path.{levels}
 use Rattle.walks.specs.Settled.{settledAt, settledNode}
-use Rattle.tree.proofs.Bits.{lowest-in}
 use Rattle.walks.specs.Places.{setPlaces}
 use Rattle.walks.proofs.ListingsPlaces.{places-next}
 use Rattle.walks.proofs.SettledSteps.{known-facts, bits-end, bits-stop, bits-on, settled-places}

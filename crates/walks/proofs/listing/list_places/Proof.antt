@@ -1,48 +1,52 @@
 use Prim.Native.Nat.{_+_, _≤_}
-use lib.Count.{trailing-le}
+use native.Mathlib.Omega.{arith}
 use borrow.Author.Needs.{needs}
 use Rattle.memory.specs.Words.{reads}
+use Rattle.memory.proofs.Laws.{clearIn, first-laws}
 use Rattle.tree.specs.Layout.{nodeAt, setAt}
 use Rattle.tree.specs.Subtree.{framesIn}
 use Rattle.walks.specs.Places.{setPlaces, wordsAt}
 use Rattle.walks.proofs.Listings.{Writing, ends, rest-fits, rest-written}
-use Rattle.walks.proofs.ListingsPlaces.{lowOf, highOf, frames-in, low-copied, low-room, none-high}
+use Rattle.walks.proofs.ListingsPlaces.{highOf, frames-in, low-copied, low-room, none-high}
 use Rattle.walks.proofs.listing.list_places.Statement.{statement}
 use Rattle.walks.proofs.listing.list_places.Tie as tie
 
 -- at most 64 places are copied
-few : (c : tie.After-shared-slice-known2) → let a = c .before .before .before .before .args in lowOf (reads (a .image .now) (setAt (a .g) (a .n))) ≤ 64
-few c = trailing-le 64 _
+few : (c : tie.After-lowest-clear) → c .lowest-clear .result ≤ 64
+few c =
+    let a = c .before .before .before .before .before .args in
+    omega (arith, c .lowest-clear .ensures, first-laws (clearIn (reads (a .image .now) (setAt (a .g) (a .n)))) 64 .within)
 
 -- their frames are written, and those of the others are left
 written : (c : tie.After-slice-known2)
-    → let a = c .before .before .before .before .before .before .before .before .args in
-    let set = reads (a .image .now) (setAt (a .g) (a .n)) in
-    Writing (framesIn (a .g) (reads (a .image .now)) (a .n)) (a .list .now) (lowOf set) (wordsAt (a .image .now) (nodeAt (a .g) (a .n) + 16) (setPlaces (highOf set))) (c .before .before .copy-words .last .1 .0)
+    → let l = c .before .before .before .before in
+    let a = l .before .before .before .before .before .args in
+    let k = l .lowest-clear .result in
+    Writing (framesIn (a .g) (reads (a .image .now)) (a .n)) (a .list .now) k (wordsAt (a .image .now) (nodeAt (a .g) (a .n) + 16) (setPlaces (highOf (reads (a .image .now) (setAt (a .g) (a .n))) k))) (c .before .before .copy-words .last .1 .0)
 written c =
-    let s = c .before .before .before .before in
-    low-copied _ _ _ _ (frames-in _ _ _) (s .shared-slice-known2 .given _ .fits) (s .before .before .before .before .pre .2) (c .before .before .copy-words .ensures)
+    let l = c .before .before .before .before in
+    low-copied _ _ _ _ (frames-in _ _ _) (l .before .shared-slice-known2 .given _ .fits) (l .before .before .before .before .before .pre .2) (l .lowest-clear .ensures) (c .before .before .copy-words .ensures)
 
 copy-words-requires : tie.Need-copy-words-requires
 copy-words-requires c κs =
-    let s = c .before in
-    let a = s .before .before .before .before .args in
-    (search (needs, few s), low-room (a .image .now) (a .list .now) _ _ (frames-in (a .g) _ (a .n)) (s .shared-slice-known2 .given _ .fits) (s .before .before .before .before .pre .2))
+    let l = c .before in
+    let a = l .before .before .before .before .before .args in
+    (search (needs, few l), low-room (a .image .now) (a .list .now) _ _ (frames-in (a .g) _ (a .n)) (l .before .shared-slice-known2 .given _ .fits) (l .before .before .before .before .before .pre .2) (l .lowest-clear .ensures))
 
 -- none of them is left, or the others are written to the rest of the list
 returns : tie.Need-returns
-returns c = ends (rw (none-high _ _ _ (c .if1 .taken)) at (written (c .before)))
+returns c = ends (rw (none-high _ _ _ _ (c .if1 .taken)) at (written (c .before)))
 
 list-words-requires : tie.Need-list-words-requires
 list-words-requires c κs =
     let b = c .before .before in
-    (search needs, rest-fits (b .before .before .before .before .before .before .before .before .pre .2) (written b) .1)
+    (search needs, rest-fits (b .before .before .before .before .before .before .before .before .before .pre .2) (written b) .1)
 
 returns-2 : tie.Need-returns-2
 returns-2 c =
     let b = c .before .before .before .before .before in
     let call = c .before .before .list-words in
-    rest-written _ _ (b .before .before .before .before .before .before .before .before .pre .2) (written b) (call .ensures .0) (call .ensures .1)
+    rest-written _ _ (b .before .before .before .before .before .before .before .before .before .pre .2) (written b) (call .ensures .0) (call .ensures .1)
 
 pub list-places-spec : {M : Type 1} → statement M
 list-places-spec =
@@ -55,19 +59,20 @@ list-places-spec =
     (λ c. search needs)
     (λ c. search needs)
     (λ c. search needs)
-    (λ c. search (needs, few c))
+    (λ c κs. search needs)
+    (λ c. search needs)
     (λ c. search needs)
     copy-words-requires
     (λ c. search needs)
     returns
-    (λ c. search (needs, written (c .before)))
+    (λ c. search needs)
     (λ c. search (needs, written (c .before)))
     (λ c. search (needs, written (c .before)))
     (λ c. search needs)
     (λ c. search needs)
+    (λ c. search needs)
     (λ c. search (needs, few (c .before .before .before .before .before .before)))
-    (λ c. search (needs, few (c .before .before .before .before .before .before)))
-    (λ c. search (needs, few (c .before .before .before .before .before .before)))
+    (λ c. search needs)
     (λ c. search (needs, few (c .before .before .before .before .before .before)))
     list-words-requires
     (λ c. search (needs, written (c .before .before .before .before .before), c .before .before .list-words .ensures .0))

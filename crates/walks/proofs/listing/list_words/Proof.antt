@@ -4,8 +4,7 @@ use native.Mathlib.Omega.{arith}
 use lib.ListN.{length}
 use borrow.Author.Needs.{needs}
 use lib.Count.{trailingZeros}
-use Rattle.memory.proofs.Laws.{bit-laws}
-use Rattle.tree.proofs.Bits.{lowest-in}
+use Rattle.memory.proofs.Laws.{bit-laws, lowest-in}
 use Rattle.walks.specs.Places.{setPlaces, wordsAt}
 use Rattle.walks.proofs.Listings.{Writing, starts, ends, one-more}
 use Rattle.walks.proofs.ListingsPlaces.{words-none, words-next}

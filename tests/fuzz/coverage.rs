@@ -107,12 +107,14 @@ impl Coverage {
         self.cut_recoveries += 1;
     }
 
-    /// One line for each function, with a column for each answer.
+    /// One line for each function: how often it was called, and how often it gave each answer.
     fn table(counts: &BTreeMap<(Function, u64), u64>) {
-        println!("{:8}{}", "", (0..15).map(|answer| format!("{:>8}", answer)).collect::<String>());
+        println!("{:8}{:>8}{}", "", "calls", (0..15).map(|answer| format!("{:>8}", answer)).collect::<String>());
         for function in Function::ALL {
-            let column = |answer| counts.get(&(function, answer)).map_or(format!("{:>8}", "."), |count| format!("{:>8}", count));
-            println!("{:8}{}", function.name(), (0..15).map(column).collect::<String>());
+            let count = |answer: u64| counts.get(&(function, answer)).copied().unwrap_or(0);
+            let column = |answer: u64| if count(answer) == 0 { format!("{:>8}", ".") } else { format!(" {:>7}", count(answer)) };
+            let calls: u64 = (0..15).map(count).sum();
+            println!("{:8} {:>7}{}", function.name(), calls, (0..15).map(column).collect::<String>());
         }
     }
 
@@ -121,7 +123,7 @@ impl Coverage {
         for (&(function, ending), count) in &self.endings {
             *counts.entry((function, ending.answer)).or_default() += count;
         }
-        println!("{} calls, by function and answer:", self.endings.values().sum::<u64>());
+        println!("{} calls on single images, by function and answer:", self.endings.values().sum::<u64>());
         Coverage::table(&counts);
     }
 

@@ -286,6 +286,7 @@ pub fn fold(table: &[u8], frame: u64) -> u64
     h
 }
 
+// A frame's fingerprint, where it is the only one to be folded.
 pub fn fingerprint(frame: u64) -> u64
     ensures { λ r. ⌜ r ≡ fingerprint editionOne frame ⌝ }
 {

@@ -1,7 +1,6 @@
 // The place of a node where the lookup finds a frame.
 ghost use mathlib.Core.Path.{_≡_};
 ghost use Prim.Native.Nat.{ℕ, _+_, _*_, _/_, _%_, _<_};
-ghost use lib.ListN.{length};
 ghost use lib.Dec.{eqb};
 ghost use Rattle.memory.specs.Words.{reads, isSet};
 ghost use Rattle.tree.specs.Layout.{Sized, setAt};

@@ -5,12 +5,11 @@ ghost use lib.ListN.{length};
 ghost use Rattle.memory.specs.Words.{reads};
 ghost use Rattle.tree.specs.Lists.{range};
 ghost use Rattle.tree.specs.Lookup.{freeRun};
-ghost use Rattle.tree.specs.Pool.{used, nextUsed, mark, unmark, markAll, clearMap};
+ghost use Rattle.tree.specs.Pool.{used, nextUsed, mark, markAll, clearMap};
 use crate::layout::Geometry;
 use memory::search::lowest_unmarked;
 use memory::words::is_set;
 use memory::words::with_bit;
-use memory::words::without_bit;
 
 // A word of the map with every node used.
 const FULL: u64 = 0xffff_ffff_ffff_ffff;
@@ -53,13 +52,6 @@ pub fn mark(pool: &mut [u64], n: usize)
     ensures { λ _. ⌜ now (pool .exit) ≡ mark (now (pool .entry)) n ⌝ }
 {
     pool[n / 64] = with_bit(pool[n / 64], (n % 64) as u32);
-}
-
-pub fn unmark(pool: &mut [u64], n: usize)
-    requires { ⌜ n < 64 * length (now pool) ⌝ }
-    ensures { λ _. ⌜ now (pool .exit) ≡ unmark (now (pool .entry)) n ⌝ }
-{
-    pool[n / 64] = without_bit(pool[n / 64], (n % 64) as u32);
 }
 
 // Marks k adjacent nodes.

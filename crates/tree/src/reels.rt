@@ -21,7 +21,7 @@ pub fn is_filled(image: &[u64], g: Geometry, s: usize) -> bool
 
 // Is slot s filled with this reel's number? An empty slot's number means nothing. The number comes first: it
 // is rarely the reel's.
-pub fn is_reel(image: &[u64], g: Geometry, s: usize, reel: u64) -> bool
+fn is_reel(image: &[u64], g: Geometry, s: usize, reel: u64) -> bool
     requires { ⌜ Sized (now image) g × (s < g .slots) ⌝ }
     ensures { λ r. ⌜ r ≡ holds (is (filled (reads (now (image .entry))) s) and eq (reads (now (image .entry)) (reelAt s)) reel) ⌝ }
 {

@@ -1,7 +1,6 @@
 // Recovery: the check of a whole image, which builds the pool map, and what is written to it then.
 ghost use mathlib.Core.Path.{_≡_};
 ghost use mathlib.Core.Bool.{true, cond};
-ghost use Prim.Native.Nat.{_≤_, _<_};
 ghost use lib.ListN.{length};
 ghost use Rattle.memory.specs.Words.{reads};
 ghost use Rattle.tree.specs.Layout.{Sized, mapWords};

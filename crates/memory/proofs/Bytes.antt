@@ -1,17 +1,18 @@
 -- A word's bytes one by one: under sums and masks, and as bits. From these, which bytes of a word are b.
 use mathlib.Core.Path.{_≡_, refl, sym, _∙_, ap}
-use mathlib.Core.Bool.{Bool, true, false, cond, not, _||_}
+use mathlib.Core.Bool.{Bool, true, false, cond, not, _&&_, _||_}
 use Prim.Native.Nat.{ℕ, zero, suc, _+_, _*_, _/_, _%_, _^_, _<_}
 use native.Mathlib.Nat.{mul-add, mul-assoc, mul-one, div-one}
 use native.Mathlib.Omega.{arith}
 use native.Mathlib.Decide.{ℕ-discrete}
+use native.Mathlib.Numerals.{one-add}
 use lib.Bits.{bitAnd, bitOr, bitXor, and-shr, and-mod, or-shr, or-mod, xor-shr, xor-mod, xor-add-and, xor-self, and-le-l, and-le-r}
 use lib.Dec.{eqb}
 use lib.Pow.{shr-shr, mod-mod-pow}
 use borrow.Author.Tests.{eq-eqb, ne-eqb, eqb-true, not-false}
 use Rattle.memory.specs.Words.{field, bit, isSet, byte, EqualBytes}
 use Rattle.memory.specs.Search.{first}
-use Rattle.memory.proofs.Fields.{field-below, test-bit, bit-lt, bit-suc, no-bit, byte-laws}
+use Rattle.memory.proofs.Fields.{field-below, test-bit, bit-lt, no-bit, byte-laws}
 use Rattle.memory.proofs.First.{first-laws}
 
 -- ---- bytes, lowest first
@@ -141,14 +142,22 @@ equal-bytes w b h = record {
 
 -- ---- as bits
 
+-- a word from its bit s on
+pub set-ahead : (w s k : ℕ) → isSet (w / 2 ^ s) k ≡ isSet w (s + k)
+unfolding isSet bit field
+set-ahead w s k = ap (λ (x : ℕ). eqb (x % 2) 1) (shr-shr w s k)
+
+pub half-bits : (w k : ℕ) → isSet (w / 2) k ≡ isSet w (suc k)
+half-bits w k = set-ahead w 1 k ∙ ap (isSet w) (one-add k)
+
 -- a bit is one of its byte's
 in-byte : (w k : ℕ) → isSet w k ≡ isSet (byte w (k / 8)) (k % 8)
 unfolding bit byte field
 in-byte w k =
     let e : 8 * (k / 8) + k % 8 ≡ k = omega arith in
     let x : ℕ = w / 2 ^ (8 * (k / 8)) in
-    let same : bit w k ≡ bit x (k % 8) = ap (λ (i : ℕ). w / 2 ^ i % 2) (sym e) ∙ ap (λ (y : ℕ). y % 2) (sym (shr-shr w (8 * (k / 8)) (k % 8))) in
-    test-bit w k (byte w (k / 8)) (k % 8) (same ∙ field-below x (x % 256) 8 (k % 8) 1 (omega arith) (sym (mod-mod-pow x 0 8)))
+    ap (isSet w) (sym e) ∙ sym (set-ahead w (8 * (k / 8)) (k % 8))
+    ∙ test-bit x (k % 8) (byte w (k / 8)) (k % 8) (field-below x (x % 256) 8 (k % 8) 1 (omega arith) (sym (mod-mod-pow x 0 8)))
 
 -- 128 has its highest bit alone
 top-alone : first (isSet 128) 8 ≡ 7
@@ -170,7 +179,7 @@ equal-bit {w} {b} {r} e k l h = in-byte r k ∙ rw (e .each (k / 8) (omega arith
 pub equal-beside : {w b r : ℕ} → EqualBytes w b r → (k : ℕ) → k < 64 → k % 8 < 7 → isSet r k ≡ false
 equal-beside {w} {b} {r} e k l h = in-byte r k ∙ rw (e .each (k / 8) (omega arith)) (below-top (eqb (byte w (k / 8)) b) (k % 8) h)
 
--- ---- two words' bits together, and a word's shifted down
+-- ---- two words' bits together
 
 or-digits : (x y : ℕ) → x < 2 → y < 2 → eqb (bitOr x y) 1 ≡ eqb x 1 || eqb y 1
 or-digits zero y h k = refl
@@ -183,5 +192,13 @@ pub or-bits : (a b k : ℕ) → isSet (bitOr a b) k ≡ isSet a k || isSet b k
 unfolding isSet bit
 or-bits a b k = ap (λ (x : ℕ). eqb x 1) (in-field bitOr or-shr or-mod a b k 1) ∙ or-digits (field a k 1) (field b k 1) (bit-lt a k) (bit-lt b k)
 
-pub half-bits : (w k : ℕ) → isSet (w / 2) k ≡ isSet w (suc k)
-half-bits w k = test-bit (w / 2) k w (suc k) (sym (bit-suc w k))
+and-digits : (x y : ℕ) → x < 2 → y < 2 → eqb (bitAnd x y) 1 ≡ eqb x 1 && eqb y 1
+and-digits zero y h k = refl
+and-digits (suc zero) zero h k = refl
+and-digits (suc zero) (suc zero) h k = refl
+and-digits (suc zero) (suc (suc y)) h k = absurd (omega arith)
+and-digits (suc (suc x)) y h k = absurd (omega arith)
+
+pub and-bits : (a b k : ℕ) → isSet (bitAnd a b) k ≡ isSet a k && isSet b k
+unfolding isSet bit
+and-bits a b k = ap (λ (x : ℕ). eqb x 1) (in-field bitAnd and-shr and-mod a b k 1) ∙ and-digits (field a k 1) (field b k 1) (bit-lt a k) (bit-lt b k)

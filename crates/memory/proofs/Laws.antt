@@ -1,11 +1,11 @@
 -- What crates above cite: a proof for each record of specs/Laws.antt, and the lemmas that proofs of code ask for.
-pub use Rattle.memory.proofs.Fields.{bit-laws, byte-laws, bit-zero, bit-suc, no-bit}
+pub use Rattle.memory.proofs.Fields.{bit-laws, byte-laws, no-bit}
 pub use Rattle.memory.proofs.First.{first-laws}
 pub use Rattle.memory.proofs.Written.{script-laws, rest-lent, rest-back, written-rest}
 pub use Rattle.memory.proofs.Stores.{apply-laws, OldOrStored, content, unstored, settles}
 pub use Rattle.memory.proofs.Bitmap.{clearIn, unmarked, full-word, Passed, pass-word}
-pub use Rattle.memory.proofs.Trailing.{trailing-first, lowest-in, lowest-set, lowest-taken}
-pub use Rattle.memory.proofs.Bytes.{equal-bit, equal-beside, or-bits, half-bits}
+pub use Rattle.memory.proofs.Trailing.{trailing-first, lowest-in, lowest-set, lowest-taken, not-bits}
+pub use Rattle.memory.proofs.Bytes.{equal-bit, equal-beside, set-ahead, half-bits, or-bits, and-bits}
 pub use Rattle.memory.proofs.Cases.{test, clash}
 use Rattle.memory.specs.Laws.{CrashLaws}
 use Rattle.memory.proofs.Fences.{passed-means, passed-at-end}

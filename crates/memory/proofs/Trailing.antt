@@ -69,12 +69,14 @@ bit-not (suc k) (suc n) w hw hk =
     ∙ bit-not k n (w / 2) (omega arith) (omega arith) ∙ ap (λ (x : ℕ). 1 - x) (sym (bit-suc w k))
 
 -- the set bits of the complement are the clear ones
-lowest-clear : (w : ℕ) → w < 2 ^ 64 → trailingZeros 64 (2 ^ 64 - 1 - w) ≡ first (clearIn w) 64
+pub not-bits : (w k : ℕ) → w < 2 ^ 64 → k < 64 → isSet (2 ^ 64 - 1 - w) k ≡ not (isSet w k)
 unfolding isSet
+not-bits w k h l = ap (λ (d : ℕ). eqb d 1) (bit-not k 64 w h l) ∙ flip-bit (bit w k) (bit-lt w k)
+
+lowest-clear : (w : ℕ) → w < 2 ^ 64 → trailingZeros 64 (2 ^ 64 - 1 - w) ≡ first (clearIn w) 64
 lowest-clear w h =
     trailing-first 64 (2 ^ 64 - 1 - w)
-    ∙ first-laws (isSet (2 ^ 64 - 1 - w)) 64 .equal-tests (clearIn w)
-    (λ k l. ap (λ (d : ℕ). eqb d 1) (bit-not k 64 w h l) ∙ flip-bit (bit w k) (bit-lt w k))
+    ∙ first-laws (isSet (2 ^ 64 - 1 - w)) 64 .equal-tests (clearIn w) (λ k l. not-bits w k h l)
 
 -- below n it is the search's answer; from n on there is none below n
 module _ (w n : ℕ) (h : w < 2 ^ 64) (l : n ≤ 64) where

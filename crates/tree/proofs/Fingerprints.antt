@@ -1,12 +1,13 @@
 -- Fingerprints over a table in which each byte occurs once.
 use mathlib.Core.Path.{_≡_, refl, sym, _∙_, ap}
 use mathlib.Core.Bool.{true}
-use Prim.Native.Nat.{ℕ, zero, suc, _+_, _*_, _%_, _^_, _<_}
+use Prim.Native.Nat.{ℕ, zero, suc, _+_, _*_, _%_, _<_}
 use native.Mathlib.Omega.{arith}
 use mathlib.Core.List.{map}
 use lib.ListN.{getD, length}
 use lib.Bits.{bitXor, xor-lt}
-use Rattle.memory.specs.Words.{byte, field}
+use Rattle.memory.specs.Words.{byte}
+use Rattle.memory.proofs.Laws.{byte-laws}
 use Rattle.tree.specs.Fingerprint.{folded, tableEntry, theTable, OnceEach}
 use Rattle.tree.specs.Test.{eq, _and_, holds}
 use Rattle.tree.specs.Lists.{range, upTo, every}
@@ -14,14 +15,12 @@ use Rattle.tree.specs.Laws.{FingerprintLaws}
 use Rattle.tree.proofs.Tests.{says}
 use Rattle.tree.proofs.Lists.{upTo-members, every-at}
 
-byte-lt : (w j : ℕ) → byte w j < 2 ^ 8
-unfolding byte field
-byte-lt w j = omega arith
-
 pub folded-lt : {table : ℕ → ℕ} → OnceEach table → (k f : ℕ) → folded table k f < 256
 unfolding folded
 folded-lt t zero f = omega arith
-folded-lt {table} t (suc k) f = t .entries (bitXor (folded table k f) (byte f k)) (xor-lt 8 (folded table k f) (byte f k) (folded-lt t k f) (byte-lt f k))
+folded-lt {table} t (suc k) f =
+    let h : ℕ = folded table k f in
+    t .entries (bitXor h (byte f k)) (xor-lt 8 h (byte f k) (folded-lt t k f) (byte-laws .byte-fits f k))
 
 entry-lt : (i : ℕ) → tableEntry i < 256
 unfolding tableEntry

@@ -21,7 +21,7 @@ use Rattle.tree.specs.PoolLaws.{NoneUsed}
 use Rattle.tree.proofs.Cases.{test, true-not-false, not-false}
 use Rattle.tree.proofs.Pool.{pool-laws}
 use Rattle.tree.proofs.Runs.{run-laws}
-use Rattle.tree.proofs.Bits.{high-kept, low-cleared}
+use Rattle.tree.proofs.Bits.{highOf, high-kept, low-cleared}
 
 -- ---- marks
 
@@ -112,7 +112,7 @@ pub record Searched (pool : List ℕ) (from i rest : ℕ) : Type 0 where
   pub behind : (j : ℕ) → 64 * i + j < from → isSet rest j ≡ false
 
 pub search-starts : (pool : List ℕ) (from : ℕ) → reads pool (from / 64) < 2 ^ 64
-    → Searched pool from (from / 64) (reads pool (from / 64) / 2 ^ (from % 64) * 2 ^ (from % 64) % 2 ^ 64)
+    → Searched pool from (from / 64) (highOf (reads pool (from / 64)) (from % 64))
 search-starts pool from h = record {
   onward = omega arith;
   none = λ k l b. absurd (omega arith);

@@ -3,7 +3,7 @@ use mathlib.Core.Path.{_≡_, refl, sym, _∙_, ap}
 use mathlib.Core.Bool.{Bool, true, false}
 use mathlib.Core.Logic.{_≢_}
 use mathlib.Core.List.{List, [], _∷_, _++_, map-append}
-use Prim.Native.Nat.{ℕ, zero, suc, _+_, _-_, _*_, _/_, _%_, _^_, _≤_, _<_}
+use Prim.Native.Nat.{ℕ, zero, suc, _+_, _-_, _/_, _^_, _≤_, _<_}
 use native.Mathlib.Omega.{arith}
 use native.Mathlib.Nat.{mul-mod-left}
 use lib.ListN.{length, length-map}
@@ -17,7 +17,7 @@ use Rattle.tree.specs.declared.layout.Geometry.{Geometry}
 use Rattle.tree.specs.Lists.{range, upTo, keep}
 use Rattle.tree.specs.Layout.{nodeAt, setAt}
 use Rattle.tree.specs.Subtree.{heldPlaces, framesIn, listed}
-use Rattle.tree.proofs.Bits.{high-kept, low-cleared}
+use Rattle.tree.proofs.Bits.{highOf, high-kept, low-cleared}
 use Rattle.tree.proofs.Lists.{keep-none, keep-same, keep-first, in-range, range-next}
 use Rattle.tree.proofs.Pigeon.{length-upTo}
 use Rattle.walks.specs.Places.{setPlaces, wordsAt}
@@ -44,10 +44,6 @@ places-next w o h =
     keep-first (isSet w) (isSet (withoutBit w t)) 0 64 t (omega arith) (omega arith) (λ k a b. none k b) (lowest-set w o h) (bit-laws .without-clears w t) (λ k d. bit-laws .without-keeps w t k d)
 
 -- ---- a word's low set bits, then the others
-
--- a word without its bits below k
-abbrev pub highOf : (w k : ℕ) → ℕ
-highOf w k = w / 2 ^ k * 2 ^ k % 2 ^ 64
 
 -- a test that holds at the first k numbers of a range keeps them, and then what a test keeps that holds where it does from there on
 keep-low : (p q : ℕ → Bool) (from n k : ℕ) → k ≤ n → ((j : ℕ) → from ≤ j → j < from + k → (p j ≡ true) × (q j ≡ false))

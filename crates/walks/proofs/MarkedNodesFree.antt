@@ -2,18 +2,16 @@
 use mathlib.Core.Path.{_≡_, refl, sym, _∙_, ap}
 use mathlib.Core.Bool.{not, _&&_}
 use mathlib.Core.List.{List, [], _∷_, List·Memᴰ}
-use Prim.Native.Nat.{ℕ, zero, suc, _+_, _-_, _*_, _/_, _%_, _^_, _≤_, _<_, min}
+use Prim.Native.Nat.{ℕ, zero, suc, _+_, _-_, _/_, _%_, _^_, _≤_, _<_}
 use native.Mathlib.Omega.{arith}
 use native.Mathlib.Decide.{ℕ-discrete}
-use native.Mathlib.Nat.{pow-suc}
 use lib.ListN.{length, set, length-set}
 use lib.Seq.{getD-set-same, getD-set-other, ext-getD}
-use lib.Bits.{bitAnd, and-step, and-zero-l, and-le-l}
-use lib.Dec.{eqb}
+use lib.Bits.{bitAnd, and-zero-l, and-le-l}
 use borrow.Author.Tests.{not-true}
-use Rattle.memory.specs.Words.{reads, isSet, bit, field, marked}
+use Rattle.memory.specs.Words.{reads, isSet, marked}
 use Rattle.memory.specs.Laws.{Fit}
-use Rattle.memory.proofs.Laws.{bit-zero, bit-suc}
+use Rattle.memory.proofs.Laws.{and-bits, not-bits}
 use Rattle.tree.specs.declared.layout.Geometry.{Geometry}
 use Rattle.tree.specs.Layout.{mapWords}
 use Rattle.tree.specs.Pool.{used, unmarkAll, mapOf}
@@ -27,39 +25,8 @@ use Rattle.walks.specs.Marked.{withoutMarked}
 abbrev pub without : ℕ → ℕ → ℕ
 without w b = bitAnd w (2 ^ 64 - 1 - b)
 
-bit-lt : (w k : ℕ) → bit w k < 2
-unfolding bit field
-bit-lt w k = omega arith
-
--- the lowest digit of a mask, and those above it
-and-odd : (x y p q : ℕ) → x ≡ y * 2 + min p q → p < 2 → (x % 2 ≡ min p q) × (x / 2 ≡ y)
-and-odd x y p q e h = (omega arith, omega arith)
-
-odd-not : (p b : ℕ) → b < p * 2 → ((p * 2 - 1 - b) % 2 ≡ 1 - b % 2) × ((p * 2 - 1 - b) / 2 ≡ p - 1 - b / 2)
-odd-not p b h = (omega arith, omega arith)
-
-without-bit : (k n w b : ℕ) → b < 2 ^ n → k < n → bit (bitAnd w (2 ^ n - 1 - b)) k ≡ min (bit w k) (1 - bit b k)
-without-bit k zero w b h l = absurd (omega arith)
-without-bit zero (suc n) w b h l =
-    let p : 2 ^ suc n ≡ 2 ^ n * 2 = pow-suc 2 n in
-    let d = and-odd _ _ _ _ (and-step w (2 ^ suc n - 1 - b)) (omega arith) in
-    rw (bit-zero (bitAnd w (2 ^ suc n - 1 - b)), bit-zero w, bit-zero b, d .0, p, odd-not (2 ^ n) b (omega arith) .0) refl
-without-bit (suc k) (suc n) w b h l =
-    let p : 2 ^ suc n ≡ 2 ^ n * 2 = pow-suc 2 n in
-    let d = and-odd _ _ _ _ (and-step w (2 ^ suc n - 1 - b)) (omega arith) in
-    rw (bit-suc (bitAnd w (2 ^ suc n - 1 - b)) k, bit-suc w k, bit-suc b k, d .1, p, odd-not (2 ^ n) b (omega arith) .1)
-    (without-bit k n (w / 2) (b / 2) (omega arith) (omega arith))
-
-bits-left : (x y : ℕ) → x < 2 → y < 2 → eqb (min x (1 - y)) 1 ≡ eqb x 1 && not (eqb y 1)
-bits-left zero y h l = let z : min 0 (1 - y) ≡ 0 = omega arith in rw z refl
-bits-left (suc zero) zero h l = refl
-bits-left (suc zero) (suc zero) h l = refl
-bits-left (suc zero) (suc (suc y)) h l = absurd (omega arith)
-bits-left (suc (suc x)) y h l = absurd (omega arith)
-
 without-set : (w b k : ℕ) → b < 2 ^ 64 → k < 64 → isSet (without w b) k ≡ isSet w k && not (isSet b k)
-unfolding isSet
-without-set w b k h l = ap (λ (x : ℕ). eqb x 1) (without-bit k 64 w b h l) ∙ bits-left (bit w k) (bit b k) (bit-lt w k) (bit-lt b k)
+without-set w b k h l = and-bits w (2 ^ 64 - 1 - b) k ∙ ap (λ t. isSet w k && t) (not-bits b k h l)
 
 -- ---- maps, word by word
 

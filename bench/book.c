@@ -8,11 +8,10 @@
 #include <stdlib.h>
 #include <unistd.h>
 
-void book_expect_done(const char *operation, uint64_t answer) {
+void book_refused(const char *operation, uint64_t answer) {
     char because[40];
     snprintf(because, sizeof because, "refused with %u", (unsigned)answer);
-    if (answer != REELBOOK_DONE)
-        fail(operation, because);
+    fail(operation, because);
 }
 
 static void carry(struct book *b, uint64_t used) {

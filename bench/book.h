@@ -24,7 +24,12 @@ size_t book_list(void *state, const struct op *ops, size_t count);
 double book_bytes(void *state);
 void book_close(void *state);
 
+void book_refused(const char *operation, uint64_t answer) __attribute__((noreturn));
+
 /* Ends the program where an operation is refused: none may be. */
-void book_expect_done(const char *operation, uint64_t answer);
+static inline void book_expect_done(const char *operation, uint64_t answer) {
+    if (answer != REELBOOK_DONE)
+        book_refused(operation, answer);
+}
 
 #endif

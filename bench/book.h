@@ -7,13 +7,12 @@
 
 struct book {
     struct medium medium;
-    enum barrier barrier;
+    enum barrier barrier; /* from the end of the load on */
     size_t image_words;
     size_t map_words;
     uint64_t *map;
     uint64_t *scratch;
     uint64_t *list;
-    size_t list_words;
     uint64_t heads[REELBOOK_HEADS_WORDS];
     uint64_t script[REELBOOK_SCRIPT_WORDS];
 };
@@ -24,12 +23,10 @@ size_t book_list(void *state, const struct op *ops, size_t count);
 double book_bytes(void *state);
 void book_close(void *state);
 
-void book_refused(const char *operation, uint64_t answer) __attribute__((noreturn));
-
-/* Ends the program where an operation is refused: none may be. */
-static inline void book_expect_done(const char *operation, uint64_t answer) {
-    if (answer != REELBOOK_DONE)
-        book_refused(operation, answer);
-}
+/* The operations on their own: each writes its script and hands back the script's length. None may be refused. */
+size_t book_claim(struct book *b, const struct op *op);
+size_t book_fill(struct book *b);
+size_t book_commit(struct book *b);
+size_t book_remove(struct book *b, const struct op *op);
 
 #endif

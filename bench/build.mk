@@ -1,12 +1,22 @@
-# make bench: the reel book beside its floors. LIBRARY=path measures another build of the library.
+# make bench: the reel book beside its floors and other stores, in a few minutes; a table on the output and one in build/bench.tsv.
+# make bench QUICK=1: the book and its floor alone. MEMORY and DISK are the folders for the files, LIBRARY is another build of the library.
+# A store whose package is missing is left out: apt-get install libpmemobj-dev liblmdb-dev libsqlite3-dev.
 .PHONY: bench
 
 MEMORY ?= /dev/shm
-BENCH_SOURCES = $(wildcard bench/*.c) driver/medium.c driver/carry.c
+DISK ?= build
+BENCH_SOURCES = bench/bench.c bench/book.c bench/floor.c bench/work.c bench/report.c driver/medium.c driver/carry.c
 
-build/bench/bench: $(BENCH_SOURCES) $(wildcard bench/*.h driver/*.h include/*.h) $(LIBRARY)
-	@mkdir -p build/bench
-	$(CC) $(WARNINGS) $(CFLAGS) -Iinclude -Idriver -o $@ $(BENCH_SOURCES) $(LIBRARY)
+# Another store, by its name, header, source and library, where its header is found.
+other_store = $(if $(shell $(CC) -include $(2) -fsyntax-only -x c /dev/null 2>/dev/null && echo found),-DHAVE_$(1) bench/$(3).c -l$(4), \
+    $(info bench: no $(2), so $(1) is left out: apt-get install lib$(4)-dev))
+OTHER_STORES = $(call other_store,PMEMOBJ,libpmemobj.h,pmemobj,pmemobj) $(call other_store,LMDB,lmdb.h,lmdb,lmdb) \
+    $(call other_store,SQLITE,sqlite3.h,sqlite,sqlite3)
 
-bench: build/bench/bench
-	@memory=$$(mktemp -d $(MEMORY)/reelbook-bench.XXXXXX) && trap 'rm -rf "$$memory"' EXIT INT TERM && build/bench/bench "$$memory"
+# PMEM_IS_PMEM_FORCE: libpmemobj flushes lines, as the book does, where it would call msync.
+bench: $(LIBRARY)
+	@mkdir -p build
+	@$(CC) $(WARNINGS) $(CFLAGS) -Iinclude -Idriver -o build/benchmark $(BENCH_SOURCES) $(LIBRARY) $(OTHER_STORES)
+	@memory=$$(mktemp -d $(MEMORY)/reelbook.XXXXXX) && disk=$$(mktemp -d $(DISK)/reelbook.XXXXXX) && \
+	    trap 'rm -rf "$$memory" "$$disk"' EXIT INT TERM && \
+	    PMEM_IS_PMEM_FORCE=1 build/benchmark "$$memory" "$$disk" build/bench.tsv $(if $(QUICK),quick)

@@ -1,5 +1,5 @@
-/* bench MEMORY DISK TABLE [quick]: measures the reel book, its floors and other stores. MEMORY and DISK are folders for their files, TABLE
- * is the file for the table that other programs read. Quick: the book in memory and its floor alone. */
+/* bench MEMORY DISK TABLE [quick]: measures the reel book, its floors and other stores. MEMORY and DISK are folders for their
+ * files, TABLE is the file for the table that other programs read. Quick: the book in memory and its floor alone. */
 #define _GNU_SOURCE /* for sched_setaffinity */
 #include "report.h"
 
@@ -123,7 +123,8 @@ static void measure(const struct work *w, size_t count, const char *const *folde
         for (enum row row = 0; row < ROWS; row++)
             for (size_t turn = 0; turn < count && k < m->repetitions[row]; turn++) {
                 size_t c = (turn + k) % count;
-                m->times[row][c][k] = time_batch(&columns[c], states[c], w, row, k);
+                if (is_measured(columns[c].where, row))
+                    m->times[row][c][k] = time_batch(&columns[c], states[c], w, row, k);
             }
     for (size_t c = 0; c < count; c++) {
         check_frames(&columns[c], states[c], w);

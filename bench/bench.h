@@ -35,8 +35,8 @@ struct store {
     void (*load)(void *state, const struct op *ops, size_t count);
     /* What must be done or known before a batch. Not timed; may be NULL. */
     void (*prepare)(void *state, enum row row, const struct op *ops, size_t count);
-    /* A batch, timed. Hands back how many frames it inserted, removed, found or listed; a recovery ends with one lookup. A floor looks
-     * for nothing: it hands back the count. */
+    /* A batch, timed. Hands back how many frames it inserted, removed, found or listed; a recovery ends with one lookup. A floor
+     * looks for nothing: it hands back the count. */
     size_t (*run[ROWS])(void *state, const struct op *ops, size_t count);
     /* Bytes in use, after the load. */
     double (*bytes)(void *state);

@@ -126,8 +126,8 @@ size_t book_list(void *state, const struct op *ops, size_t count) {
     size_t frames = 0;
     uint64_t listed;
     for (size_t i = 0; i < count; i++) {
-        expect_done("list", reelbook_list(b->medium.words, b->image_words, b->scratch, b->map_words, b->list, LIST_WORDS, ops[i].reel,
-                                          &listed));
+        expect_done("list", reelbook_list(b->medium.words, b->image_words, b->scratch, b->map_words, b->list, LIST_WORDS,
+                                          ops[i].reel, &listed));
         frames += (size_t)listed;
     }
     return frames;

@@ -1,5 +1,5 @@
-# make bench: the reel book beside its floors and other stores, in a few minutes; a table on the output and one in build/bench.tsv.
-# make bench QUICK=1: the book and its floor alone. MEMORY and DISK are the folders for the files, LIBRARY is another build of the library.
+# make bench: the reel book beside its floors and other stores, in a few minutes; tables on the output and in build/bench.tsv.
+# make bench QUICK=1: the book and its floor alone. MEMORY and DISK are folders for the files, LIBRARY another build of the library.
 # A store whose package is missing is left out: apt-get install libpmemobj-dev liblmdb-dev libsqlite3-dev.
 .PHONY: bench
 
@@ -8,8 +8,8 @@ DISK ?= build
 BENCH_SOURCES = bench/bench.c bench/book.c bench/floor.c bench/work.c bench/report.c driver/medium.c driver/carry.c
 
 # Another store, by its name, header, source and library, where its header is found.
-other_store = $(if $(shell $(CC) -include $(2) -fsyntax-only -x c /dev/null 2>/dev/null && echo found),-DHAVE_$(1) bench/$(3).c -l$(4), \
-    $(info bench: no $(2), so $(1) is left out: apt-get install lib$(4)-dev))
+other_store = $(if $(shell $(CC) -include $(2) -fsyntax-only -x c /dev/null 2>/dev/null && echo found), \
+    -DHAVE_$(1) bench/$(3).c -l$(4), $(info bench: no $(2), so $(1) is left out: apt-get install lib$(4)-dev))
 OTHER_STORES = $(call other_store,PMEMOBJ,libpmemobj.h,pmemobj,pmemobj) $(call other_store,LMDB,lmdb.h,lmdb,lmdb) \
     $(call other_store,SQLITE,sqlite3.h,sqlite,sqlite3)
 

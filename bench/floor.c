@@ -5,9 +5,9 @@
  * LIST             a copy of the reel's frames
  * RECOVERY         all words in use, read once
  *
- * A shadow of the book, without barriers, does every batch first and tells its stores. Those of a scale-up or branch-out are made on
- * the floor's image before the batch is timed. So that image goes through the same contents as the book's, and each store meets
- * the same line in both. */
+ * A shadow of the book, without barriers, does every batch first and tells its stores. Those of a scale-up or branch-out are made
+ * on the floor's image before the batch is timed. So that image goes through the same contents as the book's, and each store
+ * meets the same line in both. */
 #include "book.h"
 
 #include <stdlib.h>
@@ -50,7 +50,7 @@ static void load(void *state, const struct op *ops, size_t count) {
         f->roots[slot[REELBOOK_SLOT_REEL]] = (size_t)slot[REELBOOK_SLOT_ROOT] - 1;
 }
 
-/* Carries the shadow's script out. Its last `kept` stores are kept to be timed, those before them are made on the image at once. */
+/* Carries the shadow's script out. Its last `kept` stores are kept to be timed, those before are made on the image at once. */
 static void take_script(struct floor *f, size_t used, struct known_store **next, size_t kept) {
     const uint64_t *script = f->shadow->script;
     size_t left = 0;

@@ -1,5 +1,5 @@
-/* LMDB: a reel is a key, its frames are the key's sorted duplicates. A write transaction, and its sync, for every insert and remove;
- * one read transaction for a batch of lookups. */
+/* LMDB: a reel is a key, its frames are the key's sorted duplicates. A write transaction, and its sync, for every insert and
+ * remove; one read transaction for a batch of lookups. */
 #include "bench.h"
 
 #include <lmdb.h>

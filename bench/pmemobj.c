@@ -1,5 +1,5 @@
-/* PMDK's libpmemobj: for each reel a hash table of its frames, open addressing with a bounded probe. A transaction for every insert and
- * remove, with one snapshot of the entry that changes. */
+/* PMDK's libpmemobj: for each reel a hash table of its frames, open addressing with a bounded probe. A transaction for every
+ * insert and remove, with one snapshot, of the entry that changes. */
 #include "bench.h"
 
 #include <libpmemobj/base.h>

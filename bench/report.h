@@ -1,4 +1,4 @@
-/* What was measured, and its tables. */
+/* What was measured, and the tables made of it. */
 #ifndef REPORT_H
 #define REPORT_H
 
@@ -8,7 +8,7 @@
 
 enum { MAX_COLUMNS = 10 };
 
-/* Nanoseconds for an operation; for LIST for a frame, for RECOVERY for the whole store. */
+/* Nanoseconds for an operation; LIST: for a frame, RECOVERY: for the whole store. */
 struct result {
     const char *name;
     size_t frames;
@@ -27,7 +27,7 @@ struct report {
 void print_tables(const struct report *r);
 void print_aims(const struct report *r);
 
-/* One line for each work, row and column. */
+/* One line for each result, row and column, and for each ratio that has an aim. */
 void write_tsv(const struct report *r, FILE *file);
 
 extern const char *const row_names[ROWS];

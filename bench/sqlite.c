@@ -1,5 +1,5 @@
-/* SQLite: a table (reel, frame) without row numbers. Write-ahead log, synced at every transaction; a transaction for every insert and
- * remove, one read transaction for a batch of lookups; statements are prepared once. */
+/* SQLite: a table (reel, frame) without row numbers. Write-ahead log, synced at every transaction; a transaction for every insert
+ * and remove, one read transaction for a batch of lookups; statements are prepared once. */
 #include "bench.h"
 
 #include <sqlite3.h>
@@ -37,7 +37,8 @@ static void attach(struct sqlite *s) {
     if (sqlite3_open(s->path, &s->db) != SQLITE_OK)
         fail(s->path, sqlite3_errmsg(s->db));
     check(s, sqlite3_db_config(s->db, SQLITE_DBCONFIG_NO_CKPT_ON_CLOSE, 1, NULL));
-    execute(s, "PRAGMA locking_mode = EXCLUSIVE; PRAGMA journal_mode = WAL; PRAGMA synchronous = FULL; PRAGMA cache_size = -262144");
+    execute(s, "PRAGMA locking_mode = EXCLUSIVE; PRAGMA cache_size = -262144");
+    execute(s, "PRAGMA journal_mode = WAL; PRAGMA synchronous = FULL");
     execute(s, "CREATE TABLE IF NOT EXISTS frames (reel INTEGER, frame INTEGER, PRIMARY KEY (reel, frame)) WITHOUT ROWID");
     for (size_t i = 0; i < STATEMENTS; i++)
         check(s, sqlite3_prepare_v2(s->db, texts[i], -1, &s->statements[i], NULL));

@@ -73,13 +73,19 @@ struct work consecutive_work(size_t frames, size_t repetitions) {
     return w;
 }
 
+int is_measured(enum where where, enum row row) {
+    return where == MEMORY || row == INSERT || row == REMOVE || row == RECOVERY;
+}
+
 const struct op *work_batch(const struct work *w, enum row row, enum where where, size_t repetition, size_t *count) {
-    if (row == LIST) {
-        *count = LISTED_REELS;
-        return w->ops[row] + repetition * LISTED_REELS;
-    }
-    *count = row == RECOVERY ? 1 : where == DISK ? (w->batch + DISK_SHARE - 1) / DISK_SHARE : w->batch;
-    return w->ops[row] + repetition * w->batch;
+    size_t distance = w->batch;
+    if (row == LIST)
+        *count = distance = LISTED_REELS;
+    else if (row == RECOVERY)
+        *count = 1;
+    else
+        *count = where == DISK && w->batch > DISK_BATCH ? DISK_BATCH : w->batch;
+    return w->ops[row] + repetition * distance;
 }
 
 void free_work(struct work *w) {

@@ -1,5 +1,5 @@
-/* bench MEMORY DISK TABLE [quick]: measures the reel book, its floors and other stores. MEMORY and DISK are folders for their
- * files, TABLE is the file for the table that other programs read. Quick: the book in memory and its floor alone. */
+/* bench MEMORY DISK TABLE FRAMES [quick]: measures the reel book, its floors and other stores. MEMORY and DISK are folders for
+ * their files, TABLE is the file for the table that other programs read. Quick: the book in memory and its floor alone. */
 #define _GNU_SOURCE /* for sched_setaffinity */
 #include "report.h"
 
@@ -34,11 +34,12 @@ static const struct column columns[] = {
 };
 enum { COLUMNS = sizeof columns / sizeof columns[0], QUICK_REPETITIONS = 9, WORKS = 4 };
 
+/* The smallest work has a hundredth of the frames, and its batches must not be empty. */
+enum { QUICK_WORKS = 2, LEAST_FRAMES = 50000 };
 static const struct plan {
     struct work (*make)(size_t frames, size_t repetitions);
-    size_t frames;
-} plans[WORKS] = {{random_work, 1000000}, {consecutive_work, 1000000}, {random_work, 100000}, {random_work, 10000}};
-enum { QUICK_WORKS = 2 };
+    size_t share;
+} plans[WORKS] = {{random_work, 1}, {consecutive_work, 1}, {random_work, 10}, {random_work, 100}};
 
 void fail(const char *what, const char *because) {
     fprintf(stderr, "bench: %s: %s\n", what, because ? because : strerror(errno));
@@ -71,9 +72,10 @@ static void pin(void) {
     sched_setaffinity(0, sizeof one, &one);
 }
 
-static double now(void) {
+/* On disk the time waited counts. In memory nothing waits, and the processor's time leaves out what other programs take. */
+static double now(enum where where) {
     struct timespec t;
-    clock_gettime(CLOCK_MONOTONIC, &t);
+    clock_gettime(where == DISK ? CLOCK_MONOTONIC : CLOCK_THREAD_CPUTIME_ID, &t);
     return (double)t.tv_sec * 1e9 + (double)t.tv_nsec;
 }
 
@@ -91,9 +93,9 @@ static double time_batch(const struct column *c, void *state, const struct work 
     const struct op *ops = work_batch(w, row, c->where, repetition, &count);
     if (c->store->prepare)
         c->store->prepare(state, row, ops, count);
-    double start = now();
+    double start = now(c->where);
     size_t done = c->store->run[row](state, ops, count);
-    double end = now();
+    double end = now(c->where);
     if (row != LIST && done != (row == MISS && c->store != &floor_store ? 0 : count))
         fail(c->name, row_names[row]);
     return (end - start) / (double)(row == LIST ? done : count);
@@ -134,14 +136,17 @@ static void measure(const struct work *w, size_t count, const char *const *folde
 
 int main(int argc, char **argv) {
     static struct result results[WORKS];
-    int quick = argc == 5 && strcmp(argv[4], "quick") == 0;
-    if (argc != 4 && !quick)
-        fail("usage", "bench MEMORY DISK TABLE [quick]");
+    int quick = argc == 6 && strcmp(argv[5], "quick") == 0;
+    if (argc != 5 && !quick)
+        fail("usage", "bench MEMORY DISK TABLE FRAMES [quick]");
+    size_t frames = (size_t)strtoull(argv[4], NULL, 10);
+    if (frames < LEAST_FRAMES)
+        fail(argv[4], "at least 50000 frames are needed");
     const char *const folders[PLACES] = {[MEMORY] = argv[1], [DISK] = argv[2]};
     struct report report = {columns, quick ? QUICK_COLUMNS : COLUMNS, results, quick ? QUICK_WORKS : WORKS};
     pin();
     for (size_t i = 0; i < report.result_count; i++) {
-        struct work w = plans[i].make(plans[i].frames, quick ? QUICK_REPETITIONS : REPETITIONS);
+        struct work w = plans[i].make(frames / plans[i].share, quick ? QUICK_REPETITIONS : REPETITIONS);
         measure(&w, report.column_count, folders, &results[i]);
         free_work(&w);
     }

@@ -1,10 +1,12 @@
 # make bench: the reel book beside its floors and other stores, in a few minutes; tables on the output and in build/bench.tsv.
-# make bench QUICK=1: the book and its floor alone. MEMORY and DISK are folders for the files, LIBRARY another build of the library.
+# make bench QUICK=1: the book and its floor alone. FRAMES is how many are loaded, MEMORY and DISK are folders for the files,
+# LIBRARY is another build of the library.
 # A store whose package is missing is left out: apt-get install libpmemobj-dev liblmdb-dev libsqlite3-dev.
 .PHONY: bench
 
 MEMORY ?= /dev/shm
 DISK ?= build
+FRAMES ?= 1000000
 BENCH_SOURCES = bench/bench.c bench/book.c bench/floor.c bench/work.c bench/report.c driver/medium.c driver/carry.c
 
 # Another store, by its name, header, source and library, where its header is found.
@@ -19,4 +21,4 @@ bench: $(LIBRARY)
 	@$(CC) $(WARNINGS) $(CFLAGS) -Iinclude -Idriver -o build/benchmark $(BENCH_SOURCES) $(LIBRARY) $(OTHER_STORES)
 	@memory=$$(mktemp -d $(MEMORY)/reelbook.XXXXXX) && disk=$$(mktemp -d $(DISK)/reelbook.XXXXXX) && \
 	    trap 'rm -rf "$$memory" "$$disk"' EXIT INT TERM && \
-	    PMEM_IS_PMEM_FORCE=1 build/benchmark "$$memory" "$$disk" build/bench.tsv $(if $(QUICK),quick)
+	    PMEM_IS_PMEM_FORCE=1 build/benchmark "$$memory" "$$disk" build/bench.tsv $(FRAMES) $(if $(QUICK),quick)

@@ -5,7 +5,7 @@
 #include "bench.h"
 
 /* A row has one batch for each repetition. On disk a batch is shorter, for a sync takes long. */
-enum { REPETITIONS = 51, RECOVERIES = 9, BATCH = 2000, DISK_BATCH = 20, LISTED_REELS = 4 };
+enum { REPETITIONS = 51, RECOVERIES = 9, BATCH = 2000, DISK_BATCH = 10, LISTED_REELS = 4 };
 
 struct work {
     const char *name;

@@ -36,7 +36,7 @@ static void map_file(struct book *b, const char *path) {
     if (fd < 0)
         fail(path, NULL);
     if (posix_fallocate(fd, 0, (off_t)(b->image_words * sizeof(uint64_t))) != 0)
-        fail(path, "no room for the image");
+        fail(path, "no room for the image; MEMORY= and DISK= take other folders");
     if (medium_map(&b->medium, fd, b->image_words, 1) != 0)
         fail(path, NULL);
     close(fd);

@@ -1,8 +1,9 @@
 # make bench: the reel book beside its floors and other stores, in a few minutes; tables on the output and in build/bench.tsv.
 # make bench QUICK=1: the book and its floor alone. FRAMES is how many are loaded, MEMORY and DISK are folders for the files,
-# LIBRARY is another build of the library.
+# LIBRARY is another build of the library, RUN is a program to run it in, such as a profiler.
 # A store whose package is missing is left out: apt-get install libpmemobj-dev liblmdb-dev libsqlite3-dev.
-.PHONY: bench
+# make bench-docs: the tables and the plot of the last whole run go to docs/.
+.PHONY: bench bench-docs
 
 MEMORY ?= /dev/shm
 DISK ?= build
@@ -21,4 +22,7 @@ bench: $(LIBRARY)
 	@$(CC) $(WARNINGS) $(CFLAGS) -Iinclude -Idriver -o build/benchmark $(BENCH_SOURCES) $(LIBRARY) $(OTHER_STORES)
 	@memory=$$(mktemp -d $(MEMORY)/reelbook.XXXXXX) && disk=$$(mktemp -d $(DISK)/reelbook.XXXXXX) && \
 	    trap 'rm -rf "$$memory" "$$disk"' EXIT INT TERM && \
-	    PMEM_IS_PMEM_FORCE=1 build/benchmark "$$memory" "$$disk" build/bench.tsv $(FRAMES) $(if $(QUICK),quick)
+	    PMEM_IS_PMEM_FORCE=1 $(RUN) build/benchmark "$$memory" "$$disk" build/bench$(QUICK:%=-quick).tsv $(FRAMES) $(QUICK:%=quick)
+
+bench-docs:
+	python3 bench/publish.py build/bench.tsv docs/BENCHMARKS.md docs/benchmarks.svg

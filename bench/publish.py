@@ -44,7 +44,7 @@ def time_text(ns):
 
 def power_text(power):
     """A power of ten nanoseconds."""
-    return f"{10 ** (power % 3)} {('ns', 'µs', 'ms', 's')[power // 3]}"
+    return f"{10 ** (power % 3)} {('ps', 'ns', 'µs', 'ms', 's')[power // 3 + 1]}"
 
 
 def ratio_text(ratio):

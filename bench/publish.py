@@ -155,7 +155,8 @@ def dots(values, work, frames, place, top, width):
 def curves(values, row, sizes, left, top, width, height):
     """Time against frames for one row."""
     columns = distinct(values, "column", place="memory", row=row)
-    median = {(column, frames): values[Key("random", frames, row, "memory", column)].median for column in columns for frames in sizes}
+    median = {(column, frames): values[Key("random", frames, row, "memory", column)].median
+              for column in columns for frames in sizes}
     across, up = Scale(sizes, left, left + width), Scale(median.values(), top + height, top)
     parts = [label(left, top - 10, row, weight="bold")]
     for y, text in up.ticks():

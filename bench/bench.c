@@ -9,11 +9,13 @@
 #include <string.h>
 #include <time.h>
 
+/* A quick run has the first columns and works only. */
+enum { QUICK_COLUMNS = 3, QUICK_WORKS = 2, QUICK_REPETITIONS = 9 };
+
 static const struct column columns[] = {
     {"ours flush", &book_store, MEMORY, BARRIER_FLUSH},
     {"ours none", &book_store, MEMORY, BARRIER_NONE},
     {"floor", &floor_store, MEMORY, BARRIER_FLUSH},
-#define QUICK_COLUMNS 3
 #ifdef HAVE_PMEMOBJ
     {"libpmemobj", &pmemobj_store, MEMORY, BARRIER_FLUSH},
 #endif
@@ -32,14 +34,13 @@ static const struct column columns[] = {
     {"SQLite", &sqlite_store, DISK, BARRIER_SYNC},
 #endif
 };
-enum { COLUMNS = sizeof columns / sizeof columns[0], QUICK_REPETITIONS = 9, WORKS = 4 };
+enum { COLUMNS = sizeof columns / sizeof columns[0] };
 
-/* The smallest work has a hundredth of the frames, and its batches must not be empty. */
-enum { QUICK_WORKS = 2, LEAST_FRAMES = 50000 };
 static const struct plan {
     struct work (*make)(size_t frames, size_t repetitions);
-    size_t share;
-} plans[WORKS] = {{random_work, 1}, {consecutive_work, 1}, {random_work, 10}, {random_work, 100}};
+    size_t share; /* one of so many frames */
+} plans[] = {{random_work, 1}, {consecutive_work, 1}, {random_work, 10}, {random_work, 100}};
+enum { WORKS = sizeof plans / sizeof plans[0] };
 
 void fail(const char *what, const char *because) {
     fprintf(stderr, "bench: %s: %s\n", what, because ? because : strerror(errno));
@@ -87,6 +88,12 @@ static void *open_loaded(const struct column *c, const struct work *w, const cha
     return state;
 }
 
+static void fail_row(const struct column *c, enum row row) {
+    char what[80];
+    snprintf(what, sizeof what, "%s, %s", c->name, row_names[row]);
+    fail(what, "not as many frames as expected");
+}
+
 /* Nanoseconds for an operation, or for a frame listed. */
 static double time_batch(const struct column *c, void *state, const struct work *w, enum row row, size_t repetition) {
     size_t count;
@@ -97,7 +104,7 @@ static double time_batch(const struct column *c, void *state, const struct work 
     size_t done = c->store->run[row](state, ops, count);
     double end = now(c->where);
     if (row != LIST && done != (row == MISS && c->store != &floor_store ? 0 : count))
-        fail(c->name, row_names[row]);
+        fail_row(c, row);
     return (end - start) / (double)(row == LIST ? done : count);
 }
 
@@ -134,14 +141,22 @@ static void measure(const struct work *w, size_t count, const char *const *folde
     }
 }
 
+/* In the smallest work a batch must have as many operations as there are reels in a list's batch. */
+static size_t frame_count(const char *text) {
+    enum { LEAST = 100 * 2 * REPETITIONS * LISTED_REELS };
+    char *end;
+    unsigned long long frames = strtoull(text, &end, 10);
+    if (*end != '\0' || frames < LEAST)
+        fail(text, "not a number of frames that is large enough");
+    return (size_t)frames;
+}
+
 int main(int argc, char **argv) {
     static struct result results[WORKS];
     int quick = argc == 6 && strcmp(argv[5], "quick") == 0;
     if (argc != 5 && !quick)
         fail("usage", "bench MEMORY DISK TABLE FRAMES [quick]");
-    size_t frames = (size_t)strtoull(argv[4], NULL, 10);
-    if (frames < LEAST_FRAMES)
-        fail(argv[4], "at least 50000 frames are needed");
+    size_t frames = frame_count(argv[4]);
     const char *const folders[PLACES] = {[MEMORY] = argv[1], [DISK] = argv[2]};
     struct report report = {columns, quick ? QUICK_COLUMNS : COLUMNS, results, quick ? QUICK_WORKS : WORKS};
     pin();

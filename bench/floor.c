@@ -44,7 +44,7 @@ static void load(void *state, const struct op *ops, size_t count) {
     struct book *image = f->image;
     book_load(f->shadow, ops, count);
     memcpy(image->medium.words, f->shadow->medium.words, image->image_words * sizeof(uint64_t));
-    book_load(image, NULL, 0);
+    book_load(image, NULL, 0); /* nothing more, but the barriers start */
     const uint64_t *slot = image->medium.words + REELBOOK_HEADER_WORDS;
     for (size_t s = 0; s < REELS; s++, slot += REELBOOK_SLOT_WORDS)
         f->roots[slot[REELBOOK_SLOT_REEL]] = (size_t)slot[REELBOOK_SLOT_ROOT] - 1;
@@ -82,7 +82,7 @@ static void prepare_remove(struct floor *f, const struct op *ops, size_t count) 
         take_script(f, book_remove(f->shadow, &ops[i]), &next, REMOVE_STORES);
 }
 
-/* First the reels of the batch, then all others: so the frames to be copied are no warmer than a book's nodes. */
+/* The reels of the batch, which follow each other, then all others: what is to be copied is no warmer than a book's nodes. */
 static void prepare_list(struct floor *f, const struct op *ops) {
     size_t at = 0;
     for (size_t i = 0; i < REELS; i++) {

@@ -87,7 +87,7 @@ static void *open_pmemobj(const struct column *column, const char *path) {
     return p;
 }
 
-static struct entry *probe_start(struct table *t, uint64_t frame, uint64_t step) {
+static struct entry *probed(struct table *t, uint64_t frame, uint64_t step) {
     uint64_t mixed = frame * 0x9e3779b97f4a7c15;
     return &t->entries[((mixed ^ mixed >> 32) + step) & (t->room - 1)];
 }
@@ -96,7 +96,7 @@ static struct entry *probe_start(struct table *t, uint64_t frame, uint64_t step)
 static struct entry *find(struct table *t, uint64_t frame, struct entry **place) {
     *place = NULL;
     for (uint64_t step = 0; step < PROBE; step++) {
-        struct entry *e = probe_start(t, frame, step);
+        struct entry *e = probed(t, frame, step);
         if (e->state == HELD && e->frame == frame)
             return e;
         if (e->state != HELD && *place == NULL)
@@ -107,25 +107,30 @@ static struct entry *find(struct table *t, uint64_t frame, struct entry **place)
     return NULL;
 }
 
-/* The frames in a table of twice the room, or more where a probe is still too long. */
+/* 1, or 0 if some frame finds no place. */
+static int copy_held(const struct table *from, struct table *to) {
+    struct entry *place;
+    for (uint64_t at = 0; at < from->room; at++) {
+        if (from->entries[at].state != HELD)
+            continue;
+        find(to, from->entries[at].frame, &place);
+        if (!place)
+            return 0;
+        *place = from->entries[at];
+    }
+    return 1;
+}
+
+/* The frames in a table of twice the room, or of more where a frame finds no place. */
 static void grow(struct pmemobj *p, uint64_t reel) {
     PMEMoid old = p->root->tables[reel], id;
-    struct table *from = pmemobj_direct(old);
-    check(pmemobj_tx_add_range_direct(&p->root->tables[reel], sizeof old));
-    for (uint64_t room = 2 * from->room, moved = 0; moved < from->room; room *= 2) {
-        struct table *to = new_table(room, &id);
-        struct entry *place = NULL;
-        for (moved = 0; moved < from->room; moved++) {
-            if (from->entries[moved].state != HELD)
-                continue;
-            find(to, from->entries[moved].frame, &place);
-            if (!place)
-                break;
-            *place = from->entries[moved];
-        }
-        if (moved < from->room)
-            check(pmemobj_tx_free(id));
+    const struct table *from = pmemobj_direct(old);
+    uint64_t room = 2 * from->room;
+    while (!copy_held(from, new_table(room, &id))) {
+        check(pmemobj_tx_free(id));
+        room *= 2;
     }
+    check(pmemobj_tx_add_range_direct(&p->root->tables[reel], sizeof old));
     p->root->tables[reel] = id;
     check(pmemobj_tx_free(old));
 }

@@ -61,9 +61,9 @@ static void *open_sqlite(const struct column *column, const char *path) {
 
 static sqlite3_stmt *bind(struct sqlite *s, enum statement which, const struct op *op) {
     sqlite3_stmt *statement = s->statements[which];
-    sqlite3_bind_int64(statement, 1, (sqlite3_int64)op->reel);
+    check(s, sqlite3_bind_int64(statement, 1, (sqlite3_int64)op->reel));
     if (which != SELECT)
-        sqlite3_bind_int64(statement, 2, (sqlite3_int64)op->frame);
+        check(s, sqlite3_bind_int64(statement, 2, (sqlite3_int64)op->frame));
     return statement;
 }
 

@@ -59,12 +59,12 @@ struct work random_work(size_t frames, size_t repetitions) {
 }
 
 struct work consecutive_work(size_t frames, size_t repetitions) {
-    size_t length = frames / REELS + 1; /* of a reel; the last one is shorter */
+    size_t length = frames / REELS + 1, full = frames / length; /* the last reels may be shorter */
     struct work w = empty_work("consecutive", frames, repetitions, length / 2);
     for (size_t i = 0; i < frames; i++)
         w.load[i] = (struct op){i / length, i % length};
     for (size_t i = 0; i < w.batch * repetitions; i++) {
-        size_t reel = i / w.batch, at = i % w.batch, other = random_below(REELS - 1);
+        size_t reel = i / w.batch, at = i % w.batch, other = random_below(full);
         w.ops[INSERT][i] = (struct op){reel, length + at};
         w.ops[REMOVE][i] = (struct op){reel, at};
         w.ops[HIT][i] = w.ops[RECOVERY][i] = (struct op){other, w.batch + random_below(length - w.batch)};

@@ -1,4 +1,4 @@
-# make bench: the reel book beside its floors and other stores, in a few minutes; tables on the output and in build/bench.tsv.
+# make bench: the reel book beside its floors and other stores; tables on the output and in build/bench.tsv.
 # make bench QUICK=1: the book and its floor alone. FRAMES is how many are loaded, MEMORY and DISK are folders for the files,
 # LIBRARY is another build of the library, RUN is a program to run it in, such as a profiler.
 # A store whose package is missing is left out: apt-get install libpmemobj-dev liblmdb-dev libsqlite3-dev.

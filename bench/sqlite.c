@@ -79,11 +79,12 @@ static size_t change(struct sqlite *s, enum statement which, const struct op *op
     return changed;
 }
 
+/* The log keeps its length and is written from its start again, as after long use: a log that grows costs more to sync. */
 static void load(void *state, const struct op *ops, size_t count) {
     struct sqlite *s = state;
     execute(s, "BEGIN");
     change(s, PUT, ops, count);
-    execute(s, "COMMIT; PRAGMA wal_checkpoint(TRUNCATE)");
+    execute(s, "COMMIT; PRAGMA wal_checkpoint(RESTART)");
 }
 
 static size_t insert(void *state, const struct op *ops, size_t count) {

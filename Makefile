@@ -1,6 +1,6 @@
 # make run: prove and build the bench program, and run it on standard input, or on the paper's Case A where nothing is given: at a
 # terminal, from /dev/null, or with standard input closed. make test: the whole gate. make lib: build/libreelbook.a for a driver.
-# driver/, tests/ and bench/ have targets of their own: make tool, check-tool, check-header, fuzz, faults, bench.
+# driver/, tests/ and bench/ have targets of their own: make tool, check-tool, check-header, check-stores, fuzz, faults, bench.
 .PHONY: run lib test
 
 CC ?= cc
@@ -26,8 +26,10 @@ $(LIBRARY): $(RATTLE_SOURCES)
 	@rt staticlib reelbook >build/library.log 2>&1 </dev/null || { cat build/library.log; exit 1; }
 	cp target/staticlib/libreelbook.a $@
 
--include driver/build.mk tests/build.mk bench/build.mk
+include driver/build.mk tests/build.mk
+-include bench/build.mk
 
 test:
 	rt fmt --check
+	$(MAKE) --no-print-directory check-header check-stores check-tool faults fuzz
 	rt ci

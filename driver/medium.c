@@ -1,4 +1,4 @@
-#define _DEFAULT_SOURCE /* for MAP_SYNC */
+#define _DEFAULT_SOURCE 1 /* for MAP_SYNC */
 #include "medium.h"
 
 #include <sys/mman.h>
@@ -116,7 +116,7 @@ int medium_unmap(struct medium *m) {
     return munmap(m->words, m->length * sizeof(uint64_t));
 }
 
-/* A count above MEDIUM_PENDING says that there are more lines than can be remembered: the barrier then takes the whole mapping. */
+/* A count above MEDIUM_PENDING stands for more lines than can be remembered: the barrier then takes the whole mapping. */
 void medium_store(struct medium *m, size_t index, uint64_t value) {
     __atomic_store_n(&m->words[index], value, __ATOMIC_RELAXED);
     size_t count = m->pending_count;

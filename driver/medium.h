@@ -15,15 +15,15 @@ enum barrier {
 enum { MEDIUM_PENDING = 32 };
 
 struct medium {
-    uint64_t *words;      /* the mapping */
-    size_t length;        /* in words */
+    uint64_t *words; /* the mapping */
+    size_t length;   /* in words */
     enum barrier barrier;
     size_t pending[MEDIUM_PENDING]; /* words stored to since the last barrier, one for each line */
     size_t pending_count;
 };
 
-/* Maps the first `length` words of an open file. A file on persistent memory, where the kernel grants MAP_SYNC, gets BARRIER_FLUSH, any
- * other BARRIER_SYNC. 0, or -1 with errno. */
+/* Maps the first `length` words of an open file. A file on persistent memory, where the kernel grants MAP_SYNC, gets
+ * BARRIER_FLUSH, any other BARRIER_SYNC. 0, or -1 with errno. */
 int medium_map(struct medium *m, int fd, size_t length, int writable);
 
 int medium_unmap(struct medium *m);

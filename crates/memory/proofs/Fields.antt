@@ -41,7 +41,7 @@ unfolding field
 field-same w at u b h = rw (with-shr w at u b) (low (w / 2 ^ at / 2 ^ u) u h)
 
 -- a field below it
-field-below : (w v at at' u' : ℕ) → at' + u' ≤ at → w % 2 ^ at ≡ v % 2 ^ at → field w at' u' ≡ field v at' u'
+pub field-below : (w v at at' u' : ℕ) → at' + u' ≤ at → w % 2 ^ at ≡ v % 2 ^ at → field w at' u' ≡ field v at' u'
 unfolding field
 field-below w v at at' u' h e = one w ∙ rw e (sym (one v))
   where
@@ -88,7 +88,7 @@ beside j k h = elim (decLt j k) [ yes l ↦ inl l | no l ↦ inr (omega arith) ]
 -- ---- bits
 
 -- a bit is 0 or 1, so its test says what it is
-test-bit : (w k v j : ℕ) → bit w k ≡ bit v j → isSet w k ≡ isSet v j
+pub test-bit : (w k v j : ℕ) → bit w k ≡ bit v j → isSet w k ≡ isSet v j
 unfolding isSet
 test-bit w k v j e = ap (λ (x : ℕ). eqb x 1) e
 
@@ -104,6 +104,10 @@ unfolding bit
 changed-bit w k b j h n =
     test-bit (withField w k 1 b) j w j
     (field-other w k 1 b j 1 h (elim (beside j k n) [ inl l ↦ inl (omega arith) | inr l ↦ inr (omega arith) ]))
+
+pub bit-lt : (w k : ℕ) → bit w k < 2
+unfolding bit field
+bit-lt w k = omega arith
 
 pub bit-zero : (w : ℕ) → bit w 0 ≡ w % 2
 unfolding bit field

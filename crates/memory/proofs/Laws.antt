@@ -4,6 +4,8 @@ pub use Rattle.memory.proofs.First.{first-laws}
 pub use Rattle.memory.proofs.Written.{script-laws, rest-lent, rest-back, written-rest}
 pub use Rattle.memory.proofs.Stores.{apply-laws, OldOrStored, content, unstored, settles}
 pub use Rattle.memory.proofs.Bitmap.{clearIn, unmarked, full-word, Passed, pass-word}
+pub use Rattle.memory.proofs.Trailing.{trailing-first, lowest-in, lowest-set, lowest-taken}
+pub use Rattle.memory.proofs.Bytes.{equal-bit, equal-beside, or-bits, half-bits}
 pub use Rattle.memory.proofs.Cases.{test, clash}
 use Rattle.memory.specs.Laws.{CrashLaws}
 use Rattle.memory.proofs.Fences.{passed-means, passed-at-end}

@@ -4,6 +4,8 @@ mod Fields
 mod Masks
 mod First
 mod Bitmap
+mod Trailing
+mod Bytes
 mod Written
 mod Passes
 mod Stores

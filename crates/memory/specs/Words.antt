@@ -1,7 +1,8 @@
 -- Words of persistent memory, their bits and their bytes. A word is 64 bits; bit 0 is the lowest.
-use mathlib.Core.Bool.{Bool}
+use mathlib.Core.Path.{_≡_}
+use mathlib.Core.Bool.{Bool, cond}
 use mathlib.Core.List.{List}
-use Prim.Native.Nat.{ℕ, _+_, _-_, _*_, _/_, _%_, _^_}
+use Prim.Native.Nat.{ℕ, _+_, _-_, _*_, _/_, _%_, _^_, _<_}
 use lib.ListN.{getD}
 use lib.Dec.{eqb}
 
@@ -42,6 +43,10 @@ byte w j = field w (8 * j) 8
 -- the word with b for byte j and its seven other bytes kept
 unfoldable pub withByte : ℕ → ℕ → ℕ → ℕ
 withByte w j b = withField w (8 * j) 8 b
+
+-- which bytes of a word are b: byte j of r is 128 where byte j of w is b, and 0 where it is not
+pub record EqualBytes (w b r : ℕ) : Type 0 where
+  pub each : (j : ℕ) → j < 8 → byte r j ≡ cond (eqb (byte w j) b) 128 0
 
 -- bit k of a bitmap in words: bit k mod 64 of word k div 64
 unfoldable pub marked : Memory → ℕ → Bool

@@ -5,27 +5,17 @@ ghost use Prim.Native.Nat.{ℕ, _+_, _*_, _^_, _≤_, _<_};
 ghost use lib.ListN.{length};
 ghost use Rattle.memory.specs.Words.{reads, isSet, marked};
 ghost use Rattle.memory.specs.Search.{first};
-use crate::words::is_set;
 
-// A word with every bit set.
-const FULL: u64 = 0xffff_ffff_ffff_ffff;
-
-// The lowest clear bit below n of a word, or n. A full word costs one comparison.
+// The lowest clear bit below n of a word, or n.
 pub fn lowest_clear(w: u64, n: u32) -> u32
     requires { ⌜ n ≤ 64 ⌝ }
     ensures { λ r. ⌜ r ≡ first (λ (k : ℕ). not (isSet w k)) n ⌝ }
 {
-    if w == FULL {
-        return n;
+    let k = u64::trailing_zeros(!w);
+    if k < n {
+        return k;
     }
-    let mut k = 0;
-    while k < n {
-        if !is_set(w, k) {
-            return k;
-        }
-        k += 1;
-    }
-    k
+    n
 }
 
 // The lowest clear bit below n of a bitmap, or n: a step for each word. The last step may pass n, and

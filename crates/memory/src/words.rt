@@ -1,7 +1,7 @@
 // Bits and bytes of a word, by masks and shifts.
 ghost use mathlib.Core.Path.{_≡_};
 ghost use Prim.Native.Nat.{_<_};
-ghost use Rattle.memory.specs.Words.{bit, isSet, withBit, withoutBit, byte, withByte};
+ghost use Rattle.memory.specs.Words.{bit, isSet, withBit, withoutBit, byte, withByte, EqualBytes};
 
 pub fn bit_of(w: u64, k: u32) -> u64
     requires { ⌜ k < 64 ⌝ }
@@ -43,4 +43,24 @@ pub fn with_byte(w: u64, j: u32, b: u64) -> u64
     ensures { λ r. ⌜ r ≡ withByte w j b ⌝ }
 {
     (w & !(255 << (8 * j))) | (b << (8 * j))
+}
+
+// 1 in each byte.
+const ONES: u64 = 0x0101_0101_0101_0101;
+
+// 127 in each byte: its low seven bits.
+const LOW: u64 = 0x7f7f_7f7f_7f7f_7f7f;
+
+// 128 in each byte: its highest bit.
+const HIGH: u64 = 0x8080_8080_8080_8080;
+
+// Which bytes of a word are b, all eight at once: 128 for a byte that is, 0 for one that is not. Where a
+// byte differs, its difference has the highest bit, or the sum reaches it; no sum carries into the next byte.
+pub fn equal_bytes(w: u64, b: u64) -> u64
+    requires { ⌜ b < 256 ⌝ }
+    ensures { λ r. ⌜ EqualBytes w b r ⌝ }
+{
+    let difference = w ^ (b * ONES);
+    let differs = ((difference & LOW) + LOW) | difference;
+    (differs & HIGH) ^ HIGH
 }

@@ -4,10 +4,10 @@ use mathlib.Core.Bool.{true}
 use Prim.Native.Nat.{ℕ, zero, suc, _+_, _*_, _%_, _^_, _<_}
 use native.Mathlib.Omega.{arith}
 use mathlib.Core.List.{map}
-use lib.ListN.{getD}
+use lib.ListN.{getD, length}
 use lib.Bits.{bitXor, xor-lt}
 use Rattle.memory.specs.Words.{byte, field}
-use Rattle.tree.specs.Fingerprint.{folded, tableEntry, OnceEach}
+use Rattle.tree.specs.Fingerprint.{folded, tableEntry, theTable, OnceEach}
 use Rattle.tree.specs.Test.{eq, _and_, holds}
 use Rattle.tree.specs.Lists.{range, upTo, every}
 use Rattle.tree.specs.Laws.{FingerprintLaws}
@@ -54,9 +54,13 @@ range-at from zero i h = absurd (omega arith)
 range-at from (suc n) zero h = let q : from ≡ from + 0 = omega arith in ap tableEntry q
 range-at from (suc n) (suc i) h = let q : suc from + i ≡ from + suc i = omega arith in range-at (suc from) n i (omega arith) ∙ ap tableEntry q
 
-pub table-at : (i : ℕ) → i < 256 → getD (map tableEntry (upTo 256)) i 0 ≡ tableEntry i
-unfolding upTo
+pub table-at : (i : ℕ) → i < 256 → getD theTable i 0 ≡ tableEntry i
+unfolding theTable upTo
 table-at i h = let q : 0 + i ≡ i = omega arith in range-at 0 256 i h ∙ ap tableEntry q
+
+pub table-length : length theTable ≡ 256
+unfolding theTable upTo range
+table-length = refl
 
 pub fingerprint-laws : FingerprintLaws
 fingerprint-laws = record { table-once = table-once; fits = λ t k f. folded-lt t k f }

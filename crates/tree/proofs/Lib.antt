@@ -24,6 +24,7 @@ pub mod Fingerprints
 pub mod Pigeon
 pub mod Level
 pub mod Pool
+pub mod Bits
 pub mod Memory
 pub mod Laws
 pub mod NodeCode

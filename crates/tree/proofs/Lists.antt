@@ -1,6 +1,6 @@
 -- Laws of the lists in specs/Lists.antt, and of lists put together or made from others.
 use mathlib.Core.Path.{_≡_, refl, sym, _∙_, ap, ap₂, subst}
-use mathlib.Core.Bool.{Bool, true, false, cond, _&&_, and-assoc}
+use mathlib.Core.Bool.{Bool, true, false, _&&_, and-assoc}
 use mathlib.Core.Logic.{_⊎_, inl, inr, _↔_, _≢_}
 use mathlib.Core.List.{List, [], _∷_, _++_, append-assoc, map, map-append, flatMap, List·Memᴰ·append-cases, Memᴰ·append-left, Memᴰ·append-right}
 use mathlib.Core.List.{List·Memᴰ, List·Memᴰ·head, List·Memᴰ·tail, List·Memᴰ·cases-cons, List·Memᴰ·not-nil}
@@ -160,11 +160,6 @@ module _ {A : Type 0} where
   unfolding every
   every-append p [] ys = refl
   every-append p (x ∷ xs) ys = rw (every-append p xs ys) (sym (and-assoc (p x) (every p xs) (every p ys)))
-
-  -- of those kept, one element at a time
-  pub every-kept : (q h : A → Bool) (x : A) (xs : List A) → every q (keep h (x ∷ xs)) ≡ cond (h x) (q x) true && every q (keep h xs)
-  unfolding every keep
-  every-kept q h x xs = elim (test (h x)) [ inl e ↦ rw e refl | inr e ↦ rw e refl ]
 
 module _ {A B : Type 0} where
   pub every-flatMap : (p : B → Bool) (f : A → List B) (xs : List A) → every p (flatMap f xs) ≡ every (λ x. every p (f x)) xs

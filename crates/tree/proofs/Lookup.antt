@@ -87,7 +87,7 @@ module _ (r : Rule) (g : Geometry) (m : Memory) where
   ]
 
   -- where no node is malformed, a frame held on its path with its fingerprint is found, if not there then elsewhere
-  holds-found : {s : ℕ} → SoundTree g m s → (d : ℕ) {n p f : ℕ} → Holds g m s (wayOf d f) n p f
+  pub holds-found : {s : ℕ} → SoundTree g m s → (d : ℕ) {n p f : ℕ} → Holds g m s (wayOf d f) n p f
       → storedFingerprint g m n p ≡ fingerprint r f → (t : Spot) × (find r g m s f ≡ some t)
   unfolding find
   holds-found {s} a d {n} {p} {f} x e =

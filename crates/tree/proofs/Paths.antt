@@ -40,7 +40,7 @@ module _ (g : Geometry) (m : Memory) (s f : ℕ) where
   unfolding wayOf
   way-up d (down {p = p} r k l e) = record { parent = p; there = r; linked = k }
 
-  way-above : (d k : ℕ) {n : ℕ} → d < k → Reaches g m s (wayOf k f) n → Step d n
+  pub way-above : (d k : ℕ) {n : ℕ} → d < k → Reaches g m s (wayOf k f) n → Step d n
   way-above d zero h r = absurd (omega arith)
   way-above d (suc k) {n} h r = let t = way-up k r in elim (ℕ-discrete d k) [
     | yes q ↦ record { parent = t .parent; there = rw q (t .there); linked = t .linked }

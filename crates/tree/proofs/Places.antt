@@ -1,110 +1,136 @@
 -- What the search for a frame in a node asks, in the code's own terms.
 use mathlib.Core.Path.{_≡_, refl, sym, _∙_, ap}
-use mathlib.Core.Bool.{Bool, true, false, _&&_}
-use Prim.Native.Nat.{ℕ, _+_, _-_, _*_, _/_, _%_, _^_, _≤_, _<_}
+use mathlib.Core.Bool.{Bool, true, false, _&&_, _||_, or-false, and-true}
+use Prim.Native.Nat.{ℕ, suc, _+_, _-_, _*_, _/_, _%_, _^_, _≤_, _<_}
 use native.Mathlib.Omega.{arith}
-use native.Mathlib.Nat.{div-eq-of-lt}
-use native.Mathlib.Decide.{decLt}
-use borrow.Author.Count.{below-more}
-use lib.Dec.{eqb}
-use lib.Pow.{field as low-field, shr-shr, mod-mod-pow, pow-pos}
-use Rattle.memory.specs.Words.{Memory, field, bit, isSet, byte}
-use Rattle.memory.specs.Search.{first}
-use Rattle.memory.specs.Laws.{NoneBelow}
-use Rattle.memory.proofs.Laws.{first-laws}
+use native.Mathlib.Decide.{decLt, ℕ-discrete}
+use lib.Bits.{bitOr, or-lt}
+use lib.Dec.{eqb, ltb}
+use borrow.Author.Tests.{eqb-true, eq-eqb, ltb-true, lt-ltb}
+use Rattle.memory.specs.Words.{Memory, isSet, withoutBit, byte, EqualBytes}
+use Rattle.memory.proofs.Laws.{bit-laws, no-bit, first-laws, equal-bit, equal-beside, or-bits, half-bits}
 use Rattle.tree.specs.declared.layout.Geometry.{Geometry}
-use Rattle.tree.specs.Layout.{setAt, fingerprintsAt, frameAt}
+use Rattle.tree.specs.Layout.{nodeAt, setAt, frameAt}
 use Rattle.tree.specs.Fingerprint.{editionOne, fingerprint}
+use Rattle.tree.specs.Node.{storedFingerprint}
 use Rattle.tree.specs.Lookup.{matches, foundAt}
-use Rattle.tree.proofs.Cases.{true-not-false}
+use Rattle.tree.proofs.Cases.{true-not-false, not-false, true-and, and-true as both-true}
+use Rattle.tree.proofs.Lookup.{match-facts}
 
--- ---- one place
+-- ---- eight words' bytes that are b, packed in one word
 
--- of three tests the last is asked only where the first two hold
-both-first : (a b c : Bool) → a && b ≡ true → c ≡ a && (c && b)
-both-first true true true h = refl
-both-first true true false h = refl
-both-first true false c h = absurd (true-not-false h refl)
-both-first false b c h = absurd (true-not-false h refl)
+-- after j words: bit 8k + d is byte k's of word d + j − 8; there is none yet where d + j is below 8
+pub record Packed (words : ℕ → ℕ) (b j c : ℕ) : Type 0 where
+  fits : c < 2 ^ 64
+  clear : (i : ℕ) → i < 64 → i % 8 + j < 8 → isSet c i ≡ false
+  equal : (i : ℕ) → i < 64 → 8 ≤ i % 8 + j → isSet c i ≡ eqb (byte (words (i % 8 + j - 8)) (i / 8)) b
 
-not-both : (a b c : Bool) → a && b ≡ false → false ≡ a && (c && b)
-not-both true true c h = absurd (true-not-false refl h)
-not-both true false true h = refl
-not-both true false false h = refl
-not-both false b c h = refl
+module _ (words : ℕ → ℕ) (b : ℕ) where
+  pub packed-none : Packed words b 0 0
+  packed-none = record { fits = omega arith; clear = λ i l h. no-bit i; equal = λ i l h. absurd (omega arith) }
 
-module _ (g : Geometry) (m : Memory) (f n p : ℕ) {print set prints : ℕ} (e : print ≡ fingerprint editionOne f) (a : set ≡ m (setAt g n))
-    (b : prints ≡ m (fingerprintsAt g n p)) {s : Bool} {x : ℕ} (is : s ≡ isSet set p) (has : x ≡ byte prints (p % 8)) where
-  pub match-likely : s && eqb x print ≡ true → eqb (m (frameAt g n p)) f ≡ matches editionOne g m f n p
-  unfolding matches
-  match-likely h = rw (← e, ← a, ← b, ← is, ← has) (both-first s (eqb x print) (eqb (m (frameAt g n p)) f) h)
-
-  pub match-not : s && eqb x print ≡ false → false ≡ matches editionOne g m f n p
-  unfolding matches
-  match-not h = rw (← e, ← a, ← b, ← is, ← has) (not-both s (eqb x print) (eqb (m (frameAt g n p)) f) h)
-
--- eight low bits are 0 together, so each is
-low-bits : (q k : ℕ) → q % 256 ≡ 0 → k < 8 → q / 2 ^ k % 2 ≡ 0
-low-bits q k z l =
-    let e : 7 - k + 1 + k ≡ 8 = omega arith in
-    let h : q / 2 ^ k % 2 ^ (7 - k + 1) ≡ 0 =
-    sym (low-field q (7 - k + 1) k) ∙ ap (λ (x : ℕ). q % 2 ^ x / 2 ^ k) e ∙ ap (λ (x : ℕ). x / 2 ^ k) z ∙ div-eq-of-lt (pow-pos k) in
-    sym (mod-mod-pow (q / 2 ^ k) (7 - k) 1) ∙ ap (λ (x : ℕ). x % 2) h
-
-byte-unset : (w j k : ℕ) → byte w j ≡ 0 → k < 8 → isSet w (8 * j + k) ≡ false
-unfolding isSet bit byte field
-byte-unset w j k z l =
-    let e : w / 2 ^ (8 * j + k) % 2 ≡ 0 = rw (← shr-shr w (8 * j) k) (low-bits (w / 2 ^ (8 * j)) k z l) in
-    ap (λ (x : ℕ). eqb x 1) e
-
--- ---- a word's eight places, and a node's 64
-
-module _ (g : Geometry) (m : Memory) (f n : ℕ) where
-  -- place k of word j
-  abbrev pub matchIn : ℕ → ℕ → Bool
-  matchIn j k = matches editionOne g m f n (8 * j + k)
-
-  abbrev pub Unfound : ℕ → Type 0
-  Unfound p = NoneBelow (matches editionOne g m f n) p
-
-  unset : (p : ℕ) → isSet (m (setAt g n)) p ≡ false → matches editionOne g m f n p ≡ false
-  unfolding matches
-  unset p h = rw h refl
-
-  -- the search of a word ends: its set bits are 0, or place k is tested, or all have been
-  pub word-unset : (j : ℕ) {set b : ℕ} → set ≡ m (setAt g n) → b ≡ byte set j → b ≡ 0 → 8 ≡ first (matchIn j) 8
-  word-unset j a e z =
-      first-laws (matchIn j) 8 .stops 8 (omega arith) (λ k l. unset (8 * j + k) (byte-unset (m (setAt g n)) j k (rw (← a, ← e) z) l))
-      (λ l. absurd (omega arith))
-
-  pub word-hit : (j k : ℕ) {b : Bool} → k < 8 → NoneBelow (matchIn j) k → b ≡ matchIn j k → b ≡ true → k ≡ first (matchIn j) 8
-  word-hit j k l below e h = first-laws (matchIn j) 8 .stops k (omega arith) below (λ z. sym e ∙ h)
-
-  pub word-miss : (j k : ℕ) {b : Bool} → NoneBelow (matchIn j) k → b ≡ matchIn j k → b ≡ false → NoneBelow (matchIn j) (k + 1)
-  word-miss j k below e h = below-more _ _ below (sym e ∙ h)
-
-  pub word-end : (j k : ℕ) → k ≤ 8 → 8 ≤ k → NoneBelow (matchIn j) k → k ≡ first (matchIn j) 8
-  word-end j k l u below = first-laws (matchIn j) 8 .stops k l below (λ z. absurd (omega arith))
-
-  -- what the search of word j adds to what is known below it
-  pass-word : (j k : ℕ) → Unfound (8 * j) → k ≡ first (matchIn j) 8 → Unfound (8 * j + k)
-  pass-word j k below e i u = elim (decLt i (8 * j)) [
-    | yes l ↦ below i l
-    | no l ↦
-        let q : i ≡ 8 * j + (i - 8 * j) = omega arith in
-        ap (matches editionOne g m f n) q ∙ first-laws (matchIn j) 8 .none-before (i - 8 * j) (omega arith)
+  -- the bit that comes down past a byte's lowest is 0
+  comes-down : (j c i : ℕ) → j < 8 → Packed words b j c → i < 64 → i % 8 ≡ 7 → isSet c (suc i) ≡ false
+  comes-down j c i h a l e = elim (decLt (suc i) 64) [
+    | yes k ↦ a .clear (suc i) k (omega arith)
+    | no k ↦ bit-laws .none-above c 64 (suc i) (a .fits) (omega arith)
   ]
 
-  pub found-in : (j k : ℕ) → j < 8 → k < 8 → Unfound (8 * j) → k ≡ first (matchIn j) 8 → 8 * j + k ≡ foundAt editionOne g m f n
-  unfolding foundAt
-  found-in j k a b below e =
-      first-laws (matches editionOne g m f n) 64 .stops (8 * j + k) (omega arith) (pass-word j k below e)
-      (λ l. ap (matchIn j) e ∙ first-laws (matchIn j) 8 .holds (omega arith))
+  pub packed-more : (j c z : ℕ) → j < 8 → z < 2 ^ 64 → Packed words b j c → EqualBytes (words j) b z → Packed words b (j + 1) (bitOr (c / 2) z)
+  packed-more j c z h f a e = record {
+    fits = or-lt 64 (c / 2) z (omega (arith, a .fits)) f;
+    clear = λ i l k. rw (bits i, equal-beside e i l (omega arith), or-false) (a .clear (suc i) (omega arith) (omega arith));
+    equal = λ i l k. elim (decLt (i % 8) 7) [
+      | yes u ↦
+          let p : suc i % 8 + j - 8 ≡ i % 8 + (j + 1) - 8 = omega arith in
+          let q : suc i / 8 ≡ i / 8 = omega arith in
+          rw (bits i, equal-beside e i l u, or-false, ← p, ← q) (a .equal (suc i) (omega arith) (omega arith))
+      | no u ↦
+          let p : i % 8 + (j + 1) - 8 ≡ j = omega arith in
+          rw (bits i, comes-down j c i h a l (omega arith), p) (equal-bit e i l (omega arith))
+    ];
+  }
+    where
+      bits : (i : ℕ) → isSet (bitOr (c / 2) z) i ≡ isSet c (suc i) || isSet z i
+      bits i = rw (or-bits (c / 2) z i, half-bits c i)
 
-  pub past-word : (j k : ℕ) → 8 ≤ k → Unfound (8 * j) → k ≡ first (matchIn j) 8 → Unfound (8 * (j + 1))
-  past-word j k l below e i u = pass-word j k below e i (omega arith)
+-- ---- a node's places, those with the fingerprint tested in any order
 
-  pub found-none : (j : ℕ) → 8 ≤ j → Unfound (8 * j) → 64 ≡ foundAt editionOne g m f n
+-- a place's bit, and a bit's place
+abbrev pub turned : ℕ → ℕ
+turned p = 8 * (p % 8) + p / 8
+
+turned-back : (p : ℕ) → p < 64 → turned (turned p) ≡ p
+turned-back p h = omega arith
+
+-- all eight words are packed
+pub packed-all : (g : Geometry) (m : Memory) (n b c : ℕ) → Packed (λ j. m (nodeAt g n + 8 + j)) b 8 c
+    → (p : ℕ) → p < 64 → isSet c (turned p) ≡ eqb (storedFingerprint g m n p) b
+packed-all g m n b c a p h =
+    let u : turned p % 8 ≡ p / 8 = omega arith in
+    let q : turned p % 8 + 8 - 8 ≡ p / 8 = omega arith in
+    let r : turned p / 8 ≡ p % 8 = omega arith in
+    a .equal (turned p) (omega arith) (omega arith) ∙ rw (q, r) refl
+
+module _ (g : Geometry) (m : Memory) (f n : ℕ) where
+  abbrev match : ℕ → Bool
+  match p = matches editionOne g m f n p
+
+  -- where the fingerprint is the frame's, set bit and frame decide
+  pub match-held : (p : ℕ) {set : ℕ} {s : Bool} → set ≡ m (setAt g n) → storedFingerprint g m n p ≡ fingerprint editionOne f → s ≡ isSet set p
+      → s && eqb (m (frameAt g n p)) f ≡ match p
+  unfolding matches
+  match-held p a e h = rw (h, a, eq-eqb (storedFingerprint g m n p) (fingerprint editionOne f) e, and-true) refl
+
+  -- what the loop knows: the lowest match so far, and that every match below it is among those left
+  pub record Seeking (left lowest : ℕ) : Type 0 where
+    pub fits : left < 2 ^ 64
+    within : lowest ≤ 64
+    hit : lowest < 64 → match lowest ≡ true
+    unseen : (p : ℕ) → p < lowest → match p ≡ true → isSet left (turned p) ≡ true
+    pub print : (i : ℕ) → i < 64 → isSet left i ≡ true → storedFingerprint g m n (turned i) ≡ fingerprint editionOne f
+
+  pub seek-all : (b c : ℕ) → c < 2 ^ 64 → b ≡ fingerprint editionOne f
+      → ((p : ℕ) → p < 64 → isSet c (turned p) ≡ eqb (storedFingerprint g m n p) b) → Seeking c 64
+  seek-all b c h e a = record {
+    fits = h;
+    within = omega arith;
+    hit = λ l. absurd (omega arith);
+    unseen = λ p l t. a p l ∙ eq-eqb (storedFingerprint g m n p) b (match-facts editionOne g m f n p .0 t .1 .1 ∙ sym e);
+    print = λ i l t. eqb-true (storedFingerprint g m n (turned i)) b
+        (sym (a (turned i) (omega arith)) ∙ ap (isSet c) (turned-back i l) ∙ t) ∙ e;
+  }
+
+  -- a bit is taken out: its place is no match below the lowest
+  moves : (left lowest i low : ℕ) → Seeking left lowest → low ≤ lowest → (low < 64 → match low ≡ true)
+      → (match (turned i) ≡ true → turned i < low → ⊥) → Seeking (withoutBit left i) low
+  moves left lowest i low s l hit none = record {
+    fits = bit-laws .without-fits left i 64 (s .fits);
+    within = omega (arith, s .within);
+    hit = hit;
+    unseen = λ p h t. elim (ℕ-discrete (turned p) i) [
+      | yes q ↦
+          let e : turned i ≡ p = ap turned (sym q) ∙ turned-back p (omega (arith, s .within)) in
+          absurd (none (ap match e ∙ t) (omega arith))
+      | no q ↦ bit-laws .without-keeps left i (turned p) q ∙ s .unseen p (omega arith) t
+    ];
+    print = λ k h t. elim (ℕ-discrete k i) [
+      | yes q ↦ absurd (true-not-false t (ap (isSet (withoutBit left i)) q ∙ bit-laws .without-clears left i))
+      | no q ↦ s .print k h (sym (bit-laws .without-keeps left i k q) ∙ t)
+    ];
+  }
+
+  module _ (left lowest i : ℕ) {t : Bool} (s : Seeking left lowest) (e : t ≡ match (turned i)) where
+    pub seek-found : t && ltb (turned i) lowest ≡ true → Seeking (withoutBit left i) (turned i)
+    seek-found h =
+        let b = both-true t (ltb (turned i) lowest) h in
+        moves left lowest i (turned i) s (omega (arith, ltb-true (turned i) lowest (b .1))) (λ l. sym e ∙ b .0) (λ a l. omega arith)
+
+    pub seek-on : t && ltb (turned i) lowest ≡ false → Seeking (withoutBit left i) lowest
+    seek-on h = moves left lowest i lowest s (omega arith) (s .hit) (λ a l. true-not-false (true-and (e ∙ a) (lt-ltb (turned i) lowest l)) h)
+
+  pub seek-end : (left lowest : ℕ) → left ≡ 0 → Seeking left lowest → lowest ≡ foundAt editionOne g m f n
   unfolding foundAt
-  found-none j l below =
-      first-laws (matches editionOne g m f n) 64 .stops 64 (omega arith) (λ i u. below i (omega arith)) (λ z. absurd (omega arith))
+  seek-end left lowest z s =
+      first-laws match 64 .stops lowest (s .within)
+      (λ p l. not-false (λ t. true-not-false (s .unseen p l t) (ap (λ (x : ℕ). isSet x (turned p)) z ∙ no-bit (turned p)))) (s .hit)

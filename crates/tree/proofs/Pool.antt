@@ -1,20 +1,20 @@
 -- Laws of the pool map: which nodes are used once some are marked or unmarked.
-use mathlib.Core.Path.{_≡_, refl, sym, _∙_}
+use mathlib.Core.Path.{_≡_, refl, sym, _∙_, ap}
 use mathlib.Core.Bool.{true, false}
 use mathlib.Core.Logic.{_⊎_, inl, inr, _↔_, _≢_}
 use mathlib.Core.List.{List, [], _∷_, List·Memᴰ, List·Memᴰ·head, List·Memᴰ·tail, List·Memᴰ·cases-cons, List·Memᴰ·not-nil}
-use Prim.Native.Nat.{ℕ, _+_, _*_, _/_, _%_, _^_, _≤_, _<_}
+use Prim.Native.Nat.{ℕ, _+_, _-_, _*_, _/_, _%_, _^_, _≤_, _<_}
 use native.Mathlib.Omega.{arith}
 use native.Mathlib.Decide.{decLt, ℕ-discrete}
 use lib.ListN.{length, set, length-set, length-replicate, getD-replicate, List·getD-eq-default}
 use lib.Seq.{getD-set-same, getD-set-other, set-out, ext-getD}
 use Rattle.memory.specs.Words.{reads, isSet, marked}
 use Rattle.memory.specs.Laws.{Fit}
-use Rattle.memory.proofs.Laws.{bit-laws, no-bit}
+use Rattle.memory.proofs.Laws.{bit-laws, no-bit, first-laws}
 use Rattle.tree.specs.declared.layout.Geometry.{Geometry}
 use Rattle.tree.specs.Layout.{mapWords}
-use Rattle.tree.specs.Pool.{used, mark, unmark, markAll, unmarkAll, clearMap, mapOf}
-use Rattle.tree.specs.PoolLaws.{Mapped, PoolLaws}
+use Rattle.tree.specs.Pool.{used, nextUsed, mark, unmark, markAll, unmarkAll, clearMap, mapOf}
+use Rattle.tree.specs.PoolLaws.{Mapped, NoneUsed, Next, PoolLaws}
 use Rattle.tree.proofs.Cases.{true-not-false}
 
 -- ---- one word stored
@@ -191,9 +191,32 @@ same-map pool pool' l f f' h = ext-getD 0 pool pool' l (λ i b. bit-laws .same-w
         let r : (64 * i + k) % 64 ≡ k = omega arith in
         rw (q, r) at (h (64 * i + k))
 
+-- ---- the next used node
+
+module _ (pool : List ℕ) (from bound n : ℕ) where
+  next-tells : n ≡ nextUsed pool from bound → from ≤ bound → Next pool from bound n
+  unfolding nextUsed
+  next-tells e h =
+      let s = first-laws (λ (k : ℕ). used pool (from + k)) (bound - from) in
+      let none : NoneUsed pool from n = record {
+        onward = omega arith;
+        none = λ k l b. let q : k ≡ from + (k - from) = omega arith in ap (used pool) q ∙ s .none-before (k - from) (omega arith);
+      } in
+      record { none-before = none; within = omega (arith, s .within); is-used = λ b. ap (used pool) e ∙ s .holds (omega arith) }
+
+  next-is : Next pool from bound n → n ≡ nextUsed pool from bound
+  unfolding nextUsed
+  next-is t =
+      let q : from + (n - from) ≡ n = omega (arith, t .none-before .onward) in
+      let s = first-laws (λ (k : ℕ). used pool (from + k)) (bound - from) .stops (n - from) (omega (arith, t .within))
+      (λ k l. t .none-before .none (from + k) (omega arith) (omega arith)) (λ l. ap (used pool) q ∙ t .is-used (omega arith)) in
+      sym q ∙ ap (λ (k : ℕ). from + k) s
+
 pub pool-laws : PoolLaws
 pool-laws = record {
   inside = inside;
+  next-tells = next-tells;
+  next-is = next-is;
   length-mark = length-mark;
   length-unmark = length-unmark;
   length-mark-all = length-mark-all;

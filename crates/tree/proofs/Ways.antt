@@ -8,7 +8,7 @@ use native.Mathlib.Omega.{arith}
 use lib.ListN.{length}
 use lib.Dec.{ltb}
 use lib.Pow
-use lib.Pow.{mod-pow-add, mod-mod-pow, shr-shr}
+use lib.Pow.{pow-add, mod-pow-add, mod-mod-pow, shr-shr}
 use borrow.Author.Tests.{ltb-true, ltb-false, lt-ltb}
 use Rattle.memory.specs.Words.{bit, field}
 use Rattle.tree.specs.Path.{fanout, child, wayOf, bitsTo}
@@ -36,6 +36,10 @@ child-digit k f = elim (test (ltb k 3)) [
 fanout-pow : (k : ℕ) → k < 31 → 2 ^ width k ≡ fanout k
 unfolding fanout width
 fanout-pow k h = elim (test (ltb k 3)) [ inl e ↦ rw e | inr e ↦ rw (e, lt-ltb k 31 h) ]
+
+-- the numbers that the bits to the next level can be
+pub bits-next : (k : ℕ) → k < 31 → 2 ^ bitsTo (suc k) ≡ fanout k * 2 ^ bitsTo k
+bits-next k h = rw (bitsTo-suc k, pow-add 2 (width k) (bitsTo k), fanout-pow k h)
 
 pub child-remainder : (k f : ℕ) → k < 31 → child k f ≡ f / 2 ^ bitsTo k % fanout k
 child-remainder k f h = child-digit k f ∙ ap (λ b. f / 2 ^ bitsTo k % b) (fanout-pow k h)

@@ -1,8 +1,10 @@
 -- The fingerprint of a frame: a fold of its low bytes over a table.
 use mathlib.Core.Path.{_≡_}
+use mathlib.Core.List.{List, map}
 use Prim.Native.Nat.{ℕ, zero, suc, _+_, _*_, _%_, _<_}
 use lib.Bits.{bitXor}
 use Rattle.memory.specs.Words.{Memory, byte}
+use Rattle.tree.specs.Lists.{upTo}
 
 -- a rule for fingerprints: the table, and how many bytes of the frame are folded
 pub record Rule : Type 0 where
@@ -20,6 +22,10 @@ fingerprint r f = folded (r .table) (r .bytes) f
 -- the paper's table, and its rule: four bytes
 unfoldable pub tableEntry : ℕ → ℕ
 tableEntry i = (167 * i + 13) % 256
+
+-- its 256 entries in turn
+unfoldable pub theTable : List ℕ
+theTable = map tableEntry (upTo 256)
 
 unfoldable pub editionOne : Rule
 editionOne = record { table = tableEntry; bytes = 4 }

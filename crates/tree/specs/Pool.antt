@@ -1,15 +1,20 @@
 -- The pool map: bit n mod 64 of word n div 64 is 1 if node n is used.
 use mathlib.Core.Bool.{Bool}
 use mathlib.Core.List.{List, [], _∷_}
-use Prim.Native.Nat.{ℕ, _/_, _%_}
+use Prim.Native.Nat.{ℕ, _+_, _-_, _/_, _%_}
 use lib.ListN.{set, replicate}
 use Rattle.memory.specs.Words.{reads, withBit, withoutBit, marked}
+use Rattle.memory.specs.Search.{first}
 use Rattle.tree.specs.declared.layout.Geometry.{Geometry}
 use Rattle.tree.specs.Layout.{mapWords}
 
 -- node n is used
 abbrev pub used : List ℕ → ℕ → Bool
 used pool n = marked (reads pool) n
+
+-- the lowest used node from one on, below a bound; the bound where there is none
+unfoldable pub nextUsed : (pool : List ℕ) (from bound : ℕ) → ℕ
+nextUsed pool from bound = from + first (λ k. used pool (from + k)) (bound - from)
 
 -- the map with node n used, and with it free
 unfoldable pub mark : List ℕ → ℕ → List ℕ

@@ -3,21 +3,35 @@ use mathlib.Core.Path.{_≡_}
 use mathlib.Core.Bool.{true, false}
 use mathlib.Core.Logic.{_⊎_, _↔_, _≢_}
 use mathlib.Core.List.{List, List·Memᴰ}
-use Prim.Native.Nat.{ℕ, _*_, _<_}
+use Prim.Native.Nat.{ℕ, _*_, _≤_, _<_}
 use lib.ListN.{length}
 use Rattle.memory.specs.Words.{reads}
 use Rattle.memory.specs.Laws.{Fit}
 use Rattle.tree.specs.declared.layout.Geometry.{Geometry}
 use Rattle.tree.specs.Layout.{mapWords}
-use Rattle.tree.specs.Pool.{used, mark, unmark, markAll, unmarkAll, clearMap, mapOf}
+use Rattle.tree.specs.Pool.{used, nextUsed, mark, unmark, markAll, unmarkAll, clearMap, mapOf}
 
 -- every node of a list has a bit in the map
 abbrev pub Mapped : List ℕ → List ℕ → Type 0
 Mapped pool ns = (n : ℕ) → List·Memᴰ n ns → n < 64 * length pool
 
+-- no node from one on and below n is used
+pub record NoneUsed (pool : List ℕ) (from n : ℕ) : Type 0 where
+  pub onward : from ≤ n
+  pub none : (k : ℕ) → from ≤ k → k < n → used pool k ≡ false
+
+-- n is the next used node from one on, or the bound
+pub record Next (pool : List ℕ) (from bound n : ℕ) : Type 0 where
+  pub none-before : NoneUsed pool from n
+  pub within : n ≤ bound
+  pub is-used : n < bound → used pool n ≡ true
+
 pub record PoolLaws : Type 0 where
   -- a pool's nodes have a bit in its map
   pub inside : (g : Geometry) (n : ℕ) → n < g .nodes → n < 64 * mapWords g
+  -- the search for a used node has its answer, and no other
+  pub next-tells : (pool : List ℕ) (from bound n : ℕ) → n ≡ nextUsed pool from bound → from ≤ bound → Next pool from bound n
+  pub next-is : (pool : List ℕ) (from bound n : ℕ) → Next pool from bound n → n ≡ nextUsed pool from bound
   -- lengths stay
   pub length-mark : (pool : List ℕ) (n : ℕ) → length (mark pool n) ≡ length pool
   pub length-unmark : (pool : List ℕ) (n : ℕ) → length (unmark pool n) ≡ length pool

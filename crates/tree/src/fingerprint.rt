@@ -2,11 +2,11 @@
 ghost use mathlib.Core.Path.{_≡_};
 ghost use Prim.Native.Nat.{_%_, _<_};
 ghost use Rattle.memory.specs.Words.{withByte};
-ghost use Rattle.tree.specs.Fingerprint.{tableEntry, editionOne, fingerprint};
+ghost use Rattle.tree.specs.Fingerprint.{theTable, editionOne, fingerprint};
 use memory::words::byte_of;
 use memory::words::with_byte;
 
-const TABLE: [u64; 256] = [
+const TABLE: [u8; 256] = [
     13,
     180,
     91,
@@ -265,25 +265,32 @@ const TABLE: [u64; 256] = [
     102,
 ];
 
-// Entry i of the table: (167 × i + 13) mod 256.
-pub fn entry(i: usize) -> u64
-    requires { ⌜ i < 256 ⌝ }
-    ensures { λ r. ⌜ r ≡ tableEntry i ⌝ }
+// The table, as a value. A constant is laid out anew wherever it is indexed: whoever folds many frames lays it out once, and lends it.
+pub fn table() -> [u8; 256]
+    ensures { λ r. ⌜ r ≡ theTable ⌝ }
 {
-    TABLE[i]
+    TABLE
 }
 
-// A frame's fingerprint: its four low bytes, lowest first, folded over the table.
-pub fn fingerprint(frame: u64) -> u64
+// A frame's fingerprint by a table that is lent: its four low bytes, lowest first, folded over the table.
+pub fn fold(table: &[u8], frame: u64) -> u64
+    requires { ⌜ now table ≡ theTable ⌝ }
     ensures { λ r. ⌜ r ≡ fingerprint editionOne frame ⌝ }
 {
     let mut h: u64 = 0;
     let mut k: u32 = 0;
     while k < 4 {
-        h = entry((h ^ byte_of(frame, k)) as usize);
+        h = table[(h ^ byte_of(frame, k)) as usize] as u64;
         k += 1;
     }
     h
+}
+
+pub fn fingerprint(frame: u64) -> u64
+    ensures { λ r. ⌜ r ≡ fingerprint editionOne frame ⌝ }
+{
+    let table = table();
+    fold(&table, frame)
 }
 
 // The fingerprint word of a place with the frame's fingerprint in it, its seven other bytes kept.

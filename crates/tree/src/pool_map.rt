@@ -5,7 +5,7 @@ ghost use lib.ListN.{length};
 ghost use Rattle.memory.specs.Words.{reads};
 ghost use Rattle.tree.specs.Lists.{range};
 ghost use Rattle.tree.specs.Lookup.{freeRun};
-ghost use Rattle.tree.specs.Pool.{used, mark, unmark, markAll, clearMap};
+ghost use Rattle.tree.specs.Pool.{used, nextUsed, mark, unmark, markAll, clearMap};
 use crate::layout::Geometry;
 use memory::search::lowest_unmarked;
 use memory::words::is_set;
@@ -20,6 +20,32 @@ pub fn is_used(pool: &[u64], n: usize) -> bool
     ensures { λ r. ⌜ r ≡ used (now (pool .entry)) n ⌝ }
 {
     is_set(pool[n / 64], (n % 64) as u32)
+}
+
+// The lowest used node from one on, or the number of nodes: a step for each word of the map. Bits past the last node
+// count for nothing.
+pub fn next_used(pool: &[u64], from: usize, nodes: usize) -> usize
+    requires { ⌜ (from ≤ nodes) × (nodes ≤ 64 * length (now pool)) × (nodes ≤ 65536) ⌝ }
+    ensures { λ r. ⌜ r ≡ nextUsed (now (pool .entry)) from nodes ⌝ }
+{
+    if from == nodes {
+        return nodes;
+    }
+    let mut i = from / 64;
+    // Of word i the bits of nodes from there on.
+    let mut rest = pool[i] >> (from % 64) << (from % 64);
+    while rest == 0 {
+        i += 1;
+        if nodes <= 64 * i {
+            return nodes;
+        }
+        rest = pool[i];
+    }
+    let hit = 64 * i + u64::trailing_zeros(rest) as usize;
+    if nodes <= hit {
+        return nodes;
+    }
+    hit
 }
 
 pub fn mark(pool: &mut [u64], n: usize)

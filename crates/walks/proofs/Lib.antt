@@ -1,6 +1,5 @@
 pub mod PathSteps
 pub mod RoomSteps
-pub mod HeldFrames
 pub mod Stops
 pub mod Walked
 pub mod SlotWalks
@@ -13,5 +12,9 @@ pub mod MarkedNodes
 pub mod MarkedNodesCount
 pub mod MarkedNodesFree
 pub mod MarkedNodesMend
+pub mod Suffixes
+pub mod Settled
+pub mod SettledSteps
+pub mod SettledGroups
 pub mod Sounds
 pub mod Laws

@@ -1,6 +1,6 @@
 -- A list that frames are written to in turn: some are written, some are left.
 use mathlib.Core.Path.{_≡_, refl, sym, _∙_, ap}
-use mathlib.Core.List.{List, [], _∷_, _++_, append-assoc}
+use mathlib.Core.List.{List, [], _∷_, _++_, append-assoc, append-nil}
 use Prim.Native.Nat.{ℕ, suc, _+_, _-_, _≤_, _<_}
 use native.Mathlib.Omega.{arith}
 use native.Mathlib.Numerals.{add-one}
@@ -60,6 +60,15 @@ several {k = k} {list = list} fs more ys e h w q =
       is = rw (now, take-at (front ++ fs) rest (k + length fs) at, drop-at (front ++ fs) rest (k + length fs) at, append-assoc)
           (rw (e, listed-append fs more (drop k list)) at (w .is));
     }
+
+-- all that is left is written there
+pub rest-fits : {all buffer : List ℕ} {k : ℕ} {left list : List ℕ} → length all ≤ length buffer → Writing all buffer k left list
+    → (k + length left ≤ length list) × (length left ≤ length (midOf k (length list - k) list))
+rest-fits {left = left} h w = rest-room left [] (sym (append-nil left)) h w
+
+pub rest-written : {all buffer : List ℕ} {k : ℕ} {left list : List ℕ} (r : ℕ) (ys : List ℕ) → length all ≤ length buffer → Writing all buffer k left list
+    → r ≡ length left → ys ≡ listed left (midOf k (length list - k) list) → (k + r ≡ length all) × (putMid k (length list - k) list ys ≡ listed all buffer)
+rest-written {left = left} r ys h w p q = rw p (ends (several left [] ys (sym (append-nil left)) h w q))
 
 -- the first are written
 pub begun : {all : List ℕ} (fs more buffer : List ℕ) → all ≡ fs ++ more → length all ≤ length buffer

@@ -1,8 +1,8 @@
 -- The listing of a group, node by node, and of a node: its own frames, then those of its children.
-use mathlib.Core.Path.{_≡_, sym}
+use mathlib.Core.Path.{_≡_}
 use mathlib.Core.Bool.{true}
 use mathlib.Core.Logic.{_≢_}
-use mathlib.Core.List.{List, [], _++_, append-nil}
+use mathlib.Core.List.{List, _++_}
 use Prim.Native.Nat.{ℕ, _+_, _-_, _≤_, _<_}
 use native.Mathlib.Omega.{arith}
 use lib.ListN.{length}
@@ -82,12 +82,3 @@ module _ (g : Geometry) (m : Memory) (left n : ℕ) (buffer : List ℕ) where
   pub own-written : (list : List ℕ) (r : ℕ) → 1 ≤ left → left ≤ 32 → m (nextAt g n) ≢ 0 → length (ofNode g m left n) ≤ length buffer
       → r ≡ length (framesIn g m n) → list ≡ listed (framesIn g m n) buffer → Writing (ofNode g m left n) buffer r below list
   own-written list r l h o roomy p q = rw (p, q) (begun (framesIn g m n) below buffer (linked-frames g m left n l h o) roomy)
-
-  pub below-room : {list : List ℕ} {r : ℕ} → length (ofNode g m left n) ≤ length buffer → Writing (ofNode g m left n) buffer r below list
-      → (r + length below ≤ length list) × (length below ≤ length (midOf r (length list - r) list))
-  below-room roomy w = rest-room below [] (sym (append-nil below)) roomy w
-
-  pub below-written : {list : List ℕ} {r : ℕ} (k : ℕ) (ys : List ℕ) → length (ofNode g m left n) ≤ length buffer
-      → Writing (ofNode g m left n) buffer r below list → k ≡ length below → ys ≡ listed below (midOf r (length list - r) list)
-      → (r + k ≡ length (ofNode g m left n)) × (putMid r (length list - r) list ys ≡ listed (ofNode g m left n) buffer)
-  below-written k ys roomy w p q = rw p (ends (several below [] ys (sym (append-nil below)) roomy w q))

@@ -1,89 +1,120 @@
--- A word's set bits, taken from the lowest on: what the loop over a node's places asks.
+-- The words at a word's set bits: those at its low bits in one piece, the others taken from the lowest on.
 use mathlib.Core.Path.{_≡_, refl, sym, _∙_, ap}
-use mathlib.Core.Bool.{true}
+use mathlib.Core.Bool.{Bool, true, false}
 use mathlib.Core.Logic.{_≢_}
-use mathlib.Core.List.{List, [], _∷_, map}
-use Prim.Native.Nat.{ℕ, zero, suc, _+_, _/_, _%_, _^_, _<_}
+use mathlib.Core.List.{List, [], _∷_, _++_, map-append}
+use Prim.Native.Nat.{ℕ, zero, suc, _+_, _-_, _*_, _/_, _%_, _^_, _≤_, _<_}
 use native.Mathlib.Omega.{arith}
-use native.Mathlib.Decide.{decLt}
-use lib.Dec.{eqb}
-use lib.Count.{trailingZeros, under}
-use borrow.Author.Tests.{eq-eqb, ne-eqb}
-use Rattle.memory.specs.Words.{bit, isSet, withoutBit, reads}
+use native.Mathlib.Nat.{mul-mod-left}
+use lib.ListN.{length, length-map}
+use lib.Count.{trailingZeros}
+use borrow.Author.Tests.{not-false as is-true}
+use Rattle.memory.specs.Words.{isSet, withoutBit, reads}
+use Rattle.memory.specs.Search.{first}
 use Rattle.memory.specs.Laws.{NoneBelow}
-use Rattle.memory.proofs.Laws.{bit-laws, bit-zero, bit-suc, no-bit}
+use Rattle.memory.proofs.Laws.{bit-laws, no-bit, trailing-first, lowest-in, lowest-set, first-laws, clearIn}
 use Rattle.tree.specs.declared.layout.Geometry.{Geometry}
-use Rattle.tree.specs.Lists.{upTo, keep}
+use Rattle.tree.specs.Lists.{range, upTo, keep}
 use Rattle.tree.specs.Layout.{nodeAt, setAt}
-use Rattle.tree.specs.Subtree.{heldPlaces, framesIn}
-use Rattle.tree.proofs.Lists.{keep-none, keep-first}
+use Rattle.tree.specs.Subtree.{heldPlaces, framesIn, listed}
+use Rattle.tree.proofs.Bits.{high-kept, low-cleared}
+use Rattle.tree.proofs.Lists.{keep-none, keep-same, keep-first, in-range, range-next}
+use Rattle.tree.proofs.Pigeon.{length-upTo}
+use Rattle.walks.specs.Places.{setPlaces, wordsAt}
+use Rattle.walks.proofs.Listings.{Writing, begun}
 
--- ---- trailing zeros
-
--- t is the lowest of a word's first k bits that is set, or k
-record Lowest (n k t : ℕ) : Type 0 where
-  none-below : NoneBelow (isSet n) t
-  hit : t < k → isSet n t ≡ true
-
-below-double : (n k t : ℕ) → n % 2 ≡ 0 → Lowest (n / 2) k t → NoneBelow (isSet n) (suc t)
-unfolding isSet
-below-double n k t e s zero l = ne-eqb (bit n 0) 1 (λ z. omega (arith, bit-zero n))
-below-double n k t e s (suc j) l = ap (λ (x : ℕ). eqb x 1) (bit-suc n j) ∙ s .none-below j (omega arith)
-
-lowest-step : (n k t d : ℕ) → n % 2 ≡ d → Lowest (n / 2) k t → Lowest n (suc k) (under d t)
-unfolding isSet
-lowest-step n k t zero e s = record {
-  none-below = below-double n k t e s;
-  hit = λ l. ap (λ (x : ℕ). eqb x 1) (bit-suc n t) ∙ s .hit (omega arith);
-}
-lowest-step n k t (suc d) e s = record {
-  none-below = λ j l. absurd (omega arith);
-  hit = λ l. eq-eqb (bit n 0) 1 (omega (arith, bit-zero n));
-}
-
-trailing-lowest : (k n : ℕ) → Lowest n k (trailingZeros k n)
-unfolding trailingZeros
-trailing-lowest zero n = record { none-below = λ j l. absurd (omega arith); hit = λ l. absurd (omega arith) }
-trailing-lowest (suc k) n = lowest-step n k (trailingZeros k (n / 2)) (n % 2) refl (trailing-lowest k (n / 2))
-
--- ---- a word's set bits
-
-unfoldable pub places : ℕ → List ℕ
-places w = keep (isSet w) (upTo 64)
-
-places-none : (w : ℕ) → w ≡ 0 → places w ≡ []
-unfolding places
-places-none w z = rw z (keep-none (isSet 0) (upTo 64) (λ k x. no-bit k))
-
--- a word other than 0 has a lowest set bit
-pub lowest-in : (w : ℕ) → w ≢ 0 → w < 2 ^ 64 → trailingZeros 64 w < 64
-lowest-in w o h = elim (decLt (trailingZeros 64 w) 64) [
-  | yes l ↦ l
-  | no l ↦ absurd (o (bit-laws .same-word w 0 64 h (omega arith) (λ k b. trailing-lowest 64 w .none-below k (omega arith) ∙ sym (no-bit k))))
-]
-
-places-next : (w : ℕ) → w ≢ 0 → w < 2 ^ 64 → places w ≡ trailingZeros 64 w ∷ places (withoutBit w (trailingZeros 64 w))
-unfolding places upTo
-places-next w o h =
-    let t = trailingZeros 64 w in
-    let s = trailing-lowest 64 w in
-    let l = lowest-in w o h in
-    keep-first (isSet w) (isSet (withoutBit w t)) 0 64 t (omega arith) (omega arith) (λ k a b. s .none-below k b) (s .hit l) (bit-laws .without-clears w t) (λ k d. bit-laws .without-keeps w t k d)
-
--- ---- the frames at a word's set bits, from a node's first word
-
-unfoldable pub framesOf : (image : List ℕ) (at set : ℕ) → List ℕ
-framesOf image at set = map (λ p. reads image (at + 16 + p)) (places set)
-
-pub frames-in : (g : Geometry) (image : List ℕ) (n : ℕ) → framesIn g (reads image) n ≡ framesOf image (nodeAt g n) (reads image (setAt g n))
-unfolding framesIn heldPlaces framesOf places
+-- a node's frames
+pub frames-in : (g : Geometry) (image : List ℕ) (n : ℕ)
+    → framesIn g (reads image) n ≡ wordsAt image (nodeAt g n + 16) (setPlaces (reads image (setAt g n)))
+unfolding framesIn heldPlaces wordsAt setPlaces
 frames-in g image n = refl
 
-pub frames-none : (image : List ℕ) (at set : ℕ) → set ≡ 0 → framesOf image at set ≡ []
-unfolding framesOf
-frames-none image at set z = rw (places-none set z) refl
+-- ---- a word's set bits, from the lowest on
 
-pub frames-next : (image : List ℕ) (at set : ℕ) → set ≢ 0 → set < 2 ^ 64
-    → framesOf image at set ≡ reads image (at + 16 + trailingZeros 64 set) ∷ framesOf image at (withoutBit set (trailingZeros 64 set))
-unfolding framesOf
-frames-next image at set o h = ap (map (λ p. reads image (at + 16 + p))) (places-next set o h)
+pub places-none : (w : ℕ) → w ≡ 0 → setPlaces w ≡ []
+unfolding setPlaces
+places-none w z = rw z (keep-none (isSet 0) (upTo 64) (λ k x. no-bit k))
+
+pub places-next : (w : ℕ) → w ≢ 0 → w < 2 ^ 64 → setPlaces w ≡ trailingZeros 64 w ∷ setPlaces (withoutBit w (trailingZeros 64 w))
+unfolding setPlaces upTo
+places-next w o h =
+    let t = trailingZeros 64 w in
+    let l = lowest-in w o h in
+    let none : NoneBelow (isSet w) t = rw (trailing-first 64 w) (first-laws (isSet w) 64 .none-before) in
+    keep-first (isSet w) (isSet (withoutBit w t)) 0 64 t (omega arith) (omega arith) (λ k a b. none k b) (lowest-set w o h) (bit-laws .without-clears w t) (λ k d. bit-laws .without-keeps w t k d)
+
+-- ---- a word's low set bits, then the others
+
+-- a word without its bits below k
+abbrev pub highOf : (w k : ℕ) → ℕ
+highOf w k = w / 2 ^ k * 2 ^ k % 2 ^ 64
+
+-- a test that holds at the first k numbers of a range keeps them, and then what a test keeps that holds where it does from there on
+keep-low : (p q : ℕ → Bool) (from n k : ℕ) → k ≤ n → ((j : ℕ) → from ≤ j → j < from + k → (p j ≡ true) × (q j ≡ false))
+    → ((j : ℕ) → from + k ≤ j → q j ≡ p j) → keep p (range from n) ≡ range from k ++ keep q (range from n)
+unfolding keep range
+keep-low p q from n zero l low high = keep-same p q (range from n) (λ j x. sym (high j (omega (arith, in-range from n x))))
+keep-low p q from zero (suc k) l low high = absurd (omega arith)
+keep-low p q from (suc n) (suc k) l low high =
+    let here = low from (omega arith) (omega arith) in
+    rw (here .0, here .1)
+    (ap (λ xs. from ∷ xs) (keep-low p q (suc from) n k (omega arith) (λ j a b. low j (omega arith) (omega arith)) (λ j a. high j (omega arith))))
+
+places-split : (w k : ℕ) → w < 2 ^ 64 → k ≡ first (clearIn w) 64 → setPlaces w ≡ upTo k ++ setPlaces (highOf w k)
+unfolding setPlaces upTo
+places-split w k h e =
+    let s = first-laws (clearIn w) 64 in
+    keep-low (isSet w) (isSet (highOf w k)) 0 64 k (omega (arith, s .within))
+    (λ j a b. (is-true (isSet w j) (s .none-before j (omega arith)), low-cleared w k h j (omega arith))) (λ j a. high-kept w k h j (omega arith))
+
+-- ---- the words there
+
+module _ (image : List ℕ) (start : ℕ) where
+  pub words-none : (set : ℕ) → set ≡ 0 → wordsAt image start (setPlaces set) ≡ []
+  unfolding wordsAt
+  words-none set z = rw (places-none set z) refl
+
+  pub words-next : (set : ℕ) → set ≢ 0 → set < 2 ^ 64
+      → wordsAt image start (setPlaces set)
+      ≡ reads image (start + trailingZeros 64 set) ∷ wordsAt image start (setPlaces (withoutBit set (trailingZeros 64 set)))
+  unfolding wordsAt
+  words-next set o h = ap (wordsAt image start) (places-next set o h)
+
+  words-split : (set k : ℕ) → set < 2 ^ 64 → k ≡ first (clearIn set) 64
+      → wordsAt image start (setPlaces set) ≡ wordsAt image start (upTo k) ++ wordsAt image start (setPlaces (highOf set k))
+  unfolding wordsAt
+  words-split set k h e = ap (wordsAt image start) (places-split set k h e) ∙ map-append _ (upTo k) (setPlaces (highOf set k))
+
+  length-words : (count : ℕ) → length (wordsAt image start (upTo count)) ≡ count
+  unfolding wordsAt
+  length-words count = length-map (upTo count) _ ∙ length-upTo count
+
+  -- adjacent words: all, one more, none left
+  pub run-all : (count : ℕ) → wordsAt image start (upTo count) ≡ wordsAt image start (range 0 (count - 0))
+  unfolding upTo
+  run-all count = ap (λ (k : ℕ). wordsAt image start (range 0 k)) (omega arith)
+
+  pub run-next : (k count : ℕ) → k < count
+      → wordsAt image start (range k (count - k)) ≡ reads image (start + k) ∷ wordsAt image start (range (k + 1) (count - (k + 1)))
+  unfolding wordsAt
+  run-next k count l = ap (wordsAt image start) (range-next k count l)
+
+  pub run-none : (k count : ℕ) → count ≤ k → wordsAt image start (range k (count - k)) ≡ []
+  unfolding wordsAt range
+  run-none k count l = let z : count - k ≡ 0 = omega arith in rw z refl
+
+-- ---- all of them in two pieces
+
+module _ (image buffer : List ℕ) (start set : ℕ) {all : List ℕ} {k : ℕ} (e : all ≡ wordsAt image start (setPlaces set)) (fits : set < 2 ^ 64)
+    (room : length all ≤ length buffer) (low : k ≡ first (clearIn set) 64) where
+  -- those at the low bits are copied, the others are left
+  pub low-copied : {list : List ℕ} → list ≡ listed (wordsAt image start (upTo k)) buffer → Writing all buffer k (wordsAt image start (setPlaces (highOf set k))) list
+  low-copied c =
+      rw c (rw (length-words image start k) at (begun (wordsAt image start (upTo k)) _ buffer (e ∙ words-split image start set k fits low) room))
+
+  pub low-room : k ≤ length buffer
+  low-room = omega (arith, low-copied refl .counts)
+
+-- of a full word none is left
+pub none-high : (image : List ℕ) (start set k : ℕ) → k ≡ 64 → wordsAt image start (setPlaces (highOf set k)) ≡ []
+none-high image start set k e = words-none image start (highOf set k) (rw e (mul-mod-left (set / 2 ^ 64) (2 ^ 64)))

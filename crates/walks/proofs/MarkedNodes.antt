@@ -1,38 +1,31 @@
--- What the laws of marked nodes share: words of a map that mark none, and the nodes of trees that are walked through.
-use mathlib.Core.Path.{_≡_, sym, _∙_, ap}
+-- What the laws of marked nodes share: nodes that are not marked, and the nodes of trees that are walked through.
+use mathlib.Core.Path.{_≡_, _∙_, ap}
 use mathlib.Core.Bool.{true, false}
 use mathlib.Core.List.{List, List·Memᴰ, Memᴰ·of-map}
-use Prim.Native.Nat.{ℕ, zero, suc, _+_, _-_, _/_, _%_, _≤_, _<_, min}
+use Prim.Native.Nat.{ℕ, zero, suc, _+_, _-_, _<_}
 use native.Mathlib.Omega.{arith}
-use Rattle.memory.specs.Words.{Memory, reads, marked}
-use Rattle.memory.proofs.Laws.{no-bit}
+use Rattle.memory.specs.Words.{Memory}
 use Rattle.tree.specs.declared.layout.Geometry.{Geometry}
 use Rattle.tree.specs.Subtree.{Visit, nodesOf}
 use Rattle.tree.specs.Check.{walkable}
 use Rattle.tree.specs.Pool.{used}
+use Rattle.tree.specs.PoolLaws.{NoneUsed}
 use Rattle.tree.proofs.Nodes.{wellFormed-facts}
 use Rattle.tree.proofs.Trees.{formed-at}
 
--- a word of the map that is 0 marks none of its nodes
-clear-word : (pool : List ℕ) (n j : ℕ) → n % 64 ≡ 0 → reads pool (n / 64) ≡ 0 → j < 64 → used pool (n + j) ≡ false
-unfolding marked
-clear-word pool n j z w l =
-    let q : (n + j) / 64 ≡ n / 64 = omega arith in
-    rw (q, w) (no-bit ((n + j) % 64))
-
--- what stays the same at a node that is not marked stays the same along such a word
+-- what stays the same at a node that is not marked stays the same where none is
 module _ {A : Type 0} (f : ℕ → A) (pool : List ℕ) (still : (k : ℕ) → used pool k ≡ false → f (suc k) ≡ f k) where
-  along : (n j : ℕ) → n % 64 ≡ 0 → reads pool (n / 64) ≡ 0 → j ≤ 64 → f (n + j) ≡ f n
-  along n zero z w l = ap f (omega arith)
-  along n (suc j) z w l =
+  along : (n j : ℕ) → NoneUsed pool n (n + j) → f (n + j) ≡ f n
+  along n zero t = ap f (omega arith)
+  along n (suc j) t =
       let q : n + suc j ≡ suc (n + j) = omega arith in
-      ap f q ∙ still (n + j) (clear-word pool n j z w (omega arith)) ∙ along n j z w (omega arith)
+      let before : NoneUsed pool n (n + j) = record { onward = omega arith; none = λ k l b. t .none k l (omega arith) } in
+      ap f q ∙ still (n + j) (t .none (n + j) (omega arith) (omega arith)) ∙ along n j before
 
-  pub past-clear : (nodes n : ℕ) → n < nodes → n % 64 ≡ 0 → reads pool (n / 64) ≡ 0 → f (min (n + 64) nodes) ≡ f (min n nodes)
-  past-clear nodes n b z w =
-      let q : min (n + 64) nodes ≡ n + (min (n + 64) nodes - n) = omega arith in
-      let r : min n nodes ≡ n = omega arith in
-      ap f q ∙ along n (min (n + 64) nodes - n) z w (omega arith) ∙ ap f (sym r)
+  pub past-unmarked : {from n : ℕ} → NoneUsed pool from n → f n ≡ f from
+  past-unmarked {from} {n} t =
+      let q : n ≡ from + (n - from) = omega (arith, t .onward) in
+      ap f q ∙ along from (n - from) (rw (← q) t)
 
 -- the nodes of trees without a malformed node are inside the pool
 pub nodes-inside : (g : Geometry) (m : Memory) (vs : List Visit) → walkable g m vs ≡ true → (n : ℕ) → List·Memᴰ n (nodesOf vs) → n < g .nodes

@@ -3,7 +3,7 @@ use mathlib.Core.Path.{_≡_, refl, sym, _∙_, ap, ap₂}
 use mathlib.Core.Bool.{true, false, cond}
 use mathlib.Core.Logic.{inl}
 use mathlib.Core.List.{List, [], _∷_, flatMap, List·Memᴰ, List·Memᴰ·head, List·Memᴰ·tail}
-use Prim.Native.Nat.{ℕ, zero, suc, _+_, _*_, _/_, _%_, _^_, _≤_, _<_, min}
+use Prim.Native.Nat.{ℕ, zero, suc, _+_, _*_, _/_, _%_, _^_, _≤_, _<_}
 use native.Mathlib.Omega.{arith}
 use native.Mathlib.Decide.{ℕ-discrete}
 use native.Mathlib.Numerals.{add-one}
@@ -12,18 +12,19 @@ use lib.ListN.{length, length-append, length-map}
 use lib.Pow.{shr-shr, shr-lt}
 use lib.Count.{ones, ones-step, ones-le}
 use borrow.Author.Tests.{eq-eqb, ne-eqb}
-use Rattle.memory.specs.Words.{Memory, reads, isSet, bit, field}
+use Rattle.memory.specs.Words.{Memory, isSet, bit, field}
 use Rattle.tree.specs.declared.layout.Geometry.{Geometry}
 use Rattle.tree.specs.Layout.{mapWords, setAt, frameAt}
 use Rattle.tree.specs.Lists.{range, upTo, keep, Distinct, onto}
 use Rattle.tree.specs.Subtree.{Visit, nodesOf, tree, heldPlaces, framesIn, listing}
 use Rattle.tree.specs.Check.{isSoundTree}
 use Rattle.tree.specs.Pool.{used, mark, markAll, clearMap, mapOf}
+use Rattle.tree.specs.PoolLaws.{NoneUsed}
 use Rattle.tree.proofs.Pool.{pool-laws, mark-other}
 use Rattle.tree.proofs.Nodes.{wellFormed-facts}
 use Rattle.tree.proofs.Trees.{formed-at, walked-once}
 use Rattle.walks.specs.Marked.{heldBelow}
-use Rattle.walks.proofs.MarkedNodes.{past-clear}
+use Rattle.walks.proofs.MarkedNodes.{past-unmarked}
 
 -- ---- the set bits of a word
 
@@ -63,40 +64,31 @@ module _ (g : Geometry) (m : Memory) where
   -- what the loop has at n: the frames of the marked nodes below n, at most 64 each
   pub record HeldTo (pool : List ℕ) (count n : ℕ) : Type 0 where
     pub few : count ≤ 64 * n
-    pub is : count ≡ heldBelow g m pool (min n (g .nodes))
+    pub is : count ≡ heldBelow g m pool n
 
   pub held-none : (pool : List ℕ) → HeldTo pool 0 0
   unfolding heldBelow
-  held-none pool = let z : min 0 (g .nodes) ≡ 0 = omega arith in record { few = omega arith; is = rw z refl }
+  held-none pool = record { few = omega arith; is = refl }
 
-  pub held-all : {pool : List ℕ} {count : ℕ} (n : ℕ) → g .nodes ≤ n → HeldTo pool count n → count ≡ heldBelow g m pool (g .nodes)
-  held-all {pool} n l t = let q : min n (g .nodes) ≡ g .nodes = omega arith in t .is ∙ ap (heldBelow g m pool) q
-
-  -- a word of the map that marks none is passed over whole
-  pub held-past : {pool : List ℕ} {count : ℕ} (n : ℕ) → n < g .nodes → n % 64 ≡ 0 → reads pool (n / 64) ≡ 0 → HeldTo pool count n → HeldTo pool count (n + 64)
+  -- nodes that are not marked are passed over
+  pub held-past : {pool : List ℕ} {count from n : ℕ} → NoneUsed pool from n → HeldTo pool count from → HeldTo pool count n
   unfolding heldBelow
-  held-past {pool} n l z w t = record {
-    few = omega (arith, t .few);
-    is = t .is ∙ sym (past-clear (heldBelow g m pool) pool (λ k u. rw u (omega arith)) (g .nodes) n l z w);
+  held-past {pool} u t = record {
+    few = omega (arith, t .few, u .onward);
+    is = t .is ∙ sym (past-unmarked (heldBelow g m pool) pool (λ k e. rw e (omega arith)) u);
   }
 
-  module _ {pool : List ℕ} {count : ℕ} (n : ℕ) (inside : n < g .nodes) (t : HeldTo pool count n) where
-    held-suc : heldBelow g m pool (min (n + 1) (g .nodes)) ≡ count + cond (used pool n) (length (framesIn g m n)) 0
-    unfolding heldBelow
-    held-suc =
-        let q : min (n + 1) (g .nodes) ≡ suc n = omega arith in
-        let r : min n (g .nodes) ≡ n = omega arith in
-        rw (q, t .is, r) refl
+  -- a marked node's frames are added
+  pub held-more : {pool : List ℕ} {count n : ℕ} → used pool n ≡ true → m (setAt g n) < 2 ^ 64 → HeldTo pool count n
+      → HeldTo pool (count + ones (m (setAt g n))) (n + 1)
+  unfolding heldBelow
+  held-more {n = n} u h t = record {
+    few = omega (arith, t .few, ones-le 64 (m (setAt g n)) h);
+    is = rw (add-one n, u, ← t .is, frames-counted n h) refl;
+  }
 
-    -- a marked node's frames are added, an unmarked one's are not
-    pub held-more : used pool n ≡ true → m (setAt g n) < 2 ^ 64 → HeldTo pool (count + ones (m (setAt g n))) (n + 1)
-    held-more u h = record {
-      few = omega (arith, t .few, ones-le 64 (m (setAt g n)) h);
-      is = sym (held-suc ∙ rw (u, frames-counted n h) refl);
-    }
-
-    pub held-same : used pool n ≡ false → HeldTo pool count (n + 1)
-    held-same u = record { few = omega (arith, t .few); is = sym (held-suc ∙ rw u (omega arith)) }
+  pub held-all : {pool : List ℕ} {count n nodes : ℕ} → n ≤ nodes → nodes ≤ n → HeldTo pool count n → count ≡ heldBelow g m pool nodes
+  held-all {pool} {n = n} {nodes = nodes} l h t = let q : n ≡ nodes = omega arith in t .is ∙ ap (heldBelow g m pool) q
 
   -- ---- one more node marked, and several
 

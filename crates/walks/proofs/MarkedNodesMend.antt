@@ -3,9 +3,10 @@ use mathlib.Core.Path.{_≡_, refl, sym, _∙_, ap, ap₂}
 use mathlib.Core.Bool.{true, false}
 use mathlib.Core.Logic.{inl, inr, _≢_, _↔_}
 use mathlib.Core.List.{List, List·Memᴰ, Memᴰ·of-map, Memᴰ·map}
-use Prim.Native.Nat.{ℕ, zero, suc, _+_, _-_, _/_, _%_, _≤_, _<_, min}
+use Prim.Native.Nat.{ℕ, zero, suc, _+_, _-_, _/_, _≤_, _<_}
 use native.Mathlib.Omega.{arith}
 use native.Mathlib.Decide.{ℕ-discrete}
+use native.Mathlib.Numerals.{add-one}
 use lib.ListN.{length, set, length-set}
 use lib.Seq.{getD-set-same, getD-set-other, ext-getD}
 use lib.Dec.{eqb}
@@ -21,11 +22,12 @@ use Rattle.tree.specs.Subtree.{Visit, nodesOf, allTrees}
 use Rattle.tree.specs.Check.{walkable, isSound}
 use Rattle.tree.specs.Recovery.{recoverStores}
 use Rattle.tree.specs.Pool.{used, mapOf}
+use Rattle.tree.specs.PoolLaws.{NoneUsed}
 use Rattle.tree.proofs.Cases.{test, true-not-false, and-true}
 use Rattle.tree.proofs.Lists.{kept, keeps}
 use Rattle.tree.proofs.Pool.{pool-laws}
 use Rattle.walks.specs.Marked.{mendedBelow}
-use Rattle.walks.proofs.MarkedNodes.{past-clear, nodes-inside}
+use Rattle.walks.proofs.MarkedNodes.{past-unmarked, nodes-inside}
 
 module _ (g : Geometry) (pool image : List ℕ) where
   -- ---- one node more
@@ -100,45 +102,39 @@ module _ (g : Geometry) (pool image : List ℕ) where
 
   -- what the loop has at n: the image mended below n
   pub record MendedTo (now : List ℕ) (n : ℕ) : Type 0 where
-    pub is : now ≡ mendedBelow g pool image (min n (g .nodes))
+    pub is : now ≡ mendedBelow g pool image n
     pub same-length : length now ≡ length image
 
-  mended-to : (now : List ℕ) (n : ℕ) → now ≡ mendedBelow g pool image (min n (g .nodes)) → MendedTo now n
-  mended-to now n e = record { is = e; same-length = ap length e ∙ length-mended (min n (g .nodes)) }
+  mended-to : (now : List ℕ) (n : ℕ) → now ≡ mendedBelow g pool image n → MendedTo now n
+  mended-to now n e = record { is = e; same-length = ap length e ∙ length-mended n }
 
   pub mended-none : MendedTo image 0
   unfolding mendedBelow
-  mended-none = let q : min 0 (g .nodes) ≡ 0 = omega arith in mended-to image 0 (rw q refl)
+  mended-none = mended-to image 0 refl
 
-  pub mended-all : {now : List ℕ} (n : ℕ) → g .nodes ≤ n → MendedTo now n → now ≡ mendedBelow g pool image (g .nodes)
-  mended-all n l t = let q : min n (g .nodes) ≡ g .nodes = omega arith in t .is ∙ ap (mendedBelow g pool image) q
+  -- nodes that are not marked are passed over
+  pub mended-past : {now : List ℕ} {from n : ℕ} → NoneUsed pool from n → MendedTo now from → MendedTo now n
+  mended-past {now} {n = n} u t = mended-to now n (t .is ∙ sym (past-unmarked (mendedBelow g pool image) pool mended-unmarked u))
 
-  pub mended-past : {now : List ℕ} (n : ℕ) → n < g .nodes → n % 64 ≡ 0 → reads pool (n / 64) ≡ 0 → MendedTo now n → MendedTo now (n + 64)
-  mended-past {now} n l z w t = mended-to now (n + 64) (t .is ∙ sym (past-clear (mendedBelow g pool image) pool mended-unmarked (g .nodes) n l z w))
+  pub mended-all : {now : List ℕ} {n nodes : ℕ} → n ≤ nodes → nodes ≤ n → MendedTo now n → now ≡ mendedBelow g pool image nodes
+  mended-all {n = n} {nodes} l h t = let q : n ≡ nodes = omega arith in t .is ∙ ap (mendedBelow g pool image) q
 
-  module _ {now : List ℕ} (n : ℕ) (inside : n < g .nodes) (t : MendedTo now n) where
-    until : now ≡ mendedBelow g pool image n
-    until = let q : min n (g .nodes) ≡ n = omega arith in t .is ∙ ap (mendedBelow g pool image) q
-
-    onward : {after : List ℕ} → after ≡ mendedBelow g pool image (suc n) → MendedTo after (n + 1)
-    onward {after} e = let q : suc n ≡ min (n + 1) (g .nodes) = omega arith in mended-to after (n + 1) (e ∙ ap (mendedBelow g pool image) q)
-
+  module _ {now : List ℕ} (n : ℕ) (t : MendedTo now n) where
     locate-then : reads now (locateAt g n) ≡ reads image (locateAt g n)
-    locate-then = ap (λ ws. reads ws (locateAt g n)) until ∙ ahead n n (omega arith)
+    locate-then = ap (λ ws. reads ws (locateAt g n)) (t .is) ∙ ahead n n (omega arith)
 
     set-then : reads now (setAt g n) ≡ reads image (setAt g n)
-    set-then = ap (λ ws. reads ws (setAt g n)) until ∙ set-stays n n
+    set-then = ap (λ ws. reads ws (setAt g n)) (t .is) ∙ set-stays n n
 
-    pub pass-unmarked : used pool n ≡ false → MendedTo now (n + 1)
-    pass-unmarked u = onward (until ∙ sym (mended-unmarked n u))
-
+    -- a marked node's two words are equal, or different
     pub pass-equal : reads now (locateAt g n) ≡ reads now (setAt g n) → MendedTo now (n + 1)
-    pass-equal e = onward (until ∙ sym (mended-equal n (eq-eqb _ _ (sym locate-then ∙ e ∙ set-then))))
+    pass-equal e = mended-to now (n + 1) (rw (add-one n) (t .is ∙ sym (mended-equal n (eq-eqb _ _ (sym locate-then ∙ e ∙ set-then)))))
 
     pub pass-stored : used pool n ≡ true → reads now (locateAt g n) ≢ reads now (setAt g n)
         → MendedTo (set now (locateAt g n) (reads now (setAt g n))) (n + 1)
     pass-stored u d =
-        onward (ap₂ (λ ws v. set ws (locateAt g n) v) until set-then ∙ sym (mended-differing n u (ne-eqb _ _ (λ q. d (locate-then ∙ q ∙ sym set-then)))))
+        mended-to _ (n + 1) (rw (add-one n)
+        (ap₂ (λ ws v. set ws (locateAt g n) v) (t .is) set-then ∙ sym (mended-differing n u (ne-eqb _ _ (λ q. d (locate-then ∙ q ∙ sym set-then))))))
 
 -- ---- with the map of a sound image
 

@@ -12,27 +12,26 @@ use Rattle.memory.specs.Script.{stores}
 use Rattle.memory.specs.Crash.{apply}
 use Rattle.memory.specs.Laws.{Fit}
 use Rattle.tree.specs.declared.layout.Geometry.{Geometry}
-use Rattle.tree.specs.Lists.{range, upTo}
+use Rattle.tree.specs.Lists.{range, upTo, every}
 use Rattle.tree.specs.Layout.{mapWords, Sized, reelAt}
 use Rattle.tree.specs.Fingerprint.{editionOne}
 use Rattle.tree.specs.Slots.{filled, Filled, slotOf}
 use Rattle.tree.specs.Subtree.{tree, allTrees, nodesOf, listing, listed}
-use Rattle.tree.specs.Check.{isSoundTree, isSound}
+use Rattle.tree.specs.Check.{isSoundTree, inPlace, isSound}
 use Rattle.tree.specs.Recovery.{recoverStores}
 use Rattle.tree.specs.Pool.{unmarkAll, clearMap, mapOf}
 use Rattle.tree.proofs.Cases.{some-inj, none-some}
 use Rattle.tree.proofs.Lists.{range-next}
 use Rattle.tree.proofs.Slots.{filled-test}
-use Rattle.walks.specs.declared.visit.Check.the-variants.{Nodes, Frames}
 use Rattle.walks.specs.declared.trees.Listing.the-variants as listing-answer
 use Rattle.walks.specs.Answers.{listingFrom, listAfter}
-use Rattle.walks.specs.Walk.{kept, walkedSlot, walkedSlots}
+use Rattle.walks.specs.Walk.{kept, walkedSlot, walkedReel, walkedSlots}
 use Rattle.walks.specs.Marked.{withoutMarked, heldBelow, mendedBelow}
 use Rattle.walks.proofs.MarkedNodes.{nodes-inside}
 use Rattle.walks.proofs.MarkedNodesCount.{count-law}
 use Rattle.walks.proofs.MarkedNodesFree.{free-law}
 use Rattle.walks.proofs.MarkedNodesMend.{mend-law}
-use Rattle.walks.proofs.SlotWalks.{slot-law, slots-law}
+use Rattle.walks.proofs.SlotWalks.{walked-sound, slot-law, slots-law}
 
 -- ---- two walks that leave the same: both went through, with one map, or neither did
 
@@ -55,8 +54,8 @@ cleared n k pool e q = e ∙ ap clearMap q
 
 -- its slot is walked from a clear map on
 pub whole-tree : (g : Geometry) (image : List ℕ) (s : ℕ) (pool : List ℕ) → pool ≡ clearMap (mapWords g) → (r : Bool) (marks : List ℕ)
-    → kept r marks ≡ walkedSlot g (reads image) Nodes s pool → kept r marks ≡ kept (isSoundTree g (reads image) s) (mapOf g (nodesOf (tree g (reads image) s)))
-whole-tree g image s pool is r marks h = h ∙ ap (walkedSlot g (reads image) Nodes s) is ∙ slot-law g image s
+    → kept r marks ≡ walkedSlot g (reads image) s pool → kept r marks ≡ kept (isSoundTree g (reads image) s) (mapOf g (nodesOf (tree g (reads image) s)))
+whole-tree g image s pool is r marks h = h ∙ ap (walkedSlot g (reads image) s) is ∙ slot-law g image s
 
 module _ (g : Geometry) (m : Memory) (s : ℕ) (r : Bool) (marks : List ℕ)
     (h : kept r marks ≡ kept (isSoundTree g m s) (mapOf g (nodesOf (tree g m s)))) where
@@ -99,6 +98,29 @@ module _ (g : Geometry) (m : Memory) (s : ℕ) (d : isSoundTree g m s ≡ true) 
     unfolding listingFrom listAfter
     all-listed h n list e q = rw (d, le-ltb (length buffer) (length (listing g m s)) (rw all-counted at h), e, q) (refl, refl)
 
+-- ---- a filled slot
+
+module _ (g : Geometry) (m : Memory) (s : ℕ) (pool : List ℕ) (lowest : ℕ) (of : lowest ≡ slotOf g m (m (reelAt s))) where
+  -- one that is not its reel's does not pass
+  pub reel-doubled : (lowest ≡ s → ⊥) → none ≡ walkedReel g m s pool
+  unfolding walkedReel
+  reel-doubled d = rw (← of, ne-eqb lowest s d) refl
+
+  module _ (own : lowest ≡ s) (r : Bool) (pool' : List ℕ) (walk : kept r pool' ≡ walkedSlot g m s pool) where
+    -- nor one whose tree is not walked through
+    pub tree-fails : not r ≡ true → none ≡ walkedReel g m s pool
+    unfolding walkedReel
+    tree-fails e = rw (← of, eq-eqb lowest s own, ← walk, not-true r e) refl
+
+    -- else its tree is sound, and its frames decide
+    module _ (through : not r ≡ false) where
+      pub tree-sound : length pool ≡ mapWords g → isSoundTree g m s ≡ true
+      tree-sound l = walked-sound g m s pool l (rw (not-false r through) at walk)
+
+      pub tree-walked : (placed : Bool) → placed ≡ every (inPlace editionOne g m s) (tree g m s) → kept placed pool' ≡ walkedReel g m s pool
+      unfolding walkedReel
+      tree-walked placed e = rw (← of, eq-eqb lowest s own, ← walk, not-false r through, ← e) refl
+
 -- ---- the slots in turn
 
 -- the slots from s on, k in all
@@ -118,21 +140,15 @@ module _ (g : Geometry) (m : Memory) (k s : ℕ) (low : s < k) (pool : List ℕ)
   unfolding walkedSlots
   slot-empty e = rw (range-next s k low, ← is, not-true here e) refl
 
-  module _ (full : not here ≡ false) (lowest : ℕ) (of : lowest ≡ slotOf g m (m (reelAt s))) where
-    -- one that is not its reel's ends the walk
-    pub slot-doubled : (lowest ≡ s → ⊥) → none ≡ walkedSlots g m (slotsFrom k s) pool
+  module _ (full : not here ≡ false) (r : Bool) (pool' : List ℕ) (walk : kept r pool' ≡ walkedReel g m s pool) where
+    -- one that does not pass ends the walk
+    pub slot-fails : not r ≡ true → none ≡ walkedSlots g m (slotsFrom k s) pool
     unfolding walkedSlots
-    slot-doubled d = rw (range-next s k low, ← is, not-false here full, ← of, ne-eqb lowest s d) refl
+    slot-fails e = rw (range-next s k low, ← is, not-false here full, ← walk, not-true r e) refl
 
-    module _ (own : lowest ≡ s) (r : Bool) (pool' : List ℕ) (walk : kept r pool' ≡ walkedSlot g m Frames s pool) where
-      -- so does one whose tree does not pass
-      pub slot-fails : not r ≡ true → none ≡ walkedSlots g m (slotsFrom k s) pool
-      unfolding walkedSlots
-      slot-fails e = rw (range-next s k low, ← is, not-false here full, ← of, eq-eqb lowest s own, ← walk, not-true r e) refl
-
-      pub slot-walked : not r ≡ false → walkedSlots g m (slotsFrom k s) pool ≡ walkedSlots g m (slotsFrom k (s + 1)) pool'
-      unfolding walkedSlots
-      slot-walked e = rw (range-next s k low, ← is, not-false here full, ← of, eq-eqb lowest s own, ← walk, not-false r e) refl
+    pub slot-walked : not r ≡ false → walkedSlots g m (slotsFrom k s) pool ≡ walkedSlots g m (slotsFrom k (s + 1)) pool'
+    unfolding walkedSlots
+    slot-walked e = rw (range-next s k low, ← is, not-false here full, ← walk, not-false r e) refl
 
 pub slots-end : (g : Geometry) (m : Memory) (k s : ℕ) (pool : List ℕ) → k ≤ s → some pool ≡ walkedSlots g m (slotsFrom k s) pool
 unfolding walkedSlots range

@@ -12,7 +12,7 @@ use Rattle.tree.specs.Lists.{every, hasKey, distinct}
 use Rattle.tree.specs.declared.layout.Geometry.{Geometry}
 use Rattle.tree.specs.Layout.{mapWords}
 use Rattle.tree.specs.Pool.{used, mark, markAll, clearMap, mapOf}
-use Rattle.tree.proofs.Cases.{test, same-test, and-swap, or-true, or-left, or-right}
+use Rattle.tree.proofs.Cases.{test, same-test, none-some, and-swap, or-true, or-left, or-right}
 use Rattle.tree.proofs.Lists.{at-every}
 use Rattle.tree.proofs.Laws.{pool-laws}
 use Rattle.walks.specs.Walk.{Stop, walked, kept, thenWalk}
@@ -52,13 +52,21 @@ walked-append good (x ∷ xs) ys pool = elim (test (good x && not (used pool (x 
   | inr e ↦ rw e
 ]
 
--- a tested walk, then one with a test r: the tests all come first
-pub walked-then : (a p r : Bool) (o : Option (List ℕ)) (more more' : List ℕ → Option (List ℕ)) → ((pool : List ℕ) → more pool ≡ cond r (more' pool) none)
-    → cond a (thenWalk more (cond p o none)) none ≡ cond (a && p && r) (thenWalk more' o) none
-walked-then true true r none more more' h = sym (tested-none r)
-walked-then true true r (some pool) more more' h = h pool
-walked-then true false r o more more' h = refl
-walked-then false p r o more more' h = refl
+-- a tested walk between two tests: the tests all come first
+pub walked-between : (a p q : Bool) (o : Option (List ℕ)) → cond a (thenWalk (kept q) (cond p o none)) none ≡ cond (a && (p && q)) o none
+walked-between true true true none = refl
+walked-between true true true (some pool) = refl
+walked-between true true false none = refl
+walked-between true true false (some pool) = refl
+walked-between true false q o = refl
+walked-between false p q o = refl
+
+-- a tested walk, then one with a test r
+pub walked-then : (p r : Bool) (o : Option (List ℕ)) (more more' : List ℕ → Option (List ℕ)) → ((pool : List ℕ) → more pool ≡ cond r (more' pool) none)
+    → thenWalk more (cond p o none) ≡ cond (p && r) (thenWalk more' o) none
+walked-then true r none more more' h = sym (tested-none r)
+walked-then true r (some pool) more more' h = h pool
+walked-then false r o more more' h = refl
 
 -- ---- what it meets
 
@@ -99,6 +107,13 @@ met-marks (x ∷ xs) pool h =
   where
     regroup : (v d k e : Bool) → v && (d && (k && e)) ≡ (k && d) && (v && e)
     regroup v d k e = ap (λ t. v && t) (and-swap d k e) ∙ and-swap v k (d && e) ∙ ap (λ t. k && t) (and-swap v d e) ∙ sym (and-assoc k d (v && e))
+
+-- none of nodes that are all marked in turn is met twice
+pub met-once : (xs : List Stop) (pool : List ℕ) {pool' : List ℕ} → ((x : Stop) → List·Memᴰ x xs → x .node < 64 * length pool)
+    → some pool' ≡ met xs pool → distinct (λ x. x .node) xs ≡ true
+met-once xs pool h q =
+    let e = q ∙ met-marks xs pool h in
+    elim (test (distinct (λ x. x .node) xs)) [ inl d ↦ d | inr d ↦ none-some (sym (rw d at e)) ]
 
 -- from a clear map on
 pub met-clear : (g : Geometry) (xs : List Stop) → ((x : Stop) → List·Memᴰ x xs → x .node < g .nodes)

@@ -1,6 +1,6 @@
 -- The way along a frame's path, node by node.
 use mathlib.Core.Path.{_≡_}
-use mathlib.Core.Bool.{Bool, true, cond}
+use mathlib.Core.Bool.{cond}
 use mathlib.Core.Option.{Option, none, some}
 use mathlib.Core.List.{List, _++_}
 use Prim.Native.Nat.{ℕ, _-_, _≤_}
@@ -12,11 +12,9 @@ use Rattle.tree.specs.declared.path.Room.{Room}
 use Rattle.tree.specs.declared.path.Room.the-variants.{Clear, ScaleUp, BranchOut}
 use Rattle.tree.specs.Layout.{nextAt, sizeAt}
 use Rattle.tree.specs.Path.{child}
-use Rattle.tree.specs.Fingerprint.{editionOne}
-use Rattle.tree.specs.Node.{childOf, held, frame}
-use Rattle.tree.specs.Lookup.{path, pathFrom, find}
+use Rattle.tree.specs.Node.{childOf}
+use Rattle.tree.specs.Lookup.{path, pathFrom}
 use Rattle.tree.specs.Room.{atLevel31}
-use Rattle.tree.specs.Check.{isAt}
 use Rattle.walks.specs.declared.descent.Step.{Step}
 use Rattle.walks.specs.declared.descent.Step.the-variants.{End, Down}
 use Rattle.walks.specs.declared.descent.Found.{Found}
@@ -63,7 +61,3 @@ unlessHeld r (At t) = Held
 
 abbrev pub placementAs : Room → (found : Found) → Placement
 placementAs r x = cond (atLevel31 r) Full (unlessHeld r x)
-
--- if a place holds a frame, the lookup from the slot finds it there
-unfoldable pub placePasses : Geometry → Memory → (slot node place : ℕ) → Bool
-placePasses g m s n p = cond (held g m n p) (isAt n p (find editionOne g m s (frame g m n p))) true

@@ -17,13 +17,12 @@ use Rattle.tree.specs.Subtree.{tree, allTrees, nodesOf, listing}
 use Rattle.tree.specs.Check.{isSoundTree, isSound}
 use Rattle.tree.specs.Recovery.{recoverStores}
 use Rattle.tree.specs.Pool.{unmarkAll, clearMap, mapOf}
-use Rattle.walks.specs.declared.visit.Check.the-variants.{Nodes}
 use Rattle.walks.specs.Walk.{kept, walkedSlot, walkedSlots}
 use Rattle.walks.specs.Marked.{withoutMarked, heldBelow, mendedBelow}
 
 pub record WalkLaws (g : Geometry) (image : List ℕ) : Type 0 where
   -- a slot's tree is walked through exactly if no node is malformed or met twice, and then exactly its nodes are marked
-  pub slot : (s : ℕ) → walkedSlot g (reads image) Nodes s (clearMap (mapWords g))
+  pub slot : (s : ℕ) → walkedSlot g (reads image) s (clearMap (mapWords g))
       ≡ kept (isSoundTree g (reads image) s) (mapOf g (nodesOf (tree g (reads image) s)))
   -- all slots are walked through exactly if the image is sound, and then exactly the nodes reached are marked
   pub slots : walkedSlots g (reads image) (upTo (g .slots)) (clearMap (mapWords g))

@@ -1,22 +1,20 @@
--- A walk over a tree's nodes: it marks each in a map, and ends where one fails its test or is marked already.
-use mathlib.Core.Bool.{Bool, true, cond, not, _&&_}
+-- A walk over a tree's nodes: it marks each in a map, and ends where one fails a test or is marked already.
+use mathlib.Core.Bool.{Bool, cond, not, _&&_}
 use mathlib.Core.Option.{Option, none, some}
 use mathlib.Core.List.{List, [], _∷_, flatMap}
 use Prim.Native.Nat.{ℕ, zero, suc, _+_}
 use lib.Dec.{eqb}
 use Rattle.memory.specs.Words.{Memory}
 use Rattle.tree.specs.declared.layout.Geometry.{Geometry}
-use Rattle.tree.specs.Lists.{upTo}
+use Rattle.tree.specs.Lists.{upTo, every}
 use Rattle.tree.specs.Layout.{reelAt}
 use Rattle.tree.specs.Path.{levels}
 use Rattle.tree.specs.Fingerprint.{editionOne}
 use Rattle.tree.specs.Node.{childOf, wellFormed}
 use Rattle.tree.specs.Slots.{filled, rootOf, slotOf}
-use Rattle.tree.specs.Subtree.{visit, children, framesIn}
+use Rattle.tree.specs.Subtree.{children, tree, framesIn}
 use Rattle.tree.specs.Check.{inPlace}
 use Rattle.tree.specs.Pool.{used, mark}
-use Rattle.walks.specs.declared.visit.Check.{Check}
-use Rattle.walks.specs.declared.visit.Check.the-variants.{Nodes, Frames}
 
 -- a node at a depth, as a walk comes to it
 pub record Stop : Type 0 where
@@ -43,14 +41,6 @@ module _ (g : Geometry) (m : Memory) where
   unfoldable pub framesAt : List Stop → List ℕ
   framesAt xs = flatMap (λ x. framesIn g m (x .node)) xs
 
-  -- what a walk from a slot asks of a node's frames: nothing, or that the lookup finds each where it is held
-  abbrev pub framesPass : Check → (slot node : ℕ) → Bool
-  framesPass Nodes s n = true
-  framesPass Frames s n = inPlace editionOne g m s (visit [] n)
-
-  unfoldable pub passes : Check → (slot : ℕ) → Stop → Bool
-  passes c s x = formedAt x && framesPass c s (x .node)
-
 -- the map with every node marked; none where one fails or is marked already
 unfoldable pub walked : (Stop → Bool) → List Stop → (pool : List ℕ) → Option (List ℕ)
 walked good [] pool = some pool
@@ -66,13 +56,15 @@ thenWalk more (some pool) = more pool
 
 module _ (g : Geometry) (m : Memory) where
   -- the walk of a slot's tree
-  unfoldable pub walkedSlot : Check → (slot : ℕ) → (pool : List ℕ) → Option (List ℕ)
-  walkedSlot c s pool = walked (passes g m c s) (stops g m levels 0 (rootOf m s)) pool
+  unfoldable pub walkedSlot : (slot : ℕ) → (pool : List ℕ) → Option (List ℕ)
+  walkedSlot s pool = walked (formedAt g m) (stops g m levels 0 (rootOf m s)) pool
 
-  -- recovery's: every filled slot is its reel's lowest, and its tree is walked, frames and all
+  -- recovery's of a filled slot: it is its reel's lowest, its tree is walked, and the lookup finds each frame where it is held
+  unfoldable pub walkedReel : (slot : ℕ) → (pool : List ℕ) → Option (List ℕ)
+  walkedReel s pool =
+      cond (eqb (slotOf g m (m (reelAt s))) s) (thenWalk (kept (every (inPlace editionOne g m s) (tree g m s))) (walkedSlot s pool)) none
+
+  -- and of slots in turn, those that are filled
   unfoldable pub walkedSlots : (slots : List ℕ) → (pool : List ℕ) → Option (List ℕ)
   walkedSlots [] pool = some pool
-  walkedSlots (s ∷ ss) pool =
-      cond (filled m s)
-      (cond (eqb (slotOf g m (m (reelAt s))) s) (thenWalk (walkedSlots ss) (walkedSlot Frames s pool)) none)
-      (walkedSlots ss pool)
+  walkedSlots (s ∷ ss) pool = cond (filled m s) (thenWalk (walkedSlots ss) (walkedReel s pool)) (walkedSlots ss pool)

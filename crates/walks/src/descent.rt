@@ -5,13 +5,14 @@ ghost use mathlib.Core.List.{[], _∷_};
 ghost use Prim.Native.Nat.{_<_, _≤_};
 ghost use Rattle.memory.specs.Words.{reads};
 ghost use Rattle.tree.specs.Layout.{Sized, sizeAt};
-ghost use Rattle.tree.specs.Fingerprint.{editionOne};
+ghost use Rattle.tree.specs.Fingerprint.{editionOne, fingerprint};
 ghost use Rattle.tree.specs.Node.{wellFormed};
 ghost use Rattle.tree.specs.Slots.{Filled};
 ghost use Rattle.tree.specs.Lookup.{lookup, clearSpot};
 ghost use Rattle.tree.specs.Room.{atLevel31};
 ghost use Rattle.walks.specs.Answers.{foundAs, foundFrom, placementFrom};
 ghost use Rattle.walks.specs.Descent.{stepFrom, orElse, roomAt, placementAs};
+use tree::fingerprint::fingerprint;
 use tree::layout::Geometry;
 use tree::node::clear_place;
 use tree::node::well_formed;
@@ -40,7 +41,7 @@ pub enum Placement {
 }
 
 // How a frame's path goes on from a node.
-enum Step {
+pub enum Step {
     // The node has no children.
     End,
     // To this child.
@@ -48,7 +49,7 @@ enum Step {
 }
 
 // The step from a well-formed node. Its children are inside the pool, so the sum does not wrap.
-fn step_from(image: &[u64], g: Geometry, level: u64, n: usize, frame: u64) -> Step
+pub fn step_from(image: &[u64], g: Geometry, level: u64, n: usize, frame: u64) -> Step
     requires { ⌜ Sized (now image) g × (wellFormed g (reads (now image)) level n ≡ true) ⌝ }
     ensures { λ r. ⌜ r ≡ stepFrom g (reads (now (image .entry))) level n frame ⌝ }
 {
@@ -60,14 +61,14 @@ fn step_from(image: &[u64], g: Geometry, level: u64, n: usize, frame: u64) -> St
 }
 
 // What was found so far, or else the place of a node that holds the frame.
-fn found_on(image: &[u64], g: Geometry, n: usize, frame: u64, found: Found) -> Found
-    requires { ⌜ Sized (now image) g × (n < g .nodes) ⌝ }
+fn found_on(image: &[u64], g: Geometry, n: usize, frame: u64, print: u64, found: Found) -> Found
+    requires { ⌜ Sized (now image) g × (n < g .nodes) × (print ≡ fingerprint editionOne frame) ⌝ }
     ensures { λ r. ⌜ r ≡ orElse found (foundAs (lookup editionOne g (reads (now (image .entry))) frame (n ∷ []))) ⌝ }
 {
     if let Found::At(_) = found {
         return found;
     }
-    let place = found_place(image, g, n, frame);
+    let place = found_place(image, g, n, frame, print);
     if place < 64 {
         return Found::At(Spot { node: n, place });
     }
@@ -80,6 +81,7 @@ pub fn find(image: &[u64], g: Geometry, slot: usize, frame: u64) -> Found
     requires { ⌜ Sized (now image) g × Filled g (reads (now image)) slot ⌝ }
     ensures { λ r. ⌜ r ≡ foundFrom g (reads (now (image .entry))) slot frame ⌝ }
 {
+    let print = fingerprint(frame);
     let mut n = image[64 + 2 * slot + 1] as usize - 1;
     let mut level: u64 = 0;
     let mut found = Found::Absent;
@@ -87,7 +89,7 @@ pub fn find(image: &[u64], g: Geometry, slot: usize, frame: u64) -> Found
         if !well_formed(image, g, level, n) {
             return Found::Malformed;
         }
-        found = found_on(image, g, n, frame, found);
+        found = found_on(image, g, n, frame, print, found);
         match step_from(image, g, level, n, frame) {
             Step::End => return found,
             Step::Down(below) => {
@@ -161,6 +163,7 @@ pub fn room_for(image: &[u64], g: Geometry, slot: usize, frame: u64) -> Placemen
     requires { ⌜ Sized (now image) g × Filled g (reads (now image)) slot ⌝ }
     ensures { λ r. ⌜ r ≡ placementFrom g (reads (now (image .entry))) slot frame ⌝ }
 {
+    let print = fingerprint(frame);
     let mut n = image[64 + 2 * slot + 1] as usize - 1;
     let mut level: u64 = 0;
     let mut found = Found::Absent;
@@ -169,7 +172,7 @@ pub fn room_for(image: &[u64], g: Geometry, slot: usize, frame: u64) -> Placemen
         if !well_formed(image, g, level, n) {
             return Placement::Malformed;
         }
-        found = found_on(image, g, n, frame, found);
+        found = found_on(image, g, n, frame, print, found);
         clear = clear_on(image, g, n, clear);
         match step_from(image, g, level, n, frame) {
             Step::End => return placement_as(room_at(image, g, level, n, clear), found),

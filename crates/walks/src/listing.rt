@@ -4,33 +4,63 @@ ghost use mathlib.Core.Bool.{true};
 ghost use Prim.Native.Nat.{_+_, _-_, _≤_, _<_};
 ghost use lib.ListN.{length};
 ghost use Rattle.memory.specs.Words.{reads};
-ghost use Rattle.tree.specs.Lists.{every};
+ghost use Rattle.tree.specs.Lists.{upTo, every};
 ghost use Rattle.tree.specs.Layout.{Sized};
 ghost use Rattle.tree.specs.Path.{levels};
 ghost use Rattle.tree.specs.Slots.{Filled};
 ghost use Rattle.tree.specs.Subtree.{framesIn, listing, listed};
 ghost use Rattle.tree.specs.Check.{isSoundTree};
+ghost use Rattle.walks.specs.Places.{setPlaces, wordsAt};
 ghost use Rattle.walks.specs.Walk.{stops, groupStops, formedAt, framesAt};
+use memory::search::lowest_clear;
 use memory::words::without_bit;
 use tree::layout::Geometry;
 use tree::path::fanout;
 
-// Writes a node's frames, places rising, to the start of a list; answers how many.
+// Copies adjacent words of an image to the start of a list.
+fn copy_words(image: &[u64], list: &mut [u64], first: usize, count: usize)
+    requires { ⌜ (first + count ≤ length (now image)) × (count ≤ length (now list)) ⌝ }
+    ensures { λ _. ⌜ now (list .exit) ≡ listed (wordsAt (now (image .entry)) first (upTo count)) (now (list .entry)) ⌝ }
+{
+    let mut k = 0;
+    while k < count {
+        list[k] = image[first + k];
+        k += 1;
+    }
+}
+
+// Writes the words at a bitmap's set bits, places rising, to the start of a list; answers how many.
+fn list_words(image: &[u64], list: &mut [u64], first: usize, set: u64) -> usize
+    requires { ⌜ (first + 64 ≤ length (now image)) × (length (wordsAt (now image) first (setPlaces set)) ≤ length (now list)) ⌝ }
+    ensures { λ r. ⌜ (r ≡ length (wordsAt (now (image .entry)) first (setPlaces set))) × (now (list .exit) ≡ listed (wordsAt (now (image .entry)) first (setPlaces set)) (now (list .entry))) ⌝ }
+{
+    // The set bits of the places not yet listed.
+    let mut left = set;
+    let mut k = 0;
+    while left != 0 {
+        let p = u64::trailing_zeros(left);
+        list[k] = image[first + p as usize];
+        left = without_bit(left, p);
+        k += 1;
+    }
+    k
+}
+
+// Writes a node's frames, places rising, to the start of a list; answers how many. Most nodes hold their frames in the
+// places from 0 on without a gap: these are copied in one piece.
 fn list_places(image: &[u64], list: &mut [u64], g: Geometry, n: usize) -> usize
     requires { ⌜ Sized (now image) g × (n < g .nodes) × (length (framesIn g (reads (now image)) n) ≤ length (now list)) ⌝ }
     ensures { λ r. ⌜ (r ≡ length (framesIn g (reads (now (image .entry))) n)) × (now (list .exit) ≡ listed (framesIn g (reads (now (image .entry))) n) (now (list .entry))) ⌝ }
 {
     let at = 64 + 2 * g.slots + 80 * n;
-    // The set bits of the places not yet listed.
-    let mut left = image[at + 2];
-    let mut k = 0;
-    while left != 0 {
-        let p = u64::trailing_zeros(left);
-        list[k] = image[at + 16 + p as usize];
-        left = without_bit(left, p);
-        k += 1;
+    let set = image[at + 2];
+    let low = lowest_clear(set, 64);
+    let copied = low as usize;
+    copy_words(image, list, at + 16, copied);
+    if low == 64 {
+        return copied;
     }
-    k
+    copied + list_words(image, &mut list[copied..], at + 16, set >> low << low)
 }
 
 // Writes the frames of a node and of all below it, levels left, to the start of a list; answers how many.

@@ -1,29 +1,22 @@
 // What is done to the nodes that a map marks, without a walk.
 ghost use mathlib.Core.Path.{_≡_};
-ghost use Prim.Native.Nat.{_≤_, _<_};
 ghost use lib.ListN.{length};
 ghost use Rattle.memory.specs.Words.{reads};
 ghost use Rattle.tree.specs.Layout.{Sized, mapWords};
 ghost use Rattle.walks.specs.Marked.{heldBelow, withoutMarked};
 use tree::layout::Geometry;
-use tree::pool_map::is_used;
+use tree::pool_map::next_used;
 
-// How many frames the nodes marked in a map hold. A word of the map that marks no node is passed over whole.
+// How many frames the nodes marked in a map hold.
 pub fn count_frames(image: &[u64], pool: &[u64], g: Geometry) -> usize
     requires { ⌜ Sized (now image) g × (length (now pool) ≡ mapWords g) ⌝ }
     ensures { λ r. ⌜ r ≡ heldBelow g (reads (now (image .entry))) (now (pool .entry)) (g .nodes) ⌝ }
 {
     let mut count = 0;
-    let mut n = 0;
+    let mut n = next_used(pool, 0, g.nodes);
     while n < g.nodes {
-        if n % 64 == 0 && pool[n / 64] == 0 {
-            n += 64;
-            continue;
-        }
-        if is_used(pool, n) {
-            count += u64::count_ones(image[64 + 2 * g.slots + 80 * n + 2]) as usize;
-        }
-        n += 1;
+        count += u64::count_ones(image[64 + 2 * g.slots + 80 * n + 2]) as usize;
+        n = next_used(pool, n + 1, g.nodes);
     }
     count
 }

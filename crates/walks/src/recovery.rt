@@ -9,21 +9,36 @@ ghost use Rattle.memory.specs.Script.{stores};
 ghost use Rattle.memory.specs.Crash.{apply};
 ghost use Rattle.tree.specs.Lists.{upTo};
 ghost use Rattle.tree.specs.Fingerprint.{editionOne};
+ghost use Rattle.tree.specs.Slots.{Filled};
 ghost use Rattle.tree.specs.Subtree.{allTrees, nodesOf};
 ghost use Rattle.tree.specs.Check.{isSound};
 ghost use Rattle.tree.specs.Recovery.{recoverStores};
 ghost use Rattle.tree.specs.Pool.{clearMap, mapOf};
-ghost use Rattle.walks.specs.Walk.{kept, walkedSlots};
+ghost use Rattle.walks.specs.Walk.{kept, walkedReel, walkedSlots};
 ghost use Rattle.walks.specs.Marked.{mendedBelow};
-use crate::visit::Check;
+use crate::frames::frames_in_place;
 use crate::visit::visit_slot;
 use tree::layout::Geometry;
 use tree::pool_map::clear_map;
-use tree::pool_map::is_used;
+use tree::pool_map::next_used;
 use tree::reels::is_filled;
 use tree::reels::slot_of;
 
-// Walks the trees of all filled slots, frames and all, and marks their nodes. Each slot must be its reel's lowest.
+// Walks a filled slot's tree and marks its nodes. The slot must be its reel's lowest, and each frame where the lookup finds it.
+fn visit_reel(image: &[u64], pool: &mut [u64], g: Geometry, slot: usize) -> bool
+    requires { ⌜ Sized (now image) g × Filled g (reads (now image)) slot × (length (now pool) ≡ mapWords g) ⌝ }
+    ensures { λ r. ⌜ kept r (now (pool .exit)) ≡ walkedReel g (reads (now (image .entry))) slot (now (pool .entry)) ⌝ }
+{
+    if slot_of(image, g, image[64 + 2 * slot]) != slot {
+        return false;
+    }
+    if !visit_slot(image, pool, g, slot) {
+        return false;
+    }
+    frames_in_place(image, g, slot)
+}
+
+// Walks the trees of all filled slots.
 fn visit_slots(image: &[u64], pool: &mut [u64], g: Geometry) -> bool
     requires { ⌜ Sized (now image) g × (length (now pool) ≡ mapWords g) ⌝ }
     ensures { λ r. ⌜ kept r (now (pool .exit)) ≡ walkedSlots g (reads (now (image .entry))) (upTo (g .slots)) (now (pool .entry)) ⌝ }
@@ -34,10 +49,7 @@ fn visit_slots(image: &[u64], pool: &mut [u64], g: Geometry) -> bool
             s += 1;
             continue;
         }
-        if slot_of(image, g, image[64 + 2 * s]) != s {
-            return false;
-        }
-        if !visit_slot(image, pool, g, s, Check::Frames) {
+        if !visit_reel(image, pool, g, s) {
             return false;
         }
         s += 1;
@@ -46,26 +58,19 @@ fn visit_slots(image: &[u64], pool: &mut [u64], g: Geometry) -> bool
 }
 
 // Sets each locate word of a marked node to the node's set word where the two differ. The store in this loop is the
-// only one that recovery makes to an image, and it comes once to each such word. A word of the map that marks no node is
-// passed over whole.
+// only one that recovery makes to an image, and it comes once to each such word: the nodes are taken in turn, rising.
 fn mend(image: &mut [u64], pool: &[u64], g: Geometry)
     requires { ⌜ Sized (now image) g × (length (now pool) ≡ mapWords g) ⌝ }
     ensures { λ _. ⌜ now (image .exit) ≡ mendedBelow g (now (pool .entry)) (now (image .entry)) (g .nodes) ⌝ }
 {
-    let mut n = 0;
+    let mut n = next_used(pool, 0, g.nodes);
     while n < g.nodes {
-        if n % 64 == 0 && pool[n / 64] == 0 {
-            n += 64;
-            continue;
+        let at = 64 + 2 * g.slots + 80 * n;
+        let set = image[at + 2];
+        if image[at + 1] != set {
+            image[at + 1] = set;
         }
-        if is_used(pool, n) {
-            let at = 64 + 2 * g.slots + 80 * n;
-            let set = image[at + 2];
-            if image[at + 1] != set {
-                image[at + 1] = set;
-            }
-        }
-        n += 1;
+        n = next_used(pool, n + 1, g.nodes);
     }
 }
 

@@ -13,7 +13,6 @@ ghost use Rattle.walks.specs.Walk.{kept};
 use crate::listing::list_slot;
 use crate::marked::count_frames;
 use crate::marked::take_out;
-use crate::visit::Check;
 use crate::visit::visit_slot;
 use tree::layout::Geometry;
 use tree::pool_map::clear_map;
@@ -34,7 +33,7 @@ fn check_tree(image: &[u64], scratch: &mut [u64], g: Geometry, slot: usize) -> b
     ensures { λ r. ⌜ kept r (now (scratch .exit)) ≡ kept (isSoundTree g (reads (now (image .entry))) slot) (mapOf g (nodesOf (tree g (reads (now (image .entry))) slot))) ⌝ }
 {
     clear_map(scratch);
-    visit_slot(image, scratch, g, slot, Check::Nodes)
+    visit_slot(image, scratch, g, slot)
 }
 
 // Writes the frames of a checked tree, whose nodes are marked, to a list that has room for all of them.

@@ -6,51 +6,20 @@ ghost use Rattle.memory.specs.Words.{reads};
 ghost use Rattle.tree.specs.Layout.{Sized, mapWords};
 ghost use Rattle.tree.specs.Path.{levels};
 ghost use Rattle.tree.specs.Slots.{Filled};
-ghost use Rattle.walks.specs.Walk.{stop, stops, groupStops, passes, walked, kept, walkedSlot};
-use crate::frames::in_place;
+ghost use Rattle.walks.specs.Walk.{stops, groupStops, formedAt, walked, kept, walkedSlot};
 use tree::layout::Geometry;
 use tree::node::well_formed;
 use tree::path::fanout;
 use tree::pool_map::is_used;
 use tree::pool_map::mark;
 
-// What a walk tests of each node, besides that it has not met it before.
-pub enum Check {
-    // It is well formed.
-    Nodes,
-    // And the lookup from the slot finds each of its frames where it is held.
-    Frames,
-}
-
-// Does a node pass the walk's test?
-fn node_passes(image: &[u64], g: Geometry, slot: usize, check: Check, depth: u64, n: usize) -> bool
-    requires { ⌜ Sized (now image) g × Filled g (reads (now image)) slot ⌝ }
-    ensures { λ r. ⌜ r ≡ passes g (reads (now (image .entry))) check slot (stop depth n) ⌝ }
-{
-    if !well_formed(image, g, depth, n) {
-        return false;
-    }
-    match check {
-        Check::Nodes => true,
-        Check::Frames => in_place(image, g, slot, n),
-    }
-}
-
 // Marks a node and, levels left, all below it. A node met a second time ends the walk, so it marks each node once.
-fn visit_node(
-    image: &[u64],
-    pool: &mut [u64],
-    g: Geometry,
-    slot: usize,
-    check: Check,
-    left: u64,
-    n: usize,
-) -> bool
-    requires { ⌜ Sized (now image) g × Filled g (reads (now image)) slot × (length (now pool) ≡ mapWords g) × (1 ≤ left) × (left ≤ 32) ⌝ }
-    ensures { λ r. ⌜ kept r (now (pool .exit)) ≡ walked (passes g (reads (now (image .entry))) check slot) (stops g (reads (now (image .entry))) left (levels - left) n) (now (pool .entry)) ⌝ }
+fn visit_node(image: &[u64], pool: &mut [u64], g: Geometry, left: u64, n: usize) -> bool
+    requires { ⌜ Sized (now image) g × (length (now pool) ≡ mapWords g) × (1 ≤ left) × (left ≤ 32) ⌝ }
+    ensures { λ r. ⌜ kept r (now (pool .exit)) ≡ walked (formedAt g (reads (now (image .entry)))) (stops g (reads (now (image .entry))) left (levels - left) n) (now (pool .entry)) ⌝ }
 {
     let depth = 32 - left;
-    if !node_passes(image, g, slot, check, depth, n) {
+    if !well_formed(image, g, depth, n) {
         return false;
     }
     if is_used(pool, n) {
@@ -61,16 +30,7 @@ fn visit_node(
     if next == 0 {
         return true;
     }
-    visit_group(
-        image,
-        pool,
-        g,
-        slot,
-        check,
-        left - 1,
-        next - 1,
-        fanout(depth),
-    )
+    visit_group(image, pool, g, left - 1, next - 1, fanout(depth))
 }
 
 // Visits the nodes of a group of children in turn.
@@ -78,18 +38,16 @@ fn visit_group(
     image: &[u64],
     pool: &mut [u64],
     g: Geometry,
-    slot: usize,
-    check: Check,
     left: u64,
     start: usize,
     count: usize,
 ) -> bool
-    requires { ⌜ Sized (now image) g × Filled g (reads (now image)) slot × (length (now pool) ≡ mapWords g) × (1 ≤ left) × (left ≤ 32) × (start + count ≤ 65536) ⌝ }
-    ensures { λ r. ⌜ kept r (now (pool .exit)) ≡ walked (passes g (reads (now (image .entry))) check slot) (groupStops g (reads (now (image .entry))) left (levels - left) start count) (now (pool .entry)) ⌝ }
+    requires { ⌜ Sized (now image) g × (length (now pool) ≡ mapWords g) × (1 ≤ left) × (left ≤ 32) × (start + count ≤ 65536) ⌝ }
+    ensures { λ r. ⌜ kept r (now (pool .exit)) ≡ walked (formedAt g (reads (now (image .entry)))) (groupStops g (reads (now (image .entry))) left (levels - left) start count) (now (pool .entry)) ⌝ }
 {
     let mut c = 0;
     while c < count {
-        if !visit_node(image, pool, g, slot, check, left, start + c) {
+        if !visit_node(image, pool, g, left, start + c) {
             return false;
         }
         c += 1;
@@ -97,11 +55,11 @@ fn visit_group(
     true
 }
 
-// Walks a filled slot's tree: marks each of its nodes, unless one fails the test or is marked already.
-pub fn visit_slot(image: &[u64], pool: &mut [u64], g: Geometry, slot: usize, check: Check) -> bool
+// Walks a filled slot's tree: marks each of its nodes, unless one is malformed or marked already.
+pub fn visit_slot(image: &[u64], pool: &mut [u64], g: Geometry, slot: usize) -> bool
     requires { ⌜ Sized (now image) g × Filled g (reads (now image)) slot × (length (now pool) ≡ mapWords g) ⌝ }
-    ensures { λ r. ⌜ kept r (now (pool .exit)) ≡ walkedSlot g (reads (now (image .entry))) check slot (now (pool .entry)) ⌝ }
+    ensures { λ r. ⌜ kept r (now (pool .exit)) ≡ walkedSlot g (reads (now (image .entry))) slot (now (pool .entry)) ⌝ }
 {
     let root = image[64 + 2 * slot + 1] as usize;
-    visit_node(image, pool, g, slot, check, 32, root - 1)
+    visit_node(image, pool, g, 32, root - 1)
 }

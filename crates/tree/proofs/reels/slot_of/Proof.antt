@@ -1,7 +1,7 @@
 use mathlib.Core.Path.{sym, _∙_}
 use Prim.Native.Nat.{ℕ, _≤_, _-_}
 use native.Mathlib.Omega.{arith}
-use borrow.Author.Count.{below-more, below-none}
+use borrow.Author.Count.{below-more}
 use borrow.Author.Needs.{needs}
 use Rattle.memory.specs.Words.{reads as readsWords}
 use Rattle.memory.specs.Laws.{NoneBelow}
@@ -32,7 +32,8 @@ slot-of-spec =
     (tie.spec
     Inv-loop
     μ-loop
-    (λ c. (below-none _, search needs))
+    (λ c κs. search needs)
+    (λ c. (c .passed-in-fours .ensures .1, c .passed-in-fours .ensures .0))
     (λ c κs. search needs)
     returns
     (λ c. search needs)

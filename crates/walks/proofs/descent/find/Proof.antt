@@ -15,17 +15,17 @@ use Rattle.walks.proofs.descent.find.Statement.{statement}
 use Rattle.walks.proofs.descent.find.Tie as tie
 
 abbrev Inv-loop : tie.InvT-loop
-Inv-loop image g slot frame n₀ level₀ found₀ n level found =
+Inv-loop image g slot frame print n₀ level₀ found₀ n level found =
     let m = readsWords image in
     (ns : List ℕ) × (Along g m slot frame ns level n × (found ≡ foundAs (lookup editionOne g m frame ns)))
 
 abbrev μ-loop : tie.MeasureT-loop
-μ-loop image g slot frame n₀ level₀ found₀ n level found = 32 - level
+μ-loop image g slot frame print n₀ level₀ found₀ n level found = 32 - level
 
 -- past the test the node is well formed
 formed : (c : tie.Else1 Inv-loop μ-loop) →
     let l = c .before .before in
-    let a = l .before .before .before .args in
+    let a = l .before .before .before .before .args in
     wellFormed (a .g) (readsWords (a .image .now)) (l .loop .level) (l .loop .n) ≡ true
 formed c = sym (c .before .well-formed .ensures) ∙ not-false _ (c .if1 .left)
 
@@ -58,6 +58,7 @@ find-spec =
     (tie.spec
     Inv-loop
     μ-loop
+    (λ c κs. search needs)
     (λ c. search needs)
     (λ c. search needs)
     (λ c. search needs)

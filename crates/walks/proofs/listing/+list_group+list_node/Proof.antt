@@ -4,9 +4,9 @@ use Prim.Native.Nat.{ℕ, _+_, _-_, _*_, _<_}
 use Rattle.memory.specs.Words.{reads}
 use Rattle.tree.specs.Path.{levels}
 use Rattle.tree.specs.Laws.{WellFormed}
-use Rattle.walks.proofs.Listings.{Writing}
+use Rattle.walks.proofs.Listings.{Writing, rest-fits, rest-written}
 use Rattle.walks.proofs.ListingsStops.{own-room, node-facts, leaf-frames, linked-facts}
-use Rattle.walks.proofs.ListingsGroups.{ofNode, Group, group-starts, group-next, group-more, group-ends, below, own-written, below-room, below-written}
+use Rattle.walks.proofs.ListingsGroups.{ofNode, Group, group-starts, group-next, group-more, group-ends, below, own-written}
 use borrow.Fn.Kinds.{In}
 use borrow.Fn.PlainCycle.{Measures, is, falls, and}
 use Rattle.walks.proofs.listing.list_group.Reads as list-group
@@ -121,11 +121,11 @@ pub +list-group+list-node-spec : {M : Type 1} → statement M
     (λ c κs. let a = c .before .before .before .before .before .before .before .before .before .before .before .args in
     let pre = c .before .before .before .before .before .before .before .before .before .before .before .pre .1 in
     let link = linked-facts _ _ (a .left) (a .n) (pre .1) (pre .2) (c .before .before .if1 .left) (pre .3) in
-    let room = below-room _ _ _ _ _ (pre .4) (written t (c .before .before)) in
+    let room = rest-fits (pre .4) (written t (c .before .before)) in
     rw (c .fanout .ensures)
     (search needs, (pre .0, omega (arith, link .above), omega (arith, pre .2), omega (arith, link .inside, pre .0 .nodes-limit), link .formed, room .1)))
-    (λ c. let room = below-room _ _ _ _ _ (c .before .before .before .before .before .before .before .before .before .before .before .before .before .before .pre .1 .4) (written t (c .before .before .before .before .before)) in
+    (λ c. let room = rest-fits (c .before .before .before .before .before .before .before .before .before .before .before .before .before .before .pre .1 .4) (written t (c .before .before .before .before .before)) in
     search (needs, room .0, rw (c .before .before .before .fanout .ensures) at (c .before .before .list-group .ensures .0)))
     (λ c. search needs)
     (λ c. let e = rw (c .before .before .before .fanout .ensures) at (c .before .before .list-group .ensures) in
-    below-written _ _ _ _ _ _ _ (c .before .before .before .before .before .before .before .before .before .before .before .before .before .before .pre .1 .4) (written t (c .before .before .before .before .before)) (e .0) (e .1))
+    rest-written _ _ (c .before .before .before .before .before .before .before .before .before .before .before .before .before .before .pre .1 .4) (written t (c .before .before .before .before .before)) (e .0) (e .1))

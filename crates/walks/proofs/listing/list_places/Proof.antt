@@ -1,38 +1,57 @@
-use mathlib.Core.Path.{ap}
-use Prim.Native.Nat.{_^_, _<_}
+use Prim.Native.Nat.{_+_, _≤_}
 use native.Mathlib.Omega.{arith}
-use lib.ListN.{length}
 use borrow.Author.Needs.{needs}
-use lib.Count.{trailingZeros}
-use Rattle.memory.proofs.Laws.{bit-laws}
-use Rattle.tree.specs.Layout.{nodeAt}
-use Rattle.walks.proofs.Listings.{Writing, starts, ends, one-more}
-use Rattle.walks.proofs.ListingsPlaces.{lowest-in, framesOf, frames-in, frames-none, frames-next}
+use Rattle.memory.specs.Words.{reads}
+use Rattle.memory.proofs.Laws.{clearIn, first-laws}
+use Rattle.tree.specs.Layout.{nodeAt, setAt}
+use Rattle.tree.specs.Subtree.{framesIn}
+use Rattle.walks.specs.Places.{setPlaces, wordsAt}
+use Rattle.walks.proofs.Listings.{Writing, ends, rest-fits, rest-written}
+use Rattle.walks.proofs.ListingsPlaces.{highOf, frames-in, low-copied, low-room, none-high}
 use Rattle.walks.proofs.listing.list_places.Statement.{statement}
 use Rattle.walks.proofs.listing.list_places.Tie as tie
 
-abbrev Inv-loop : tie.InvT-loop
-Inv-loop image list₀ n at left₀ k₀ list left k = (left < 2 ^ 64) × Writing (framesOf image at left₀) list₀ k (framesOf image at left) list
+-- at most 64 places are copied
+few : (c : tie.After-lowest-clear) → c .lowest-clear .result ≤ 64
+few c =
+    let a = c .before .before .before .before .before .args in
+    omega (arith, c .lowest-clear .ensures, first-laws (clearIn (reads (a .image .now) (setAt (a .g) (a .n)))) 64 .within)
 
-abbrev μ-loop : tie.MeasureT-loop
-μ-loop image list₀ n at left₀ k₀ list left k = length (framesOf image at left)
+-- their frames are written, and those of the others are left
+written : (c : tie.After-slice-known2)
+    → let l = c .before .before .before .before in
+    let a = l .before .before .before .before .before .args in
+    let k = l .lowest-clear .result in
+    Writing (framesIn (a .g) (reads (a .image .now)) (a .n)) (a .list .now) k (wordsAt (a .image .now) (nodeAt (a .g) (a .n) + 16) (setPlaces (highOf (reads (a .image .now) (setAt (a .g) (a .n))) k))) (c .before .before .copy-words .last .1 .0)
+written c =
+    let l = c .before .before .before .before in
+    low-copied _ _ _ _ (frames-in _ _ _) (l .before .shared-slice-known2 .given _ .fits) (l .before .before .before .before .before .pre .2) (l .lowest-clear .ensures) (c .before .before .copy-words .ensures)
 
--- the lowest set bit is a place, and the list has room for its frame
-low : (c : tie.In-loop Inv-loop μ-loop) → trailingZeros 64 (c .before .loop .left) < 64
-low c = lowest-in _ (c .loop-test .taken) (c .before .loop .inv .0)
+copy-words-requires : tie.Need-copy-words-requires
+copy-words-requires c κs =
+    let l = c .before in
+    let a = l .before .before .before .before .before .args in
+    (search (needs, few l), low-room (a .image .now) (a .list .now) _ _ (frames-in (a .g) _ (a .n)) (l .before .shared-slice-known2 .given _ .fits) (l .before .before .before .before .before .pre .2) (l .lowest-clear .ensures))
 
-room : (c : tie.In-loop Inv-loop μ-loop) → c .before .loop .k < length (c .before .loop .list)
-room c =
-    let l = c .before .loop in
-    let a = c .before .before .before .before .before .before .args in
-    omega (arith, ap length (frames-next (a .image .now) (nodeAt (a .g) (a .n)) (l .left) (c .loop-test .taken) (l .inv .0)), ap length (frames-in (a .g) (a .image .now) (a .n)))
+-- none of them is left, or the others are written to the rest of the list
+returns : tie.Need-returns
+returns c = ends (rw (none-high _ _ _ _ (c .if1 .taken)) at (written (c .before)))
+
+list-words-requires : tie.Need-list-words-requires
+list-words-requires c κs =
+    let b = c .before .before in
+    (search needs, rest-fits (b .before .before .before .before .before .before .before .before .before .pre .2) (written b) .1)
+
+returns-2 : tie.Need-returns-2
+returns-2 c =
+    let b = c .before .before .before .before .before in
+    let call = c .before .before .list-words in
+    rest-written _ _ (b .before .before .before .before .before .before .before .before .before .pre .2) (written b) (call .ensures .0) (call .ensures .1)
 
 pub list-places-spec : {M : Type 1} → statement M
 list-places-spec =
     tie.close
     (tie.spec
-    Inv-loop
-    μ-loop
     (λ c. search needs)
     (λ c. search needs)
     (λ c. search needs)
@@ -40,22 +59,22 @@ list-places-spec =
     (λ c. search needs)
     (λ c. search needs)
     (λ c. search needs)
-    (λ c. (c .shared-slice-known2 .given _ .fits, starts _ _))
+    (λ c κs. search needs)
     (λ c. search needs)
-    (λ c. search (needs, low c))
-    (λ c. search (needs, low c))
-    (λ c. search (needs, low c))
-    (λ c. search (needs, low (c .before)))
-    (λ c. search (needs, room (c .before)))
-    (λ c. search (needs, room (c .before)))
-    (λ c κs. low (c .before))
-    (λ c. search (needs, room (c .before .before)))
-    (λ c. let l = c .before .before .before .loop in
-    let a = c .before .before .before .before .before .before .before .before .args in
-    rw (c .without-bit .ensures) (omega (arith, ap length (frames-next (a .image .now) (nodeAt (a .g) (a .n)) (l .left) (c .before .before .loop-test .taken) (l .inv .0)))))
-    (λ c. let l = c .before .before .before .loop in
-    (rw (c .without-bit .ensures) (bit-laws .without-fits _ _ 64 (l .inv .0)), rw (c .without-bit .ensures) (one-more (room (c .before .before)) (rw (frames-next _ _ (l .left) (c .before .before .loop-test .taken) (l .inv .0)) at (l .inv .1)))))
     (λ c. search needs)
-    (λ c. let l = c .before .loop in
-    let w = rw (frames-none _ _ (l .left) (c .loop-test .left)) at (l .inv .1) in
-    rw (frames-in _ _ _) (ends w)))
+    copy-words-requires
+    (λ c. search needs)
+    returns
+    (λ c. search needs)
+    (λ c. search (needs, written (c .before)))
+    (λ c. search (needs, written (c .before)))
+    (λ c. search needs)
+    (λ c. search needs)
+    (λ c. search needs)
+    (λ c. search (needs, few (c .before .before .before .before .before .before)))
+    (λ c. search needs)
+    (λ c. search (needs, few (c .before .before .before .before .before .before)))
+    list-words-requires
+    (λ c. search (needs, written (c .before .before .before .before .before), c .before .before .list-words .ensures .0))
+    (λ c. search needs)
+    returns-2)

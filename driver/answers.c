@@ -1,0 +1,61 @@
+#include "answers.h"
+
+#include <errno.h>
+#include <inttypes.h>
+#include <stdarg.h>
+#include <stdio.h>
+#include <string.h>
+
+const char *say_command;
+
+static const char *const refusals[] = {
+    [REELBOOK_DONE] = "done",
+    [REELBOOK_BAD_IMAGE] = "the image's length or numbers are wrong",
+    [REELBOOK_BAD_EDITION] = "the image is of another edition",
+    [REELBOOK_BAD_BUFFER] = "a buffer has the wrong length",
+    [REELBOOK_MALFORMED] = "the tree is malformed",
+    [REELBOOK_NO_REEL] = "no such reel",
+    [REELBOOK_ALREADY_OPEN] = "the reel is open already",
+    [REELBOOK_NO_SLOT] = "no empty reel slot",
+    [REELBOOK_NO_RUN] = "not enough adjacent free nodes",
+    [REELBOOK_FRAME_HELD] = "held already",
+    [REELBOOK_NOT_HELD] = "not held",
+    [REELBOOK_BAD_HEAD] = "no such head",
+    [REELBOOK_HEAD_STATE] = "the head is in another state",
+    [REELBOOK_BUSY] = "a head is about this reel",
+    [REELBOOK_LIST_SHORT] = "the list has too little room",
+};
+
+const char *answer_words(uint64_t answer) {
+    static char words[80];
+    switch (answer) {
+    case BOOK_SYSTEM:
+        return strerror(errno);
+    case BOOK_NOT_REGULAR:
+        return "not a regular file";
+    case BOOK_NOT_A_BOOK:
+        return "not a reel book";
+    case BOOK_OTHER_VERSION:
+        return "a reel book of another version";
+    case BOOK_WRONG_LENGTH:
+        return "a reel book of the wrong length: cut short, or not copied whole";
+    case BOOK_LOCKED:
+        return "in use by another process";
+    case BOOK_EXISTS:
+        return "exists already; --force overwrites it";
+    default:
+        snprintf(words, sizeof words, "%s (%" PRIu64 ")", refusals[answer], answer);
+        return words;
+    }
+}
+
+void say(const char *format, ...) {
+    va_list arguments;
+    fputs("reelbook: ", stderr);
+    if (say_command)
+        fprintf(stderr, "%s: ", say_command);
+    va_start(arguments, format);
+    vfprintf(stderr, format, arguments);
+    va_end(arguments);
+    fputc('\n', stderr);
+}

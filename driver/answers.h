@@ -1,0 +1,26 @@
+/* The driver's answers: those of the library, and its own. */
+#ifndef ANSWERS_H
+#define ANSWERS_H
+
+#include "reelbook.h"
+
+enum {
+    BOOK_SYSTEM = REELBOOK_LIST_SHORT + 1, /* the system refused: errno says why */
+    BOOK_NOT_REGULAR,
+    BOOK_NOT_A_BOOK,
+    BOOK_OTHER_VERSION,
+    BOOK_WRONG_LENGTH,
+    BOOK_LOCKED,
+    BOOK_EXISTS
+};
+
+/* An answer in words, a refusal with its number. Overwritten by the next call. */
+const char *answer_words(uint64_t answer);
+
+/* Says a line on standard error, after the tool's name and the command's. */
+void say(const char *format, ...) __attribute__((format(printf, 1, 2)));
+
+/* The command that say() names, or NULL. */
+extern const char *say_command;
+
+#endif

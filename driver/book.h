@@ -1,0 +1,57 @@
+/* A book in a file, and the operations on it. */
+#ifndef BOOK_H
+#define BOOK_H
+
+#include "crash.h"
+#include "file.h"
+#include "medium.h"
+
+enum book_mode {
+    BOOK_READ,   /* a private copy; a book that was not closed cleanly is opened to be written, and recovered */
+    BOOK_COPY,   /* a private copy, however it was closed */
+    BOOK_WRITE,  /* recovered if it was not closed cleanly */
+    BOOK_RECOVER /* recovered however it was closed */
+};
+
+struct book {
+    struct file file;
+    struct medium medium;
+    uint64_t *image; /* in the mapping */
+    uint64_t *map, *scratch;
+    uint64_t heads[REELBOOK_HEADS_WORDS];
+    uint64_t script[REELBOOK_SCRIPT_WORDS], used;
+    int writable;        /* the file itself is mapped */
+    int unclean;         /* it was not closed cleanly */
+    int failed;          /* a barrier failed: what is lasting is not known */
+    int recovered;       /* since it was opened */
+    size_t mended;       /* locate words that the recovery changed */
+    struct crash *crash; /* a power failure to come, or NULL */
+};
+
+/* Each answers REELBOOK_DONE, a refusal of the library or a number of answers.h. */
+uint64_t book_format(const char *path, uint64_t slots, uint64_t nodes, int force);
+uint64_t book_open(struct book *b, const char *path, enum book_mode mode, struct crash *crash);
+uint64_t book_recover(struct book *b);
+uint64_t book_close(struct book *b);
+
+uint64_t book_open_reel(struct book *b, uint64_t reel);
+uint64_t book_add(struct book *b, uint64_t reel, uint64_t frame); /* claim, fill, commit */
+uint64_t book_remove(struct book *b, uint64_t reel, uint64_t frame);
+uint64_t book_retire(struct book *b, uint64_t reel);
+uint64_t book_has(const struct book *b, uint64_t reel, uint64_t frame, uint64_t *yes);
+
+/* The caller frees *frames. */
+uint64_t book_list(struct book *b, uint64_t reel, uint64_t **frames, uint64_t *count);
+
+/* The words of a slot, of a node. */
+static inline const uint64_t *book_slot(const struct book *b, uint64_t slot) {
+    return b->image + REELBOOK_HEADER_WORDS + REELBOOK_SLOT_WORDS * slot;
+}
+
+static inline const uint64_t *book_node(const struct book *b, uint64_t node) {
+    return book_slot(b, b->file.slots) + REELBOOK_NODE_WORDS * node;
+}
+
+enum { NODE_PLACES = REELBOOK_NODE_WORDS - REELBOOK_NODE_FRAMES };
+
+#endif

@@ -1,0 +1,31 @@
+/* The tool's commands. Each answers the exit status, and has said what went wrong where that is not 0. */
+#ifndef COMMANDS_H
+#define COMMANDS_H
+
+#include "arguments.h"
+#include "book.h"
+
+int run_format(const struct arguments *a);
+int run_open(const struct arguments *a);
+int run_add(const struct arguments *a);
+int run_remove(const struct arguments *a);
+int run_retire(const struct arguments *a);
+int run_recover(const struct arguments *a);
+
+int run_has(const struct arguments *a);
+int run_list(const struct arguments *a);
+int run_stat(const struct arguments *a);
+int run_check(const struct arguments *a);
+int run_draw(const struct arguments *a);
+
+/* Opens the book that the first operand names. 0, or -1 after a line on standard error. */
+int begin(struct book *b, const struct arguments *a, enum book_mode mode);
+
+/* Closes it. The status given, or 1 if closing failed. */
+int finish(struct book *b, const struct arguments *a, int status);
+
+/* Say what an answer is about and what it means. The status 1. */
+int refuse(uint64_t answer, const char *about);
+int refuse_reel(uint64_t answer, uint64_t reel);
+
+#endif

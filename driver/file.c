@@ -1,0 +1,151 @@
+#define _DEFAULT_SOURCE 1 /* for flock */
+#include "file.h"
+
+#include <errno.h>
+#include <fcntl.h>
+#include <libgen.h>
+#include <stdlib.h>
+#include <string.h>
+#include <sys/file.h>
+#include <sys/stat.h>
+#include <unistd.h>
+
+static size_t next_page(size_t words) {
+    return (words + FILE_PAGE_WORDS - 1) / FILE_PAGE_WORDS * FILE_PAGE_WORDS;
+}
+
+static off_t in_bytes(size_t words) {
+    return (off_t)(words * sizeof(uint64_t));
+}
+
+void file_lay_out(struct file *f, uint64_t slots, uint64_t nodes) {
+    f->slots = slots;
+    f->nodes = nodes;
+    f->image_at = FILE_PAGE_WORDS;
+    f->image_words = reelbook_image_words(slots, nodes);
+    f->map_at = next_page(f->image_at + f->image_words);
+    f->map_words = reelbook_map_words(nodes);
+    f->words = next_page(f->map_at + f->map_words);
+}
+
+/* O_NONBLOCK is for a FIFO, which is refused and not waited for. */
+static int open_any(const char *path, int flags) {
+    return open(path, flags | O_CLOEXEC | O_NONBLOCK, 0666);
+}
+
+/* Locks a regular file and tells its length. */
+static uint64_t lock_regular(int fd, int kind, off_t *bytes) {
+    struct stat status;
+    if (fstat(fd, &status) != 0)
+        return BOOK_SYSTEM;
+    *bytes = status.st_size;
+    if (S_ISDIR(status.st_mode)) {
+        errno = EISDIR;
+        return BOOK_SYSTEM;
+    }
+    if (!S_ISREG(status.st_mode))
+        return BOOK_NOT_REGULAR;
+    if (flock(fd, kind | LOCK_NB) == 0)
+        return REELBOOK_DONE;
+    return errno == EWOULDBLOCK ? BOOK_LOCKED : BOOK_SYSTEM;
+}
+
+/* 1 if the file starts with a header, whatever it says; 0 if it is too short. */
+static int read_header(int fd, uint64_t header[FILE_HEADER_WORDS]) {
+    size_t bytes = FILE_HEADER_WORDS * sizeof(uint64_t);
+    return pread(fd, header, bytes, 0) == (ssize_t)bytes;
+}
+
+static uint64_t check_header(struct file *f, off_t bytes) {
+    uint64_t header[FILE_HEADER_WORDS];
+    if (!read_header(f->fd, header) || header[FILE_MAGIC_AT] != FILE_MAGIC)
+        return BOOK_NOT_A_BOOK;
+    if (header[FILE_VERSION_AT] != FILE_VERSION)
+        return BOOK_OTHER_VERSION;
+    uint64_t slots = header[FILE_SLOTS_AT], nodes = header[FILE_NODES_AT];
+    if (slots < 1 || slots > REELBOOK_MAX_SLOTS || nodes < 1 || nodes > REELBOOK_MAX_NODES)
+        return REELBOOK_BAD_IMAGE;
+    file_lay_out(f, slots, nodes);
+    f->clean = header[FILE_CLEAN_AT] == 1;
+    return bytes == in_bytes(f->words) ? REELBOOK_DONE : BOOK_WRONG_LENGTH;
+}
+
+uint64_t file_open(struct file *f, const char *path, int writable) {
+    off_t bytes;
+    f->fd = open_any(path, writable ? O_RDWR : O_RDONLY);
+    if (f->fd < 0)
+        return BOOK_SYSTEM;
+    uint64_t answer = lock_regular(f->fd, writable ? LOCK_EX : LOCK_SH, &bytes);
+    if (answer == REELBOOK_DONE)
+        answer = check_header(f, bytes);
+    if (answer != REELBOOK_DONE)
+        file_close(f);
+    return answer;
+}
+
+/* What a failed allocation may have added is given back. */
+static uint64_t allocate(const struct file *f, off_t old_bytes) {
+    int error = posix_fallocate(f->fd, 0, in_bytes(f->words));
+    if (error == 0)
+        return REELBOOK_DONE;
+    if (ftruncate(f->fd, old_bytes) == 0)
+        errno = error;
+    return BOOK_SYSTEM;
+}
+
+uint64_t file_create(struct file *f, const char *path, int force, int *created) {
+    off_t old_bytes;
+    f->fd = open_any(path, O_RDWR | O_CREAT | O_EXCL);
+    *created = f->fd >= 0;
+    if (f->fd < 0 && errno == EEXIST) {
+        if (!force)
+            return BOOK_EXISTS;
+        f->fd = open_any(path, O_RDWR);
+    }
+    if (f->fd < 0)
+        return BOOK_SYSTEM;
+    uint64_t answer = lock_regular(f->fd, LOCK_EX, &old_bytes);
+    if (answer == REELBOOK_DONE)
+        answer = allocate(f, old_bytes);
+    if (answer == REELBOOK_DONE)
+        return REELBOOK_DONE;
+    if (*created)
+        unlink(path);
+    file_close(f);
+    return answer;
+}
+
+static int settle_name(const char *path) {
+    char *copy = strdup(path);
+    if (!copy)
+        return -1;
+    int directory = open(dirname(copy), O_RDONLY | O_CLOEXEC);
+    free(copy);
+    if (directory < 0)
+        return -1;
+    int failed = fsync(directory) != 0 && errno != EINVAL; /* EINVAL: this file system has no need of it */
+    close(directory);
+    return failed;
+}
+
+uint64_t file_settle(const struct file *f, const char *path) {
+    if (ftruncate(f->fd, in_bytes(f->words)) != 0 || fsync(f->fd) != 0 || settle_name(path) != 0)
+        return BOOK_SYSTEM;
+    return REELBOOK_DONE;
+}
+
+void file_close(struct file *f) {
+    int error = errno;
+    close(f->fd);
+    errno = error;
+}
+
+int file_is_book(const char *path) {
+    uint64_t header[FILE_HEADER_WORDS];
+    int fd = open_any(path, O_RDONLY);
+    if (fd < 0)
+        return 0;
+    int yes = read_header(fd, header) && header[FILE_MAGIC_AT] == FILE_MAGIC;
+    close(fd);
+    return yes;
+}

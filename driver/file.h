@@ -1,0 +1,42 @@
+/* The book's file: a page of the driver's own, the image, the saved pool map. Each starts on a page. */
+#ifndef FILE_H
+#define FILE_H
+
+#include "answers.h"
+
+/* Words of the first page; the rest of it is 0. */
+enum { FILE_MAGIC_AT, FILE_VERSION_AT, FILE_SLOTS_AT, FILE_NODES_AT, FILE_CLEAN_AT, FILE_HEADER_WORDS };
+
+enum { FILE_VERSION = 1, FILE_PAGE_WORDS = 4096 / sizeof(uint64_t) };
+
+/* "reelbook", on a machine that has the lowest byte first. */
+#define FILE_MAGIC UINT64_C(0x6b6f6f626c656572)
+
+struct file {
+    int fd;
+    uint64_t slots, nodes;
+    size_t image_at, image_words; /* in words from the file's start */
+    size_t map_at, map_words;
+    size_t words;
+    int clean; /* closed cleanly: the saved map is the image's, and no place is claimed */
+};
+
+/* Where everything is in a file for so many slots and nodes. */
+void file_lay_out(struct file *f, uint64_t slots, uint64_t nodes);
+
+/* Opens a book's file and locks it, for this process alone if it is to be written. */
+uint64_t file_open(struct file *f, const char *path, int writable);
+
+/* Makes a file of the length that was laid out, all of it allocated, or takes an existing one if `force`; locks it. A file that
+ * was there keeps its contents, and if this fails its length. *created says whether it was not there. */
+uint64_t file_create(struct file *f, const char *path, int force, int *created);
+
+/* Returns when the file's length and name are lasting. */
+uint64_t file_settle(const struct file *f, const char *path);
+
+void file_close(struct file *f);
+
+/* Does this path name a file that starts as a book does? */
+int file_is_book(const char *path);
+
+#endif

@@ -1,0 +1,95 @@
+#include <stdlib.h>
+
+#include "book.h"
+#include "carry.h"
+
+enum { HEAD = 0 };
+
+/* Buffers as the library takes them: where, and how many words. */
+#define IMAGE b->image, b->file.image_words
+#define MAP b->map, b->file.map_words
+#define SCRATCH b->scratch, b->file.map_words
+#define SCRIPT b->script, REELBOOK_SCRIPT_WORDS
+
+static uint64_t carry(struct book *b, uint64_t answer) {
+    if (answer != REELBOOK_DONE)
+        return answer;
+    size_t at = b->file.image_at, words = (size_t)b->used;
+    int failed =
+        b->crash ? crash_carry_out(b->crash, &b->medium, at, b->script, words) : carry_out(&b->medium, at, b->script, words);
+    if (!failed)
+        return REELBOOK_DONE;
+    b->failed = 1;
+    return BOOK_SYSTEM;
+}
+
+uint64_t book_open_reel(struct book *b, uint64_t reel) {
+    return carry(b, reelbook_open(IMAGE, MAP, SCRIPT, reel, &b->used));
+}
+
+uint64_t book_add(struct book *b, uint64_t reel, uint64_t frame) {
+    uint64_t answer = carry(b, reelbook_claim(IMAGE, MAP, b->heads, SCRIPT, HEAD, reel, frame, &b->used));
+    if (answer == REELBOOK_DONE)
+        answer = carry(b, reelbook_fill(IMAGE, b->heads, SCRIPT, HEAD, &b->used));
+    if (answer == REELBOOK_DONE)
+        answer = carry(b, reelbook_commit(IMAGE, b->heads, SCRIPT, HEAD, &b->used));
+    return answer;
+}
+
+uint64_t book_remove(struct book *b, uint64_t reel, uint64_t frame) {
+    return carry(b, reelbook_remove(IMAGE, b->heads, SCRIPT, reel, frame, &b->used));
+}
+
+uint64_t book_retire(struct book *b, uint64_t reel) {
+    return carry(b, reelbook_retire(IMAGE, MAP, b->heads, SCRATCH, SCRIPT, reel, &b->used));
+}
+
+uint64_t book_has(const struct book *b, uint64_t reel, uint64_t frame, uint64_t *yes) {
+    return reelbook_has(IMAGE, reel, frame, yes);
+}
+
+uint64_t book_list(struct book *b, uint64_t reel, uint64_t **frames, uint64_t *count) {
+    size_t room = (size_t)(NODE_PLACES * b->file.nodes);
+    *frames = malloc(room * sizeof **frames);
+    if (!*frames)
+        return BOOK_SYSTEM;
+    uint64_t answer = reelbook_list(IMAGE, SCRATCH, *frames, room, reel, count);
+    if (answer != REELBOOK_DONE)
+        free(*frames);
+    return answer;
+}
+
+static uint64_t *copy_locate_words(const struct book *b) {
+    uint64_t *copy = malloc((size_t)b->file.nodes * sizeof *copy);
+    for (uint64_t node = 0; copy && node < b->file.nodes; node++)
+        copy[node] = book_node(b, node)[REELBOOK_NODE_LOCATE];
+    return copy;
+}
+
+static size_t count_mended(const struct book *b, const uint64_t *before) {
+    size_t count = 0;
+    for (uint64_t node = 0; node < b->file.nodes; node++)
+        count += book_node(b, node)[REELBOOK_NODE_LOCATE] != before[node];
+    return count;
+}
+
+/* The barrier over the whole image ends the recovery. On a private copy it is none. */
+static int end_recovery(struct book *b, const uint64_t *before) {
+    size_t locate_at = (size_t)(book_node(b, 0) + REELBOOK_NODE_LOCATE - b->image);
+    b->mended = count_mended(b, before);
+    b->recovered = 1;
+    if (b->crash && crash_recovery(b->crash, &b->medium, b->file.image_at, locate_at, b->file.nodes, before) != 0)
+        return -1;
+    return medium_barrier_over(&b->medium, b->file.image_at, b->file.image_words);
+}
+
+uint64_t book_recover(struct book *b) {
+    uint64_t *before = copy_locate_words(b);
+    if (!before)
+        return BOOK_SYSTEM;
+    uint64_t answer = reelbook_recover(IMAGE, MAP, b->heads);
+    if (answer == REELBOOK_DONE && end_recovery(b, before) != 0)
+        answer = BOOK_SYSTEM;
+    free(before);
+    return answer;
+}

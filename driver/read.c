@@ -1,0 +1,125 @@
+/* The commands that read. */
+#include <errno.h>
+#include <inttypes.h>
+#include <stdio.h>
+#include <stdlib.h>
+#include <string.h>
+
+#include "commands.h"
+#include "draw.h"
+#include "survey.h"
+
+int run_has(const struct arguments *a) {
+    struct book b;
+    uint64_t reel, frame, yes;
+    if (arguments_number(a->operands[1], &reel) != 0 || arguments_number(a->operands[2], &frame) != 0 ||
+        begin(&b, a, BOOK_READ) != 0)
+        return 1;
+    uint64_t answer = book_has(&b, reel, frame, &yes);
+    if (answer != REELBOOK_DONE)
+        return finish(&b, a, refuse_reel(answer, reel));
+    puts(yes ? "yes" : "no");
+    return finish(&b, a, 0);
+}
+
+int run_list(const struct arguments *a) {
+    struct book b;
+    uint64_t reel, *frames, count;
+    if (arguments_number(a->operands[1], &reel) != 0 || begin(&b, a, BOOK_READ) != 0)
+        return 1;
+    uint64_t answer = book_list(&b, reel, &frames, &count);
+    if (answer != REELBOOK_DONE)
+        return finish(&b, a, refuse_reel(answer, reel));
+    for (uint64_t i = 0; i < count; i++)
+        printf("%" PRIu64 "\n", frames[i]);
+    free(frames);
+    return finish(&b, a, 0);
+}
+
+static int begin_survey(struct book *b, struct survey *s, const struct arguments *a) {
+    if (begin(b, a, BOOK_READ) != 0)
+        return -1;
+    uint64_t answer = survey_take(s, b);
+    if (answer == REELBOOK_DONE)
+        return 0;
+    finish(b, a, refuse(answer, a->operands[0]));
+    return -1;
+}
+
+static void print_reels(const struct survey *s) {
+    printf("\n%20s %5s %6s %8s %6s %8s %8s %8s\n", "reel", "slot", "root", "frames", "nodes", "deepest", "places", "located");
+    for (size_t i = 0; i < s->count; i++) {
+        const struct survey_reel *r = &s->reels[i];
+        const struct tally *t = &r->total;
+        printf("%20" PRIu64 " %5" PRIu64 " %6" PRIu64 " %8" PRIu64 " %6" PRIu64 " %8u %8" PRIu64 " %8" PRIu64 "\n", r->reel,
+               r->slot, r->root, t->frames, t->nodes, r->deepest, t->places, t->located);
+    }
+}
+
+int run_stat(const struct arguments *a) {
+    struct book b;
+    struct survey s;
+    if (begin_survey(&b, &s, a) != 0)
+        return 1;
+    printf("reels    %zu of %" PRIu64 "\n", s.count, b.file.slots);
+    printf("frames   %" PRIu64 "\n", s.total.frames);
+    printf("nodes    %" PRIu64 " used, %" PRIu64 " free\n", s.total.nodes, b.file.nodes - s.total.nodes);
+    printf("deepest  level %u\n", s.deepest);
+    printf("places   %" PRIu64 ", %" PRIu64 " used, %" PRIu64 " located\n", s.total.places, s.total.frames, s.total.located);
+    if (a->values[OPTION_BY_REEL])
+        print_reels(&s);
+    survey_free(&s);
+    return finish(&b, a, 0);
+}
+
+/* The saved map counts only if the book was closed cleanly: then the next opening trusts it. */
+static int saved_map_wrong(const struct book *b) {
+    return b->file.clean && memcmp(b->map, b->medium.words + b->file.map_at, b->file.map_words * sizeof *b->map) != 0;
+}
+
+int run_check(const struct arguments *a) {
+    struct book b;
+    int status = 1;
+    if (begin(&b, a, BOOK_COPY) != 0)
+        return 1;
+    const char *closed = b.file.clean ? "closed cleanly" : "not closed cleanly";
+    uint64_t answer = book_recover(&b);
+    if (answer != REELBOOK_DONE)
+        say("%s: not sound: %s; %s", a->operands[0], answer_words(answer), closed);
+    else if (saved_map_wrong(&b))
+        say("%s: not sound: the saved map is not the image's; %s", a->operands[0], closed);
+    else
+        status = printf("sound; %s; locate words that differ: %zu\n", closed, b.mended) < 0;
+    return finish(&b, a, status);
+}
+
+static int draw_to_file(const char *to, const struct book *b, const struct survey *s, const char *path) {
+    FILE *out = fopen(to, "w");
+    if (out)
+        draw(out, b, s, path);
+    int failed = !out || ferror(out);
+    if (out && fclose(out) != 0)
+        failed = 1;
+    if (failed)
+        say("%s: %s", to, strerror(errno));
+    return failed;
+}
+
+int run_draw(const struct arguments *a) {
+    struct book b;
+    struct survey s;
+    int status = 0;
+    const char *to = a->values[OPTION_OUTPUT];
+    if (to && file_is_book(to)) {
+        say("%s: a reel book, not overwritten", to);
+        return 1;
+    }
+    if (begin_survey(&b, &s, a) != 0)
+        return 1;
+    if (to)
+        status = draw_to_file(to, &b, &s, a->operands[0]);
+    else
+        draw(stdout, &b, &s, a->operands[0]);
+    survey_free(&s);
+    return finish(&b, a, status);
+}

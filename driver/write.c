@@ -1,0 +1,125 @@
+/* The commands that write. */
+#include <inttypes.h>
+#include <stdio.h>
+
+#include "commands.h"
+#include "frames.h"
+#include "survey.h"
+
+static int out_of_range(const char *name, uint64_t number, uint64_t most) {
+    if (number >= 1 && number <= most)
+        return 0;
+    say("%s: from 1 to %" PRIu64, name, most);
+    return 1;
+}
+
+int run_format(const struct arguments *a) {
+    uint64_t reels = a->numbers[OPTION_REELS], nodes = a->numbers[OPTION_NODES];
+    if (out_of_range("--reels", reels, REELBOOK_MAX_SLOTS) || out_of_range("--nodes", nodes, REELBOOK_MAX_NODES))
+        return 1;
+    uint64_t answer = book_format(a->operands[0], reels, nodes, a->values[OPTION_FORCE] != NULL);
+    return answer == REELBOOK_DONE ? 0 : refuse(answer, a->operands[0]);
+}
+
+static int on_reel(const struct arguments *a, uint64_t (*operation)(struct book *, uint64_t)) {
+    struct book b;
+    uint64_t reel;
+    if (arguments_number(a->operands[1], &reel) != 0 || begin(&b, a, BOOK_WRITE) != 0)
+        return 1;
+    uint64_t answer = operation(&b, reel);
+    return finish(&b, a, answer == REELBOOK_DONE ? 0 : refuse_reel(answer, reel));
+}
+
+int run_open(const struct arguments *a) {
+    return on_reel(a, book_open_reel);
+}
+
+int run_retire(const struct arguments *a) {
+    return on_reel(a, book_retire);
+}
+
+struct job {
+    uint64_t (*operation)(struct book *, uint64_t, uint64_t);
+    const char *done_name; /* "added" */
+    uint64_t reel, done, held;
+};
+
+/* "2 frames added, 1 held already" */
+static const char *summary(const struct job *j) {
+    static char text[80];
+    int length = snprintf(text, sizeof text, "%" PRIu64 " frame%s %s", j->done, j->done == 1 ? "" : "s", j->done_name);
+    if (j->held > 0)
+        snprintf(text + length, sizeof text - (size_t)length, ", %" PRIu64 " held already", j->held);
+    return text;
+}
+
+/* Goes on to the first frame that is refused, and answers with that refusal. */
+static uint64_t do_frames(struct book *b, const struct arguments *a, struct job *j, struct frames *f) {
+    struct progress p;
+    uint64_t answer = REELBOOK_DONE;
+    progress_begin(&p, a->values[OPTION_PROGRESS] != NULL);
+    while (answer == REELBOOK_DONE && frames_next(f)) {
+        answer = j->operation(b, j->reel, f->frame);
+        if (answer == REELBOOK_DONE) {
+            j->done++;
+        } else if (answer == REELBOOK_FRAME_HELD && a->values[OPTION_SKIP_HELD]) {
+            j->held++;
+            answer = REELBOOK_DONE;
+        }
+        progress_show(&p, j->done + j->held);
+    }
+    progress_end(&p);
+    return answer;
+}
+
+static int report(const struct job *j, const struct frames *f, uint64_t answer) {
+    if (answer != REELBOOK_DONE)
+        say("reel %" PRIu64 ": frame %" PRIu64 ": %s; %s before it", j->reel, f->frame, answer_words(answer), summary(j));
+    else if (f->error[0])
+        say("%s; %s before it", f->error, summary(j));
+    else if (frames_interrupted())
+        say("interrupted; %s", summary(j));
+    else
+        return puts(summary(j)) < 0;
+    return 1;
+}
+
+/* The frames on the command line are all read before the first is done; Has tells whether there is such a reel, even if no frame
+ * comes. */
+static int on_frames(const struct arguments *a, struct job j) {
+    struct book b;
+    struct frames f;
+    uint64_t yes;
+    if (arguments_number(a->operands[1], &j.reel) != 0 || frames_begin(&f, a->operands + 2, a->count - 2) != 0)
+        return 1;
+    if (begin(&b, a, BOOK_WRITE) != 0)
+        return 1;
+    uint64_t answer = book_has(&b, j.reel, 0, &yes);
+    if (answer != REELBOOK_DONE)
+        return finish(&b, a, refuse_reel(answer, j.reel));
+    frames_catch_interrupt();
+    answer = do_frames(&b, a, &j, &f);
+    return finish(&b, a, report(&j, &f, answer));
+}
+
+int run_add(const struct arguments *a) {
+    return on_frames(a, (struct job){.operation = book_add, .done_name = "added"});
+}
+
+int run_remove(const struct arguments *a) {
+    return on_frames(a, (struct job){.operation = book_remove, .done_name = "removed"});
+}
+
+int run_recover(const struct arguments *a) {
+    struct book b;
+    struct survey s;
+    if (begin(&b, a, BOOK_RECOVER) != 0)
+        return 1;
+    uint64_t answer = survey_take(&s, &b);
+    if (answer != REELBOOK_DONE)
+        return finish(&b, a, refuse(answer, a->operands[0]));
+    printf("%s; reels: %zu, frames: %" PRIu64 ", locate words mended: %zu\n", b.unclean ? "not closed cleanly" : "closed cleanly",
+           s.count, s.total.frames, b.mended);
+    survey_free(&s);
+    return finish(&b, a, 0);
+}

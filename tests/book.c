@@ -1,0 +1,122 @@
+#include "book.h"
+
+#include <inttypes.h>
+#include <stdio.h>
+#include <stdlib.h>
+#include <string.h>
+
+unsigned checks, failures;
+
+void equal(uint64_t found, uint64_t expected, const char *what) {
+    checks++;
+    if (found == expected) {
+        return;
+    }
+    failures++;
+    printf("%s: expected %" PRIu64 ", found %" PRIu64 "\n", what, expected, found);
+}
+
+uint64_t *zeroed(size_t words) {
+    /* One more than asked for, so that no words are not no memory. */
+    uint64_t *memory = (uint64_t *)calloc(words + 1, sizeof *memory);
+    if (memory == NULL) {
+        fprintf(stderr, "no memory for %zu words\n", words);
+        exit(2);
+    }
+    return memory;
+}
+
+void book_format(struct book *b, uint64_t slots, uint64_t nodes) {
+    memset(b, 0, sizeof *b);
+    b->image_words = reelbook_image_words(slots, nodes);
+    b->map_words = reelbook_map_words(nodes);
+    b->image = zeroed(b->image_words);
+    b->map = zeroed(b->map_words);
+    b->scratch = zeroed(b->map_words);
+    equal(reelbook_format(b->image, b->image_words, b->map, b->map_words, b->heads, slots, nodes), REELBOOK_DONE, "format");
+}
+
+void book_free(struct book *b) {
+    free(b->image);
+    free(b->map);
+    free(b->scratch);
+}
+
+/* Carries the script out as a driver does. */
+static uint64_t carried_out(struct book *b, uint64_t answer) {
+    uint64_t at;
+    for (at = 0; at < b->used; at += 2) {
+        if (b->script[at] != REELBOOK_BARRIER) {
+            b->image[b->script[at]] = b->script[at + 1];
+        }
+    }
+    return answer;
+}
+
+/* The slices that a call is lent. */
+#define IMAGE b->image, b->image_words
+#define MAP b->map, b->map_words
+#define SCRATCH b->scratch, b->map_words
+#define SCRIPT b->script, REELBOOK_SCRIPT_WORDS
+
+uint64_t book_open(struct book *b, uint64_t reel) {
+    return carried_out(b, reelbook_open(IMAGE, MAP, SCRIPT, reel, &b->used));
+}
+
+uint64_t book_claim(struct book *b, uint64_t head, uint64_t reel, uint64_t frame) {
+    return carried_out(b, reelbook_claim(IMAGE, MAP, b->heads, SCRIPT, head, reel, frame, &b->used));
+}
+
+uint64_t book_fill(struct book *b, uint64_t head) {
+    return carried_out(b, reelbook_fill(IMAGE, b->heads, SCRIPT, head, &b->used));
+}
+
+uint64_t book_commit(struct book *b, uint64_t head) {
+    return carried_out(b, reelbook_commit(IMAGE, b->heads, SCRIPT, head, &b->used));
+}
+
+uint64_t book_abandon(struct book *b, uint64_t head) {
+    return carried_out(b, reelbook_abandon(IMAGE, b->heads, SCRIPT, head, &b->used));
+}
+
+uint64_t book_remove(struct book *b, uint64_t reel, uint64_t frame) {
+    return carried_out(b, reelbook_remove(IMAGE, b->heads, SCRIPT, reel, frame, &b->used));
+}
+
+uint64_t book_retire(struct book *b, uint64_t reel) {
+    return carried_out(b, reelbook_retire(IMAGE, MAP, b->heads, SCRATCH, SCRIPT, reel, &b->used));
+}
+
+uint64_t book_list(struct book *b, size_t room, uint64_t reel) {
+    return reelbook_list(IMAGE, SCRATCH, b->list, room, reel, &b->count);
+}
+
+uint64_t book_recover(struct book *b) {
+    return reelbook_recover(IMAGE, MAP, b->heads);
+}
+
+void book_add(struct book *b, uint64_t reel, uint64_t first, uint64_t step, unsigned count) {
+    unsigned done;
+    for (done = 0; done < count; done++) {
+        equal(book_claim(b, 1, reel, first + step * done), REELBOOK_DONE, "claim");
+        equal(book_fill(b, 1), REELBOOK_DONE, "fill");
+        equal(book_commit(b, 1), REELBOOK_DONE, "commit");
+    }
+}
+
+uint64_t slot_word(const struct book *b, uint64_t slot, uint64_t word) {
+    return b->image[REELBOOK_HEADER_WORDS + REELBOOK_SLOT_WORDS * slot + word];
+}
+
+size_t node_index(const struct book *b, uint64_t node, uint64_t word) {
+    uint64_t nodes_at = REELBOOK_HEADER_WORDS + REELBOOK_SLOT_WORDS * b->image[REELBOOK_SLOTS_AT];
+    return (size_t)(nodes_at + REELBOOK_NODE_WORDS * node + word);
+}
+
+uint64_t node_word(const struct book *b, uint64_t node, uint64_t word) {
+    return b->image[node_index(b, node, word)];
+}
+
+uint64_t head_word(const struct book *b, uint64_t head, uint64_t word) {
+    return b->heads[REELBOOK_HEAD_WORDS * head + word];
+}

@@ -1,0 +1,48 @@
+/* A book with all its buffers, for the test programs: each call lends them, and its script is carried out. */
+#ifndef BOOK_H
+#define BOOK_H
+
+#include "reelbook.h"
+
+enum { LIST_WORDS = 1024 };
+
+struct book {
+    uint64_t *image, *map, *scratch;
+    size_t image_words, map_words;
+    uint64_t heads[REELBOOK_HEADS_WORDS];
+    uint64_t script[REELBOOK_SCRIPT_WORDS];
+    uint64_t list[LIST_WORDS];
+    uint64_t used, count;
+};
+
+/* Checks, of which those that fail print a line. */
+extern unsigned checks, failures;
+void equal(uint64_t found, uint64_t expected, const char *what);
+
+/* Zeroed memory; the program ends if there is none. */
+uint64_t *zeroed(size_t words);
+
+void book_format(struct book *b, uint64_t slots, uint64_t nodes);
+void book_free(struct book *b);
+
+/* The operations, by their answers. */
+uint64_t book_open(struct book *b, uint64_t reel);
+uint64_t book_claim(struct book *b, uint64_t head, uint64_t reel, uint64_t frame);
+uint64_t book_fill(struct book *b, uint64_t head);
+uint64_t book_commit(struct book *b, uint64_t head);
+uint64_t book_abandon(struct book *b, uint64_t head);
+uint64_t book_remove(struct book *b, uint64_t reel, uint64_t frame);
+uint64_t book_retire(struct book *b, uint64_t reel);
+uint64_t book_list(struct book *b, size_t room, uint64_t reel);
+uint64_t book_recover(struct book *b);
+
+/* Head 1 adds frames to a reel: the first, first + step, and so on. */
+void book_add(struct book *b, uint64_t reel, uint64_t first, uint64_t step, unsigned count);
+
+/* One of the words of a slot, a node, a head's record; and the index in the image of a node's. */
+uint64_t slot_word(const struct book *b, uint64_t slot, uint64_t word);
+uint64_t node_word(const struct book *b, uint64_t node, uint64_t word);
+uint64_t head_word(const struct book *b, uint64_t head, uint64_t word);
+size_t node_index(const struct book *b, uint64_t node, uint64_t word);
+
+#endif

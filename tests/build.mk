@@ -1,0 +1,39 @@
+# make check-header: include/reelbook.h as C and as C++, and its constants against the library.
+# make check-stores: Recover's stores to the image, one by one.
+# make fuzz: the library against the model for SECONDS. SEED=random takes new cases; SEED=number repeats one.
+# make faults: deliberate faults, each of which the fuzzing has to find.
+.PHONY: check-header check-stores fuzz faults
+
+RUSTC ?= rustc
+SECONDS ?= 60
+SEED ?=
+HEADER_WARNINGS = -Wall -Wextra -Wpedantic -Wshadow -Wconversion -Wsign-conversion -Wcast-qual -Wundef -Werror
+HEADER_AS_C = $(CC) -x c -std=c99 $(HEADER_WARNINGS) -Wstrict-prototypes -Iinclude $(CFLAGS)
+HEADER_AS_CXX = $(CXX) -x c++ -std=c++11 $(HEADER_WARNINGS) -Iinclude $(CFLAGS)
+
+check-header: build/header-c build/header-c++
+	echo '#include "reelbook.h"' | $(HEADER_AS_C) -fsyntax-only -
+	echo '#include "reelbook.h"' | $(HEADER_AS_CXX) -fsyntax-only -
+	build/header-c
+	build/header-c++
+
+build/header-c: tests/header.c tests/book.c tests/book.h include/reelbook.h $(LIBRARY)
+	$(HEADER_AS_C) -o $@ tests/header.c tests/book.c -x none $(LIBRARY)
+
+build/header-c++: tests/header.c tests/book.c tests/book.h include/reelbook.h $(LIBRARY)
+	$(HEADER_AS_CXX) -o $@ tests/header.c tests/book.c -x none $(LIBRARY)
+
+check-stores: build/stores
+	build/stores
+
+build/stores: tests/stores.c tests/book.c tests/book.h include/reelbook.h $(LIBRARY)
+	$(CC) $(WARNINGS) $(CFLAGS) -Iinclude -o $@ tests/stores.c tests/book.c $(LIBRARY)
+
+fuzz: build/fuzz
+	build/fuzz $(if $(filter-out random,$(SEED)),case $(SEED),$(SECONDS) $(SEED))
+
+faults: build/fuzz
+	build/fuzz faults
+
+build/fuzz: $(wildcard tests/fuzz/*.rs tests/model/*.rs) $(LIBRARY)
+	$(RUSTC) -O -C overflow-checks=on --edition 2021 -C link-arg=$(LIBRARY) -o $@ tests/fuzz/main.rs

@@ -1,0 +1,160 @@
+//! Single calls over any contents and lengths, compared with the model: answer, count, and every word of every buffer.
+use crate::coverage::Coverage;
+use crate::damage::{descent, some_slot, Damage};
+use crate::lending::Lending;
+use crate::model::buffer::Buffer;
+use crate::model::call::{Call, Function, Lent};
+use crate::model::fault::Fault;
+use crate::model::image::*;
+use crate::model::node::*;
+use crate::model::operations;
+use crate::model::script::{self, SCRIPT_WORDS};
+use crate::random::Random;
+use crate::report;
+use crate::subject::Subject;
+use crate::trees;
+
+const CALLS: u64 = 16;
+const LARGE_WORDS: usize = 100_000;
+const CALLS_ON_LARGE: u64 = 3;
+
+/// An image with what else a call is lent, and the two copies that a call is made on.
+struct Case {
+    random: Random,
+    subject: Subject,
+    slots: u64,
+    nodes: u64,
+    lent: Lent,
+    expected: Lent,
+    found: Lent,
+}
+
+/// An image, sound or damaged, and some calls on it; the scripts of most are carried out.
+pub fn case(seed: u64, subject: Subject, coverage: &mut Coverage) -> Result<(), String> {
+    let mut case = Case::new(Random::new(seed), subject);
+    let calls = if case.lent.image.len() > LARGE_WORDS { CALLS_ON_LARGE } else { CALLS };
+    for _ in 0..calls {
+        case.call(coverage)?;
+    }
+    Ok(())
+}
+
+impl Case {
+    fn new(mut random: Random, subject: Subject) -> Case {
+        let trees::Built { mut image, map, slots, nodes } = trees::build(&mut random);
+        let damages = if random.one_in(2) { random.between(1, 3) } else { 0 };
+        for _ in 0..damages {
+            Damage { random: &mut random, image: &mut image, slots, nodes }.once();
+        }
+        let mut junk = |length: usize| Buffer::of((0..length).map(|_| random.word()));
+        let (scratch, script, list) = (junk(map.len()), junk(SCRIPT_WORDS + 6), junk(200));
+        let mut lent = Lent { image, map, heads: Buffer::of([0; 10]), script, scratch, list };
+        let mut lending = Lending { random: &mut random, lent: &mut lent, slots, nodes };
+        if lending.random.one_in(3) {
+            lending.map();
+        }
+        if lending.random.one_in(3) {
+            lending.spare_bits();
+        }
+        Case { expected: lent.clone(), found: lent.clone(), random, subject, slots, nodes, lent }
+    }
+
+    fn call(&mut self, coverage: &mut Coverage) -> Result<(), String> {
+        let mut call = self.draw();
+        self.found.clone_from(&self.lent);
+        let kept = self.lend(&mut call);
+        self.expected.clone_from(&self.found);
+        let heads = self.found.heads.clone();
+        let outcome = operations::perform(&call, &mut self.expected, Fault::None);
+        let found = self.subject.perform(&call, &mut self.found, self.random.word());
+        coverage.call(call.function, outcome.ending);
+        let expected = (outcome.ending.answer, outcome.count);
+        if expected != found || self.expected != self.found {
+            return Err(report::difference(&call, &heads, (expected, &self.expected), (found, &self.found)));
+        }
+        if kept {
+            std::mem::swap(&mut self.lent, &mut self.found);
+            if !matches!(call.function, Function::Has | Function::List) {
+                script::carry_out(&mut self.lent.image, &script::read(&self.lent.script[..found.1 as usize]));
+            }
+        }
+        Ok(())
+    }
+
+    fn draw(&mut self) -> Call {
+        use Function::*;
+        // More of those with many ways to end, fewer of Recover, which takes the most time.
+        let often =
+            [Open, Claim, Claim, Claim, Claim, Claim, Fill, Commit, Abandon, Remove, Remove, Has, Has, List, Retire, Apply];
+        let function = if self.random.one_in(3) { self.random.pick(&Function::ALL) } else { self.random.pick(&often) };
+        let head = if self.random.one_in(12) { self.random.odd_word(&[2]) } else { self.random.below(2) };
+        let slot = match self.random.below(12) {
+            0 => self.random.below(self.slots),
+            _ => some_slot(&mut self.random, &self.lent.image, self.slots),
+        };
+        let reel = match self.random.below(12) {
+            0 => self.random.odd_word(&[self.slots]),
+            _ => self.lent.image[slot_index(slot) as usize],
+        };
+        Call { function, slots: self.slots, nodes: self.nodes, head, reel, frame: self.frame(slot) }
+    }
+
+    /// A frame that the reel in this slot holds, or one near it: on the path of a node, or off it by a bit.
+    fn frame(&mut self, slot: u64) -> u64 {
+        let numbers = descent(&mut self.random, &self.lent.image, self.slots, self.nodes, slot);
+        let at = node_index(self.slots, numbers[numbers.len() - 1]) as usize;
+        let set = self.lent.image[at + SET as usize];
+        let any = self.random.below(PLACES);
+        let place = if set >> any & 1 == 1 { any } else { u64::from(set.trailing_zeros()).min(PLACES - 1) };
+        let frame = self.lent.image[at + (FRAMES + place) as usize];
+        let bits = path_bits(self.lent.image[at + LEVEL_AT as usize].min(LAST_LEVEL));
+        match self.random.below(10) {
+            0 => self.random.odd_word(&[64]),
+            1 => frame ^ 1 << self.random.below(64),
+            2..=6 => frame & ((1 << bits) - 1) | self.random.word() << bits,
+            _ => frame,
+        }
+    }
+
+    /// What this call is lent, drawn into `found`. True if what it leaves is for the next call to go on with.
+    fn lend(&mut self, call: &mut Call) -> bool {
+        let (slots, nodes) = (self.slots, self.nodes);
+        let mut lending = Lending { random: &mut self.random, lent: &mut self.found, slots, nodes };
+        let function = call.function;
+        match function {
+            Function::Fill | Function::Commit | Function::Abandon if lending.random.one_in(2) => lending.heads(function),
+            Function::Claim if lending.random.one_in(2) => lending.lent.heads.fill(0),
+            _ if lending.random.one_in(8) => lending.heads(function),
+            _ => (),
+        }
+        if lending.random.one_in(16) {
+            lending.map();
+        }
+        let odd = lending.random.below(24);
+        match odd {
+            0 => lending.header(call),
+            1 => lending.edition(),
+            2 | 3 => lending.length(),
+            _ => (),
+        }
+        let kept = odd > 3 && function != Function::Apply && (function != Function::Format || lending.random.one_in(8));
+        if function == Function::Apply {
+            lending.script();
+        }
+        if function == Function::List {
+            self.list(call);
+        }
+        kept
+    }
+
+    /// A list of just the room needed, one too small, or any.
+    fn list(&mut self, call: &Call) {
+        let any = self.random.below(300);
+        self.expected.clone_from(&self.found);
+        self.expected.list.resize((64 * self.nodes) as usize, || 0);
+        let count = operations::perform(call, &mut self.expected, Fault::None).count;
+        let length = self.random.pick(&[any, count, count.saturating_sub(1), 0, count + 1]) as usize;
+        let random = &mut self.random;
+        self.found.list.resize(length, || random.word());
+    }
+}

@@ -1,0 +1,164 @@
+//! What the fuzzing has reached: each way in which a function can end, each answer in a history, each moment of a script for a
+//! crash.
+use crate::model::call::{Function, Function::*};
+use crate::model::ending::*;
+use crate::model::node::LAST_LEVEL;
+use std::collections::BTreeMap;
+
+#[derive(Default)]
+pub struct Coverage {
+    endings: BTreeMap<(Function, Ending), u64>,
+    answers: BTreeMap<(Function, u64), u64>,
+    /// By function, entries of its script, and how many of these were carried out.
+    crashes: BTreeMap<(Function, usize, usize), u64>,
+    deepest: u64,
+    mixtures: u64,
+    undone: u64,
+    completed: u64,
+    cut_recoveries: u64,
+}
+
+const LENGTHS: &[Ending] = &[TOO_SHORT, SLOTS, NODES, LENGTH];
+const HEADER: &[Ending] = &[TOO_SHORT, SLOTS, NODES, LENGTH, EDITION];
+const PATH: &[Ending] = &[OUTSIDE, LEVEL, SIZE, LOCATE_ABOVE, SET_ABOVE, NEXT_SMALL, NEXT_LAST, CHILDREN_OUTSIDE];
+const UNSOUND: &[Ending] = &[REACHED_TWICE, REEL_TWICE, OFF_PATH, HELD_TWICE, FINGERPRINT];
+const TAKEN: &[Ending] =
+    &[CLEAR_ROOT, CLEAR_BELOW, DOUBLED_32, DOUBLED_64, BRANCHED_2, BRANCHED_4, BRANCHED_LAST, LAST_FULL, TOO_FEW, NO_RUN];
+const TREES: &[Ending] = &[TREE_EMPTY, TREE_ROOT, TREE_DEEP, REACHED_TWICE];
+const BY_HEAD: &[Ending] = &[SCRIPT_LENGTH, HEAD_NUMBER, HEAD_NODE, HEAD_PLACE];
+
+/// Every way in which a call can end.
+fn endings(function: Function) -> Vec<Ending> {
+    let lists: &[&[Ending]] = match function {
+        Format => &[&[DONE, SLOTS, NODES, LENGTH, MAP_LENGTH]],
+        Recover => &[HEADER, PATH, UNSOUND, &[MAP_LENGTH, LOCATE_EQUAL, LOCATE_SET]],
+        Open => &[HEADER, &[MAP_LENGTH, SCRIPT_LENGTH, ALREADY_OPEN, NO_SLOT, NO_NODE, DONE]],
+        Claim => {
+            &[HEADER, PATH, TAKEN, &[MAP_LENGTH, SCRIPT_LENGTH, HEAD_NUMBER, HEAD_CLAIMED, HEAD_FILLED, NO_REEL, BUSY, HELD]]
+        }
+        Fill => &[HEADER, BY_HEAD, &[HEAD_IDLE, HEAD_FILLED, DONE]],
+        Commit => &[HEADER, BY_HEAD, &[HEAD_IDLE, HEAD_CLAIMED, DONE]],
+        Abandon => &[HEADER, BY_HEAD, &[HEAD_IDLE, ABANDONED_CLAIMED, ABANDONED_FILLED]],
+        Remove => &[HEADER, PATH, &[SCRIPT_LENGTH, NO_REEL, BUSY, NOT_HELD, REMOVED_ROOT, REMOVED_BELOW]],
+        Has => &[HEADER, PATH, &[NO_REEL, HAS_NO, HAS_YES]],
+        List => &[HEADER, PATH, TREES, &[SCRATCH_LENGTH, NO_REEL, LIST_SHORT]],
+        Retire => &[HEADER, PATH, TREES, &[MAP_LENGTH, SCRATCH_LENGTH, SCRIPT_LENGTH, NO_REEL, BUSY]],
+        Apply => &[LENGTHS, &[SCRIPT_ODD, BARRIER_VALUE, STORE_OUTSIDE, STORES_NONE, STORES_HEADER, STORES]],
+    };
+    lists.concat()
+}
+
+/// The answers that come in a history. 2 and 4 never do.
+fn answers(function: Function) -> &'static [u64] {
+    match function {
+        Format | Recover => &[0, 1, 3],
+        Open => &[0, 1, 3, 6, 7, 8],
+        Claim => &[0, 1, 3, 5, 8, 9, 11, 12, 13],
+        Fill | Commit | Abandon => &[0, 1, 3, 11, 12],
+        Remove => &[0, 1, 3, 5, 10, 13],
+        Has => &[0, 1, 5],
+        List => &[0, 1, 3, 5, 14],
+        Retire => &[0, 1, 3, 5, 13],
+        Apply => &[],
+    }
+}
+
+/// The numbers of entries that a function's scripts have. Without a script: Recover, and refusals.
+fn scripts(function: Function) -> &'static [usize] {
+    match function {
+        Open => &[9, 0],
+        Claim => &[2, 4, 15, 25, 0],
+        Fill | Remove => &[4, 0],
+        Commit | Abandon | Retire => &[2, 0],
+        Format | Recover | Has | List => &[0],
+        Apply => &[],
+    }
+}
+
+impl Coverage {
+    /// A single call.
+    pub fn call(&mut self, function: Function, ending: Ending) {
+        *self.endings.entry((function, ending)).or_default() += 1;
+    }
+
+    /// A call in a history.
+    pub fn answer(&mut self, function: Function, answer: u64) {
+        *self.answers.entry((function, answer)).or_default() += 1;
+    }
+
+    /// A history, and the highest level in it.
+    pub fn history(&mut self, deepest: u64) {
+        self.deepest = self.deepest.max(deepest);
+    }
+
+    /// A crash after some of a script's entries.
+    pub fn crash(&mut self, function: Function, entries: usize, cut: usize) {
+        *self.crashes.entry((function, entries, cut)).or_default() += 1;
+    }
+
+    /// An image that a crash left and that was recovered; `tells` if the tables of before and after differ.
+    pub fn mixture(&mut self, undone: bool, tells: bool) {
+        self.mixtures += 1;
+        self.undone += u64::from(tells && undone);
+        self.completed += u64::from(tells && !undone);
+    }
+
+    pub fn cut_recovery(&mut self) {
+        self.cut_recoveries += 1;
+    }
+
+    /// One line for each function: how often it was called, and how often it gave each answer.
+    fn table(counts: &BTreeMap<(Function, u64), u64>) {
+        println!("{:8}{:>8}{}", "", "calls", (0..15).map(|answer| format!("{:>8}", answer)).collect::<String>());
+        for function in Function::ALL {
+            let count = |answer: u64| counts.get(&(function, answer)).copied().unwrap_or(0);
+            let column = |answer: u64| if count(answer) == 0 { format!("{:>8}", ".") } else { format!(" {:>7}", count(answer)) };
+            let calls: u64 = (0..15).map(count).sum();
+            println!("{:8} {:>7}{}", function.name(), calls, (0..15).map(column).collect::<String>());
+        }
+    }
+
+    pub fn print_calls(&self) {
+        let mut counts = BTreeMap::new();
+        for (&(function, ending), count) in &self.endings {
+            *counts.entry((function, ending.answer)).or_default() += count;
+        }
+        println!("{} calls on single images, by function and answer:", self.endings.values().sum::<u64>());
+        Coverage::table(&counts);
+    }
+
+    pub fn print_histories(&self) {
+        println!("{} operations in histories, by function and answer:", self.answers.values().sum::<u64>());
+        Coverage::table(&self.answers);
+        let crashes: u64 = self.crashes.values().sum();
+        println!("{} crashes, {} mixtures recovered, {} recoveries cut", crashes, self.mixtures, self.cut_recoveries);
+        println!("where before and after differ: {} mixtures before, {} after", self.undone, self.completed);
+    }
+
+    /// What should have been reached by calls and was not, and what was and should not.
+    pub fn calls_missed(&self) -> Vec<String> {
+        let all: Vec<_> = Function::ALL.iter().flat_map(|&f| endings(f).into_iter().map(move |ending| (f, ending))).collect();
+        let name = |key: &(Function, Ending)| format!("{} {} {}", key.0.name(), key.1.answer, key.1.shape);
+        missed(&all, &self.endings, name)
+    }
+
+    /// The same for histories: answers, and moments of scripts.
+    pub fn histories_missed(&self) -> Vec<String> {
+        let all: Vec<_> = Function::ALL.iter().flat_map(|&f| answers(f).iter().map(move |&answer| (f, answer))).collect();
+        let mut lines = missed(&all, &self.answers, |key| format!("{} {} in a history", key.0.name(), key.1));
+        let moments = |f: Function| scripts(f).iter().flat_map(move |&entries| (0..=entries).map(move |cut| (f, entries, cut)));
+        let all: Vec<_> = Function::ALL.iter().flat_map(|&f| moments(f)).collect();
+        lines
+            .extend(missed(&all, &self.crashes, |key| format!("crash in {} after {} of {} entries", key.0.name(), key.2, key.1)));
+        if self.deepest < LAST_LEVEL {
+            lines.push(format!("never reached: level {} in a history", LAST_LEVEL));
+        }
+        lines
+    }
+}
+
+fn missed<K: Ord>(all: &[K], reached: &BTreeMap<K, u64>, name: impl Fn(&K) -> String) -> Vec<String> {
+    let never = all.iter().filter(|&key| !reached.contains_key(key)).map(|key| format!("never reached: {}", name(key)));
+    let unlisted = reached.keys().filter(|&key| !all.contains(key)).map(|key| format!("not in the list: {}", name(key)));
+    never.chain(unlisted).collect()
+}

@@ -1,0 +1,180 @@
+//! Histories from a fresh format on, with crashes, held against the plain table: every answer, what Has and List read, and at any
+//! time the book as a whole.
+use crate::coverage::Coverage;
+use crate::model::buffer::Buffer;
+use crate::model::call::{Call, Function, Lent};
+use crate::model::image::*;
+use crate::model::script::{self, Entry, BARRIER, SCRIPT_WORDS};
+use crate::model::table::{Lengths, Reply, Table, Value};
+use crate::plan::Plan;
+use crate::random::Random;
+use crate::recovery::{check_book, deepest};
+use crate::report::describe;
+use crate::subject::Subject;
+
+pub struct History<'a> {
+    pub random: Random,
+    pub subject: Subject,
+    pub coverage: &'a mut Coverage,
+    pub lent: Lent,
+    pub table: Table,
+    pub plan: Plan,
+}
+
+pub fn case(seed: u64, subject: Subject, coverage: &mut Coverage) -> Result<(), String> {
+    let mut random = Random::new(seed);
+    let plan = Plan::draw(&mut random);
+    let (slots, nodes) = (plan.slots, plan.nodes);
+    let mut lent = unformatted(&mut random, slots, nodes);
+    let format = Call { function: Function::Format, slots, nodes, head: 0, reel: 0, frame: 0 };
+    let (answer, _) = subject.perform(&format, &mut lent, 0);
+    if answer != 0 {
+        return Err(format!("first {}: answer {}", describe(&format), answer));
+    }
+    let mut history = History { random, subject, coverage, lent, table: Table::formatted(slots, nodes), plan };
+    for step in 1..=history.plan.steps {
+        let mut call = history.plan.call(&mut history.random, &history.table);
+        history.step(&mut call).map_err(|text| format!("step {}, {}: {}", step, describe(&call), text))?;
+    }
+    history.coverage.history(deepest(&history.lent));
+    check_book(&history.lent, &history.table).map_err(|text| format!("after the last step: {}", text))
+}
+
+/// Buffers of any contents.
+fn unformatted(random: &mut Random, slots: u64, nodes: u64) -> Lent {
+    let zeros = random.one_in(2);
+    let mut junk = |length: u64| Buffer::of((0..length).map(|_| if zeros { 0 } else { random.word() }));
+    Lent {
+        image: junk(image_words(slots, nodes)),
+        map: junk(map_words(nodes)),
+        heads: junk(HEADS * HEAD_WORDS as u64),
+        script: junk(SCRIPT_WORDS as u64),
+        scratch: junk(map_words(nodes)),
+        list: junk(64 * nodes),
+    }
+}
+
+/// A buffer that a call may be lent in a wrong length.
+#[derive(Clone, Copy)]
+enum Which {
+    Image,
+    Map,
+    Script,
+    Scratch,
+    List,
+}
+
+impl History<'_> {
+    fn step(&mut self, call: &mut Call) -> Result<(), String> {
+        let crash = self.random.one_in(if call.function == Function::Open { 3 } else { self.plan.crash });
+        let before = if crash { Some((self.table.reels.clone(), self.lent.image.clone())) } else { None };
+        let (answer, entries) = self.perform(call)?;
+        // An answered Format runs on steady power.
+        let steady = call.function == Function::Format && answer == 0;
+        let branch = call.function == Function::Claim && entries.len() > 2;
+        if steady || before.is_none() && !(branch && self.random.one_in(2)) {
+            script::carry_out(&mut self.lent.image, &entries);
+            return if self.random.one_in(self.plan.crash) { check_book(&self.lent, &self.table) } else { Ok(()) };
+        }
+        // A crash decided on only now is in a claim, which changes no reel and leaves the stores to its script.
+        let (reels, image) = before.unwrap_or_else(|| (self.table.reels.clone(), self.lent.image.clone()));
+        if call.function == Function::Recover {
+            self.crash_in_recover(&image, &reels)
+        } else {
+            self.crash_in_script(call.function, &entries, &reels)
+        }
+    }
+
+    /// Calls book and table, and compares. The answer, and the entries handed out.
+    fn perform(&mut self, call: &mut Call) -> Result<(u64, Vec<Entry>), String> {
+        let own = self.lend(call);
+        let (answer, count) = self.subject.perform(call, &mut self.lent, self.random.word());
+        let reply = self.table.perform(call, &Lengths::of(&self.lent), answer);
+        self.coverage.answer(call.function, answer);
+        if let Some((name, _)) = self.lent.named().iter().find(|(_, buffer)| !buffer.guards_hold()) {
+            return Err(format!("words outside the {} are written", name));
+        }
+        self.compare(answer, count, &reply)?;
+        let entries = if reply == Ok(Value::None) { script::read(&self.lent.script[..count as usize]) } else { Vec::new() };
+        if let Some((which, buffer)) = own {
+            *self.buffer(which) = buffer;
+        }
+        Ok((answer, entries))
+    }
+
+    fn buffer(&mut self, which: Which) -> &mut Buffer {
+        match which {
+            Which::Image => &mut self.lent.image,
+            Which::Map => &mut self.lent.map,
+            Which::Script => &mut self.lent.script,
+            Which::Scratch => &mut self.lent.scratch,
+            Which::List => &mut self.lent.list,
+        }
+    }
+
+    /// Now and then a buffer of another length for this call; the book's own is handed back.
+    fn lend(&mut self, call: &mut Call) -> Option<(Which, Buffer)> {
+        if call.function == Function::Format && self.random.one_in(3) {
+            self.other_geometry(call);
+            return None;
+        }
+        // More often for the operations that are seldom.
+        let seldom = !matches!(call.function, Function::Claim | Function::Fill | Function::Commit);
+        let which = match self.random.below(if seldom { 25 } else { 100 }) {
+            0 => Which::Image,
+            1 => Which::Map,
+            2 => Which::Scratch,
+            3 => Which::Script,
+            4..=9 if call.function == Function::List => Which::List,
+            _ => return None,
+        };
+        let own = self.buffer(which).clone();
+        let frames = self.table.reels.get(&call.reel).map_or(0, |frames| frames.len() as u64);
+        let (less, more) = (self.random.below(own.len() as u64), own.len() as u64 + 1);
+        let length = match which {
+            Which::Script => less,
+            Which::List => self.random.below(frames + 2),
+            _ => self.random.pick(&[less, more]),
+        };
+        self.buffer(which).resize(length as usize, || 0);
+        Some((which, own))
+    }
+
+    /// Another R and N for Format: of the same length, with a map of their own, or of another length.
+    fn other_geometry(&mut self, call: &mut Call) {
+        if self.random.one_in(4) || call.nodes == 1 && call.slots <= 40 {
+            call.slots += 1;
+            return;
+        }
+        (call.slots, call.nodes) =
+            if call.nodes > 1 { (call.slots + 40, call.nodes - 1) } else { (call.slots - 40, call.nodes + 1) };
+        for map in [&mut self.lent.map, &mut self.lent.scratch] {
+            map.resize(map_words(call.nodes) as usize, || 0);
+        }
+    }
+
+    fn compare(&self, answer: u64, count: u64, reply: &Reply) -> Result<(), String> {
+        let expected = reply.as_ref().err().copied().unwrap_or(0);
+        if answer != expected {
+            return Err(format!("the table answers {}, the book {}", expected, answer));
+        }
+        let (right, what) = match reply {
+            Err(_) => (count == 0, "count after a refusal"),
+            Ok(Value::Has(yes)) => (count == u64::from(*yes), "yes or no"),
+            Ok(Value::Frames(frames)) => {
+                let mut listed = self.lent.list[..count as usize].to_vec();
+                listed.sort_unstable();
+                (listed.iter().eq(frames), "listing")
+            }
+            Ok(Value::None) => {
+                let ends = count == 0 || script::read(&self.lent.script[..count as usize]).last() == Some(&BARRIER);
+                (count % 2 == 0 && ends, "script that does not end in a barrier")
+            }
+        };
+        if right {
+            Ok(())
+        } else {
+            Err(format!("{}: the table has {:?}, the book {}", what, reply, count))
+        }
+    }
+}

@@ -1,0 +1,68 @@
+//! The library's twelve functions, called as a C driver calls them.
+use crate::model::buffer::Buffer;
+use crate::model::call::{Call, Function, Lent};
+
+type Words = *mut u64;
+type Read = *const u64;
+
+#[rustfmt::skip]
+extern "C" {
+    fn reelbook_format(image: Words, words: usize, map: Words, map_words: usize, heads: Words, slots: u64, nodes: u64) -> u64;
+    fn reelbook_recover(image: Words, words: usize, map: Words, map_words: usize, heads: Words) -> u64;
+    fn reelbook_open(
+        image: Read, words: usize, map: Words, map_words: usize, script: Words, room: usize, reel: u64, used: Words,
+    ) -> u64;
+    fn reelbook_claim(
+        image: Read, words: usize, map: Words, map_words: usize, heads: Words, script: Words, room: usize, head: u64, reel: u64,
+        frame: u64, used: Words,
+    ) -> u64;
+    fn reelbook_fill(image: Read, words: usize, heads: Words, script: Words, room: usize, head: u64, used: Words) -> u64;
+    fn reelbook_commit(image: Read, words: usize, heads: Words, script: Words, room: usize, head: u64, used: Words) -> u64;
+    fn reelbook_abandon(image: Read, words: usize, heads: Words, script: Words, room: usize, head: u64, used: Words) -> u64;
+    fn reelbook_remove(
+        image: Read, words: usize, heads: Read, script: Words, room: usize, reel: u64, frame: u64, used: Words,
+    ) -> u64;
+    fn reelbook_has(image: Read, words: usize, reel: u64, frame: u64, yes: Words) -> u64;
+    fn reelbook_list(
+        image: Read, words: usize, scratch: Words, scratch_words: usize, list: Words, room: usize, reel: u64, count: Words,
+    ) -> u64;
+    fn reelbook_retire(
+        image: Read, words: usize, map: Words, map_words: usize, heads: Read, scratch: Words, scratch_words: usize, script: Words,
+        room: usize, reel: u64, used: Words,
+    ) -> u64;
+    fn reelbook_apply(image: Words, words: usize, script: Read, room: usize) -> u64;
+}
+
+fn slice(buffer: &mut Buffer) -> (Words, usize) {
+    (buffer.as_mut_ptr(), buffer.len())
+}
+
+/// The answer. The count handed back, where there is one, is written to `count`.
+pub fn perform(call: &Call, lent: &mut Lent, count: &mut u64) -> u64 {
+    let (image, words) = slice(&mut lent.image);
+    let (map, map_words) = slice(&mut lent.map);
+    let (script, room) = slice(&mut lent.script);
+    let (scratch, scratch_words) = slice(&mut lent.scratch);
+    let (list, list_room) = slice(&mut lent.list);
+    let heads = lent.heads.as_mut_ptr();
+    let &Call { function, slots, nodes, head, reel, frame } = call;
+    // Sound: the slices are apart from each other and of the lengths given, and heads has its ten words.
+    unsafe {
+        match function {
+            Function::Format => reelbook_format(image, words, map, map_words, heads, slots, nodes),
+            Function::Recover => reelbook_recover(image, words, map, map_words, heads),
+            Function::Open => reelbook_open(image, words, map, map_words, script, room, reel, count),
+            Function::Claim => reelbook_claim(image, words, map, map_words, heads, script, room, head, reel, frame, count),
+            Function::Fill => reelbook_fill(image, words, heads, script, room, head, count),
+            Function::Commit => reelbook_commit(image, words, heads, script, room, head, count),
+            Function::Abandon => reelbook_abandon(image, words, heads, script, room, head, count),
+            Function::Remove => reelbook_remove(image, words, heads, script, room, reel, frame, count),
+            Function::Has => reelbook_has(image, words, reel, frame, count),
+            Function::List => reelbook_list(image, words, scratch, scratch_words, list, list_room, reel, count),
+            Function::Retire => {
+                reelbook_retire(image, words, map, map_words, heads, scratch, scratch_words, script, room, reel, count)
+            }
+            Function::Apply => reelbook_apply(image, words, script, room),
+        }
+    }
+}

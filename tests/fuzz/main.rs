@@ -1,0 +1,54 @@
+//! Fuzzing of the library against the model: cases for some seconds, one case again, or the deliberate faults.
+//! A case is known by its seed: an even one is some calls on one image, an odd one a history with crashes.
+mod calls;
+mod cases;
+mod coverage;
+mod crash;
+mod damage;
+mod faults;
+mod history;
+mod lending;
+mod library;
+#[path = "../model/mod.rs"]
+mod model;
+mod plan;
+mod random;
+mod recovery;
+mod report;
+mod run;
+mod subject;
+mod trees;
+
+use std::process::exit;
+use std::time::{Duration, SystemTime, UNIX_EPOCH};
+
+const USAGE: &str = "usage: fuzz SECONDS [random] | fuzz case SEED | fuzz faults";
+
+/// The base of the gate's cases: the same ones each time, as far as the time goes.
+const BASE: u64 = 1;
+
+fn number(text: &str) -> u64 {
+    text.parse().unwrap_or_else(|_| {
+        eprintln!("fuzz: not a number: {}\n{}", text, USAGE);
+        exit(2)
+    })
+}
+
+fn main() {
+    let words: Vec<String> = std::env::args().skip(1).collect();
+    let words: Vec<&str> = words.iter().map(String::as_str).collect();
+    let good = match words[..] {
+        ["faults"] => faults::find_all(),
+        ["case", seed] => run::repeat(number(seed)),
+        [seconds] => run::run(Duration::from_secs(number(seconds)), BASE),
+        [seconds, "random"] => {
+            let time = SystemTime::now().duration_since(UNIX_EPOCH).map_or(BASE, |time| time.as_nanos() as u64);
+            run::run(Duration::from_secs(number(seconds)), time)
+        }
+        _ => {
+            eprintln!("{}", USAGE);
+            exit(2)
+        }
+    };
+    exit(if good { 0 } else { 1 })
+}

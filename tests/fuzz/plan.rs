@@ -1,0 +1,158 @@
+//! What a history does: its geometry, and how its calls are drawn.
+use crate::model::call::{Call, Function, Function::*};
+use crate::model::image::HEADS;
+use crate::model::node::{path_bits, LAST_LEVEL, PLACES};
+use crate::model::table::{Head, Table};
+use crate::random::Random;
+
+/// Frames from a small range, all with the same low bits; or such as lead down one path to level 31.
+enum Frames {
+    Few { bound: u64, shift: u64 },
+    Deep { target: u64 },
+}
+
+pub struct Plan {
+    pub slots: u64,
+    pub nodes: u64,
+    pub steps: u64,
+    /// One step in this many is crashed, and the book read whole as often.
+    pub crash: u64,
+    /// A crash is tried at every moment of its script.
+    pub every_moment: bool,
+    /// All mixtures that a crash can leave are tried up to this many; of more, some.
+    pub mixtures: u64,
+    /// One step in this many is another operation than the head's next.
+    other: u64,
+    others: &'static [Function],
+    reels: Vec<u64>,
+    frames: Frames,
+}
+
+const OTHERS: [Function; 24] = [
+    Open, Open, Open, Open, Open, Open, Remove, Remove, Remove, Remove, Has, Has, List, List, Retire, Claim, Fill, Commit,
+    Abandon, Abandon, Abandon, Abandon, Recover, Format,
+];
+const OTHERS_DEEP: [Function; 8] = [Open, Remove, Remove, Has, List, Abandon, Claim, Recover];
+
+/// A path to level 31 needs its root, three groups of two and 28 of four.
+const DEEP_NODES: u64 = 1 + 3 * 2 + 28 * 4;
+
+impl Plan {
+    pub fn draw(random: &mut Random) -> Plan {
+        match random.below(40) {
+            0 => Plan::deep(random),
+            1..=15 => Plan::growing(random),
+            _ => Plan::few(random),
+        }
+    }
+
+    /// Few frames, many operations of every kind.
+    fn few(random: &mut Random) -> Plan {
+        let slots = random.between(1, 5);
+        let most = random.pick(&[4, 12, 40, 70]);
+        Plan {
+            slots,
+            nodes: random.between(1, most),
+            steps: random.pick(&[60, 300, 1000]),
+            crash: random.pick(&[8, 24, 100]),
+            every_moment: true,
+            mixtures: 256,
+            other: random.pick(&[2, 6, 40]),
+            others: &OTHERS,
+            reels: [u64::MAX, 0, 7, 8, 9, 10, 11][..slots as usize + 2].to_vec(),
+            frames: Frames::Few { bound: random.pick(&[4, 30, 200]), shift: random.pick(&[0, 0, 0, 1, 3, 20, 57]) },
+        }
+    }
+
+    /// More frames than a root holds, few of which go.
+    fn growing(random: &mut Random) -> Plan {
+        Plan {
+            slots: random.between(1, 2),
+            nodes: random.between(1, 30),
+            steps: 1200,
+            crash: 100,
+            every_moment: true,
+            mixtures: 16,
+            other: 60,
+            others: &OTHERS,
+            reels: vec![7, 8],
+            frames: Frames::Few { bound: 10_000, shift: random.pick(&[0, 3]) },
+        }
+    }
+
+    /// Down to level 31.
+    fn deep(random: &mut Random) -> Plan {
+        Plan {
+            slots: random.between(1, 2),
+            nodes: random.between(DEEP_NODES, DEEP_NODES + 12),
+            steps: 7800,
+            crash: 1000,
+            every_moment: false,
+            mixtures: 8,
+            other: 30,
+            others: &OTHERS_DEEP,
+            reels: vec![0],
+            frames: Frames::Deep { target: random.word() },
+        }
+    }
+
+    pub fn call(&self, random: &mut Random, table: &Table) -> Call {
+        let head = if random.one_in(60) { random.odd_word(&[HEADS]) } else { some_head(random, table) };
+        let reel = self.reel(random, table);
+        let function = self.function(random, table, head);
+        let frame = self.frame(random, table, reel);
+        let held = table.reels.get(&reel).and_then(|frames| frames.range(frame..).next());
+        let frame = match held {
+            Some(&held) if matches!(function, Remove | Has) && random.one_in(2) => held,
+            _ => frame,
+        };
+        Call { function, slots: table.slots, nodes: table.nodes, head, reel, frame }
+    }
+
+    /// Mostly an open reel, the lower ones more often, so that they grow.
+    fn reel(&self, random: &mut Random, table: &Table) -> u64 {
+        let count = table.reels.len() as u64;
+        if count == 0 || random.one_in(6) {
+            return random.pick(&self.reels);
+        }
+        let nth = random.below(count).min(random.below(count));
+        table.reels.keys().nth(nth as usize).copied().unwrap_or(0)
+    }
+
+    fn function(&self, random: &mut Random, table: &Table, head: u64) -> Function {
+        if table.reels.is_empty() {
+            return Open;
+        }
+        if random.one_in(self.other) {
+            return random.pick(self.others);
+        }
+        match table.heads.get(head as usize) {
+            Some(Head::Claimed { .. }) => Fill,
+            Some(Head::Filled { .. }) => Commit,
+            Some(Head::Idle) => Claim,
+            None => random.pick(&[Claim, Fill, Commit, Abandon]),
+        }
+    }
+
+    fn frame(&self, random: &mut Random, table: &Table, reel: u64) -> u64 {
+        match self.frames {
+            Frames::Few { .. } if random.one_in(60) => random.word(),
+            Frames::Few { bound, shift } => random.below(bound) << shift,
+            Frames::Deep { target } => {
+                // Every 64 frames fill a node of the path, and the next ones have to agree with it one level further.
+                let held = table.reels.get(&reel).map_or(0, |frames| frames.len() as u64);
+                let bits = path_bits((held / PLACES).min(LAST_LEVEL));
+                target & ((1 << bits) - 1) | random.word() << bits
+            }
+        }
+    }
+}
+
+/// A head that is under way, mostly.
+fn some_head(random: &mut Random, table: &Table) -> u64 {
+    let under_way = table.heads.iter().position(|&head| head != Head::Idle);
+    match under_way {
+        Some(head) if !random.one_in(4) => head as u64,
+        _ => random.below(HEADS),
+    }
+}

@@ -1,0 +1,70 @@
+//! What a difference looks like in print.
+use crate::model::call::{Call, Function, Lent};
+use crate::model::image::*;
+use crate::model::table::Reels;
+
+const SHOWN: usize = 16;
+
+/// The call with those numbers that it has.
+pub fn describe(call: &Call) -> String {
+    use Function::*;
+    let name = call.function.name();
+    match call.function {
+        Format => format!("{} slots={} nodes={}", name, call.slots, call.nodes),
+        Recover | Apply => name,
+        Open | List | Retire => format!("{} reel={}", name, call.reel),
+        Claim => format!("{} head={} reel={} frame={}", name, call.head, call.reel, call.frame),
+        Fill | Commit | Abandon => format!("{} head={}", name, call.head),
+        Remove | Has => format!("{} reel={} frame={}", name, call.reel, call.frame),
+    }
+}
+
+/// Which word of which slot or node an index of the image is.
+fn part(image: &[u64], index: usize) -> String {
+    let index = index as u64;
+    let slots = image.get(1).copied().unwrap_or(0);
+    if index < HEADER_WORDS || slots > MAX_SLOTS {
+        String::new()
+    } else if index < slot_index(slots) {
+        format!(" (slot {} word {})", (index - HEADER_WORDS) / SLOT_WORDS, (index - HEADER_WORDS) % SLOT_WORDS)
+    } else {
+        let within = index - slot_index(slots);
+        format!(" (node {} word {})", within / NODE_WORDS, within % NODE_WORDS)
+    }
+}
+
+/// The call, what it was lent, and where answer, count and buffers are not as expected.
+pub fn difference(call: &Call, heads: &[u64], expected: ((u64, u64), &Lent), found: ((u64, u64), &Lent)) -> String {
+    let mut lines = vec![describe(call)];
+    let lengths = found.1.named().map(|(name, buffer)| format!("{} {}", name, buffer.len()));
+    let header = found.1.image.iter().take(3).collect::<Vec<_>>();
+    lines.push(format!("words: {}; image begins {:?}; heads were {:x?}", lengths.join(", "), header, heads));
+    lines.push(format!("expected answer {}, count {}", expected.0 .0, expected.0 .1));
+    lines.push(format!("found answer {}, count {}", found.0 .0, found.0 .1));
+    for ((name, a), (_, b)) in expected.1.named().into_iter().zip(found.1.named()) {
+        if !b.guards_hold() {
+            lines.push(format!("{}: words outside are written", name));
+        }
+        for index in (0..a.len()).filter(|&index| a[index] != b[index]).take(SHOWN) {
+            let part = if name == "image" { part(a, index) } else { String::new() };
+            lines.push(format!("{}[{}]{}: expected {:#x}, found {:#x}", name, index, part, a[index], b[index]));
+        }
+    }
+    lines.join("\n")
+}
+
+/// What the image lacks of the table, and what it has besides.
+pub fn reels_differ(table: &Reels, image: &Reels) -> String {
+    let less = |a: &Reels, b: &Reels| {
+        let mut lines = Vec::new();
+        for (reel, frames) in a {
+            match b.get(reel) {
+                None => lines.push(format!("reel {}", reel)),
+                Some(others) => lines.extend(frames.difference(others).map(|frame| format!("reel {} frame {}", reel, frame))),
+            }
+        }
+        lines.truncate(SHOWN);
+        lines.join(", ")
+    };
+    format!("the image lacks [{}], it has besides [{}]", less(table, image), less(image, table))
+}

@@ -1,0 +1,205 @@
+//! Images built word by word: sound trees of every depth and fullness, and chains down to level 31 in a small pool.
+use crate::model::buffer::Buffer;
+use crate::model::image::*;
+use crate::model::node::*;
+use crate::random::Random;
+use std::collections::HashSet;
+
+/// An image with the map of the nodes that its trees use.
+pub struct Built {
+    pub image: Buffer,
+    pub map: Buffer,
+    pub slots: u64,
+    pub nodes: u64,
+}
+
+#[derive(Clone, Copy)]
+enum Fill {
+    Empty,
+    Sparse,
+    Dense,
+    Full,
+}
+
+/// The locate word beside a set word: every place wanted taken, as the set word, with more bits, or any.
+#[derive(Clone, Copy)]
+enum Locate {
+    Wanted,
+    Equal,
+    More,
+    Any,
+}
+
+/// A tree's plan: a path that it follows down to a depth, how full its nodes are, and the frames held so far.
+struct Plan {
+    target: u64,
+    depth: u64,
+    fill: Fill,
+    locate: Locate,
+    held: HashSet<u64>,
+}
+
+const FILLS: [Fill; 6] = [Fill::Empty, Fill::Sparse, Fill::Dense, Fill::Full, Fill::Full, Fill::Full];
+const LOCATES: [Locate; 6] = [Locate::Wanted, Locate::Wanted, Locate::Wanted, Locate::Equal, Locate::More, Locate::Any];
+
+struct Builder<'a> {
+    random: &'a mut Random,
+    words: Vec<u64>,
+    map: Vec<u64>,
+    slots: u64,
+    nodes: u64,
+}
+
+pub fn build(random: &mut Random) -> Built {
+    let chain = random.one_in(8);
+    let (slots, nodes) = if chain { (random.between(1, 3), random.between(35, 44)) } else { geometry(random) };
+    let stale = random.one_in(2);
+    let words = (0..image_words(slots, nodes)).map(|_| if stale { random.word() } else { 0 }).collect();
+    let map = vec![0; map_words(nodes) as usize];
+    let mut builder = Builder { random, words, map, slots, nodes };
+    builder.words[..3].copy_from_slice(&[1, slots, nodes]);
+    for slot in 0..slots {
+        builder.store(slot_index(slot) + 1, 0);
+    }
+    if chain {
+        builder.chain();
+    } else {
+        builder.trees();
+    }
+    Built { image: Buffer::of(builder.words), map: Buffer::of(builder.map), slots, nodes }
+}
+
+/// Mostly small; now and then of several map words, seldom large, and very seldom the largest.
+fn geometry(random: &mut Random) -> (u64, u64) {
+    match random.below(1 << 16) {
+        0..=2 => (MAX_SLOTS, MAX_NODES),
+        3..=31 => (random.between(1, MAX_SLOTS), random.between(1, 2000)),
+        32..=8191 => (random.between(1, 5), random.between(60, 200)),
+        8192..=32767 => (random.between(1, 5), random.between(1, 8)),
+        _ => (random.between(1, 5), random.between(1, 40)),
+    }
+}
+
+fn low_bits(word: u64, bits: u64) -> u64 {
+    word & ((1 << bits) - 1)
+}
+
+impl Builder<'_> {
+    fn store(&mut self, index: u64, value: u64) {
+        self.words[index as usize] = value;
+    }
+
+    fn plan(&mut self) -> Plan {
+        let target = if self.random.one_in(2) { 0 } else { self.random.word() };
+        let depth = self.random.pick(&[0, 0, 1, 2, 3, 4, 6, 31]);
+        Plan { target, depth, fill: self.random.pick(&FILLS), locate: self.random.pick(&LOCATES), held: HashSet::new() }
+    }
+
+    /// A tree for most of the slots, or for some of many, as long as the pool lasts.
+    fn trees(&mut self) {
+        let mut reels = HashSet::new();
+        let many = self.slots > 64;
+        for slot in 0..self.slots.min(64) {
+            let slot = if many { self.random.below(self.slots) } else { slot };
+            let reel = if self.random.one_in(2) { slot } else { self.random.odd_word(&[7]) };
+            if self.random.one_in(4) || !reels.insert(reel) {
+                continue;
+            }
+            if let Some(root) = self.take(1) {
+                self.store(slot_index(slot), reel);
+                self.store(slot_index(slot) + 1, root + 1);
+                let mut plan = self.plan();
+                self.grow(root, 0, 0, &mut plan);
+            }
+        }
+    }
+
+    /// The first of adjacent free nodes: the lowest ones, or those after a random node.
+    fn take(&mut self, count: u64) -> Option<u64> {
+        let from = if self.random.one_in(2) { self.random.below(self.nodes) } else { 0 };
+        let free = |first: u64| first + count <= self.nodes && (first..first + count).all(|node| !is_used(&self.map, node));
+        let first = (from..self.nodes).find(|&first| free(first))?;
+        (first..first + count).for_each(|node| mark_used(&mut self.map, node));
+        Some(first)
+    }
+
+    /// A node and the subtree below it; `prefix` has the low bits of the frames that come by here.
+    fn grow(&mut self, number: u64, level: u64, prefix: u64, plan: &mut Plan) {
+        let on_target = prefix == low_bits(plan.target, path_bits(level));
+        let size = if level == 0 && plan.depth == 0 { self.random.pick(&[16, 32, 64]) } else { 64 };
+        self.node(number, level, size, prefix, plan);
+        let grows = if on_target { level < plan.depth } else { self.random.one_in(12) };
+        if size < 64 || level == LAST_LEVEL || !grows {
+            return;
+        }
+        if let Some(first) = self.take(children(level)) {
+            self.store(node_index(self.slots, number) + NEXT, first + 1);
+            let target = child(level, plan.target);
+            // The child on the target path first: the pool may not last for all.
+            let others = (0..children(level)).filter(|&step| step != target);
+            for step in std::iter::once(target).chain(others) {
+                self.grow(first + step, level + 1, prefix | step << path_bits(level), plan);
+            }
+        }
+    }
+
+    /// A path down to level 31 or near it in few nodes: groups of children overlap, which the operations on a path do not see.
+    fn chain(&mut self) {
+        let mut plan = self.plan();
+        plan.depth = self.random.pick(&[4, 12, 29, 30, 30, LAST_LEVEL, LAST_LEVEL, LAST_LEVEL]);
+        let slot = self.random.below(self.slots);
+        self.store(slot_index(slot), 7);
+        self.store(slot_index(slot) + 1, 1);
+        plan.fill = Fill::Full;
+        for level in 0..=plan.depth {
+            self.node(level, level, 64, low_bits(plan.target, path_bits(level)), &mut plan);
+            mark_used(&mut self.map, level);
+            // Level 31 has no children; now and then they are there all the same.
+            if level < plan.depth || level == LAST_LEVEL && self.random.one_in(8) {
+                self.store(node_index(self.slots, level) + NEXT, level + 2 - child(level, plan.target));
+            }
+        }
+    }
+
+    /// One node without children, its held frames on their path, each once in its reel.
+    fn node(&mut self, number: u64, level: u64, size: u64, prefix: u64, plan: &mut Plan) {
+        let at = node_index(self.slots, number);
+        let mask = if size == 64 { u64::MAX } else { (1 << size) - 1 };
+        let fill = if self.random.one_in(100) { self.random.pick(&FILLS) } else { plan.fill };
+        let wanted = match fill {
+            Fill::Empty => 0,
+            Fill::Sparse => self.random.word() & self.random.word() & self.random.word(),
+            Fill::Dense => self.random.word() | self.random.word(),
+            Fill::Full => u64::MAX,
+        } & mask;
+        let mut set = 0;
+        for place in (0..PLACES).filter(|place| wanted >> place & 1 == 1) {
+            let frame = self.frame(prefix, path_bits(level));
+            self.place(at, place, frame);
+            set |= u64::from(plan.held.insert(frame)) << place;
+        }
+        let locate = match plan.locate {
+            Locate::Wanted => wanted,
+            Locate::Equal => set,
+            Locate::More => set | self.random.word() & mask,
+            Locate::Any => self.random.word() & mask,
+        };
+        for (word, value) in [(NEXT, 0), (LOCATE, locate), (SET, set), (LEVEL_AT, level), (SIZE_AT, size)] {
+            self.store(at + word, value);
+        }
+    }
+
+    /// A frame with its fingerprint.
+    fn place(&mut self, at: u64, place: u64, frame: u64) {
+        let index = at + FINGERPRINTS + place / 8;
+        let prints = with_byte(self.words[index as usize], place % 8, fingerprint(frame));
+        self.store(index, prints);
+        self.store(at + FRAMES + place, frame);
+    }
+
+    /// A frame with these low bits.
+    fn frame(&mut self, prefix: u64, bits: u64) -> u64 {
+        let rest = if self.random.one_in(3) { self.random.below(100) } else { self.random.word() };
+        prefix | rest << bits
+    }
+}

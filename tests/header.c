@@ -1,0 +1,212 @@
+/* include/reelbook.h against the library: every constant by what the library does. Valid as C99 and as C++11. */
+#include "book.h"
+
+#include <stdio.h>
+#include <stdlib.h>
+#include <string.h>
+
+enum { REELS = 3, NODES = 24 };
+
+/* The answer of a format with these lengths. */
+static uint64_t format_answer(size_t image_words, size_t map_words, uint64_t slots, uint64_t nodes) {
+    uint64_t heads[REELBOOK_HEADS_WORDS];
+    uint64_t *image = zeroed(image_words), *map = zeroed(map_words);
+    uint64_t answer = reelbook_format(image, image_words, map, map_words, heads, slots, nodes);
+    free(image);
+    free(map);
+    return answer;
+}
+
+static void check_sizes(void) {
+    static const uint64_t sizes[][2] = {{1, 1}, {3, 63}, {3, 64}, {3, 65}, {200, 129}};
+    size_t i;
+    for (i = 0; i < sizeof sizes / sizeof sizes[0]; i++) {
+        uint64_t slots = sizes[i][0], nodes = sizes[i][1];
+        size_t image = reelbook_image_words(slots, nodes), map = reelbook_map_words(nodes);
+        equal(format_answer(image, map, slots, nodes), REELBOOK_DONE, "format with reelbook_image_words and reelbook_map_words");
+        equal(format_answer(image - 1, map, slots, nodes), REELBOOK_BAD_IMAGE, "format with an image one word short");
+        equal(format_answer(image + 1, map, slots, nodes), REELBOOK_BAD_IMAGE, "format with an image one word long");
+        equal(format_answer(image, map - 1, slots, nodes), REELBOOK_BAD_BUFFER, "format with a map one word short");
+        equal(format_answer(image, map + 1, slots, nodes), REELBOOK_BAD_BUFFER, "format with a map one word long");
+    }
+}
+
+static uint64_t format_exact(uint64_t slots, uint64_t nodes) {
+    return format_answer(reelbook_image_words(slots, nodes), reelbook_map_words(nodes), slots, nodes);
+}
+
+static void check_maxima(void) {
+    equal(format_exact(0, 1), REELBOOK_BAD_IMAGE, "format without slots");
+    equal(format_exact(1, 0), REELBOOK_BAD_IMAGE, "format without nodes");
+    equal(format_exact(REELBOOK_MAX_SLOTS, 1), REELBOOK_DONE, "format with REELBOOK_MAX_SLOTS");
+    equal(format_exact(REELBOOK_MAX_SLOTS + 1, 1), REELBOOK_BAD_IMAGE, "format with one slot more");
+    equal(format_exact(1, REELBOOK_MAX_NODES), REELBOOK_DONE, "format with REELBOOK_MAX_NODES");
+    equal(format_exact(1, REELBOOK_MAX_NODES + 1), REELBOOK_BAD_IMAGE, "format with one node more");
+}
+
+static void check_header_words(void) {
+    struct book b;
+    uint64_t word;
+    book_format(&b, REELS, NODES);
+    equal(b.image[REELBOOK_EDITION_AT], REELBOOK_EDITION, "REELBOOK_EDITION_AT");
+    equal(b.image[REELBOOK_SLOTS_AT], REELS, "REELBOOK_SLOTS_AT");
+    equal(b.image[REELBOOK_NODES_AT], NODES, "REELBOOK_NODES_AT");
+    for (word = REELBOOK_NODES_AT + 1; word < REELBOOK_HEADER_WORDS; word++) {
+        equal(b.image[word], 0, "the header's other words");
+    }
+    book_free(&b);
+}
+
+/* Reel 7 has a branch-out of two, so that reel 9 has slot 2 and node 4; then frame 1005 gets place 5. */
+static void make_tree(struct book *b) {
+    book_format(b, REELS, NODES);
+    equal(book_open(b, 7), REELBOOK_DONE, "open");
+    book_add(b, 7, 0, 1, 65);
+    equal(book_open(b, 8), REELBOOK_DONE, "open");
+    equal(book_open(b, 9), REELBOOK_DONE, "open");
+    book_add(b, 9, 1000, 1, 5);
+}
+
+static void check_records(void) {
+    struct book b;
+    uint64_t word;
+    make_tree(&b);
+    equal(book_claim(&b, 1, 9, 1005), REELBOOK_DONE, "claim");
+    equal(head_word(&b, 1, REELBOOK_HEAD_STATE_AT), REELBOOK_CLAIMED, "REELBOOK_CLAIMED");
+    equal(head_word(&b, 1, REELBOOK_HEAD_SLOT_AT), 2, "REELBOOK_HEAD_SLOT_AT");
+    equal(head_word(&b, 1, REELBOOK_HEAD_NODE_AT), 4, "REELBOOK_HEAD_NODE_AT");
+    equal(head_word(&b, 1, REELBOOK_HEAD_PLACE_AT), 5, "REELBOOK_HEAD_PLACE_AT");
+    equal(head_word(&b, 1, REELBOOK_HEAD_FRAME_AT), 1005, "REELBOOK_HEAD_FRAME_AT");
+    equal(book_fill(&b, 1), REELBOOK_DONE, "fill");
+    equal(head_word(&b, 1, REELBOOK_HEAD_STATE_AT), REELBOOK_FILLED, "REELBOOK_FILLED");
+    equal(book_commit(&b, 1), REELBOOK_DONE, "commit");
+    equal(head_word(&b, 1, REELBOOK_HEAD_STATE_AT), REELBOOK_IDLE, "REELBOOK_IDLE");
+    for (word = 0; word < REELBOOK_HEADS_WORDS; word++) {
+        equal(b.heads[word], 0, "an idle record");
+    }
+    equal(book_claim(&b, REELBOOK_HEADS - 1, 9, 1), REELBOOK_DONE, "claim by the last of REELBOOK_HEADS");
+    equal(book_claim(&b, REELBOOK_HEADS, 7, 1000), REELBOOK_BAD_HEAD, "claim by one head more");
+    book_free(&b);
+}
+
+static void check_tree_words(void) {
+    struct book b;
+    make_tree(&b);
+    equal(slot_word(&b, 0, REELBOOK_SLOT_REEL), 7, "REELBOOK_SLOT_REEL");
+    equal(slot_word(&b, 0, REELBOOK_SLOT_ROOT), 1, "REELBOOK_SLOT_ROOT");
+    equal(slot_word(&b, 2, REELBOOK_SLOT_REEL), 9, "REELBOOK_SLOT_REEL");
+    equal(slot_word(&b, 2, REELBOOK_SLOT_ROOT), 5, "REELBOOK_SLOT_ROOT");
+    equal(node_word(&b, 0, REELBOOK_NODE_NEXT), 2, "REELBOOK_NODE_NEXT");
+    equal(node_word(&b, 0, REELBOOK_NODE_SIZE), 64, "REELBOOK_NODE_SIZE");
+    equal(node_word(&b, 1, REELBOOK_NODE_LEVEL), 1, "REELBOOK_NODE_LEVEL");
+    equal(node_word(&b, 4, REELBOOK_NODE_SIZE), 16, "REELBOOK_NODE_SIZE");
+    equal(node_word(&b, 0, REELBOOK_NODE_FRAMES + 63), 63, "REELBOOK_NODE_FRAMES");
+    equal(node_word(&b, 1, REELBOOK_NODE_FRAMES), 64, "REELBOOK_NODE_FRAMES");
+    /* By the specification the fingerprint of frame 0 is 144, of 1 is 113. */
+    equal(node_word(&b, 0, REELBOOK_NODE_FINGERPRINTS) & 0xffff, 144 + 256 * 113, "REELBOOK_NODE_FINGERPRINTS");
+    equal(book_claim(&b, 0, 9, 2000), REELBOOK_DONE, "claim");
+    equal(node_word(&b, 4, REELBOOK_NODE_LOCATE), 0x3f, "REELBOOK_NODE_LOCATE");
+    equal(node_word(&b, 4, REELBOOK_NODE_SET), 0x1f, "REELBOOK_NODE_SET");
+    book_free(&b);
+}
+
+static void check_script(void) {
+    struct book b;
+    uint64_t *shorter = zeroed(REELBOOK_SCRIPT_WORDS - 1);
+    book_format(&b, REELS, NODES);
+    equal(reelbook_open(b.image, b.image_words, b.map, b.map_words, shorter, REELBOOK_SCRIPT_WORDS - 1, 7, &b.used),
+          REELBOOK_BAD_BUFFER, "open with a script one word short");
+    equal(book_open(&b, 7), REELBOOK_DONE, "open with REELBOOK_SCRIPT_WORDS");
+    equal(b.script[b.used - 2], REELBOOK_BARRIER, "REELBOOK_BARRIER");
+    equal(b.script[b.used - 1], 0, "a barrier's value");
+    equal(reelbook_apply(b.image, b.image_words, b.script, (size_t)b.used), REELBOOK_DONE, "apply");
+    b.script[b.used - 1] = 1;
+    equal(reelbook_apply(b.image, b.image_words, b.script, (size_t)b.used), REELBOOK_BAD_BUFFER, "apply: barrier with a value");
+    /* Multiples of 8 agree in three bits and fill levels 0 to 3; the next one branches out to four children. */
+    book_add(&b, 7, 0, 8, 256);
+    equal(book_claim(&b, 0, 7, 8 * 256), REELBOOK_DONE, "claim with a branch-out of four");
+    equal(b.used, REELBOOK_SCRIPT_WORDS, "the longest script");
+    free(shorter);
+    book_free(&b);
+}
+
+static void check_refusals_of_open(void) {
+    struct book b;
+    book_format(&b, REELS, NODES);
+    equal(book_open(&b, 7), REELBOOK_DONE, "open");
+    equal(book_open(&b, 7), REELBOOK_ALREADY_OPEN, "REELBOOK_ALREADY_OPEN");
+    equal(book_open(&b, 8), REELBOOK_DONE, "open");
+    equal(book_open(&b, 9), REELBOOK_DONE, "open");
+    equal(book_open(&b, 10), REELBOOK_NO_SLOT, "REELBOOK_NO_SLOT");
+    equal(book_retire(&b, 9), REELBOOK_DONE, "retire");
+    memset(b.map, 0xff, b.map_words * sizeof *b.map);
+    equal(book_open(&b, 9), REELBOOK_NO_RUN, "REELBOOK_NO_RUN");
+    book_free(&b);
+}
+
+static void check_refusals_of_heads(void) {
+    struct book b;
+    make_tree(&b);
+    equal(book_claim(&b, 0, 10, 1), REELBOOK_NO_REEL, "REELBOOK_NO_REEL");
+    equal(book_claim(&b, 0, 7, 1), REELBOOK_FRAME_HELD, "REELBOOK_FRAME_HELD");
+    equal(book_fill(&b, 0), REELBOOK_HEAD_STATE, "REELBOOK_HEAD_STATE");
+    equal(book_claim(&b, 0, 7, 100), REELBOOK_DONE, "claim");
+    equal(book_claim(&b, 0, 8, 100), REELBOOK_HEAD_STATE, "REELBOOK_HEAD_STATE");
+    equal(book_claim(&b, 1, 7, 101), REELBOOK_BUSY, "REELBOOK_BUSY");
+    equal(book_remove(&b, 7, 1), REELBOOK_BUSY, "REELBOOK_BUSY");
+    equal(book_retire(&b, 7), REELBOOK_BUSY, "REELBOOK_BUSY");
+    equal(book_abandon(&b, 0), REELBOOK_DONE, "abandon");
+    equal(book_abandon(&b, 2), REELBOOK_BAD_HEAD, "REELBOOK_BAD_HEAD");
+    book_free(&b);
+}
+
+static void check_refusals_of_frames(void) {
+    struct book b;
+    make_tree(&b);
+    equal(book_remove(&b, 7, 65), REELBOOK_NOT_HELD, "REELBOOK_NOT_HELD");
+    equal(book_remove(&b, 7, 64), REELBOOK_DONE, "remove");
+    equal(book_list(&b, 63, 7), REELBOOK_LIST_SHORT, "REELBOOK_LIST_SHORT");
+    equal(b.count, 0, "the count of a refused list");
+    equal(book_list(&b, 64, 7), REELBOOK_DONE, "list");
+    equal(b.count, 64, "the count of a list");
+    equal(reelbook_has(b.image, b.image_words, 7, 63, &b.count), REELBOOK_DONE, "has");
+    equal(b.count, 1, "yes of has");
+    equal(reelbook_has(b.image, b.image_words, 7, 64, &b.count), REELBOOK_DONE, "has");
+    equal(b.count, 0, "no of has");
+    book_free(&b);
+}
+
+static void check_refusals_of_images(void) {
+    struct book b;
+    make_tree(&b);
+    equal(book_recover(&b), REELBOOK_DONE, "recover");
+    equal(book_list(&b, LIST_WORDS, 7), REELBOOK_DONE, "list");
+    b.image[REELBOOK_EDITION_AT] = REELBOOK_EDITION + 1;
+    equal(book_list(&b, LIST_WORDS, 7), REELBOOK_BAD_EDITION, "REELBOOK_BAD_EDITION");
+    b.image[REELBOOK_EDITION_AT] = REELBOOK_EDITION;
+    b.image[REELBOOK_NODES_AT]--;
+    equal(book_list(&b, LIST_WORDS, 7), REELBOOK_BAD_IMAGE, "REELBOOK_BAD_IMAGE");
+    b.image[REELBOOK_NODES_AT]++;
+    b.map_words++;
+    equal(book_list(&b, LIST_WORDS, 7), REELBOOK_BAD_BUFFER, "REELBOOK_BAD_BUFFER");
+    b.map_words--;
+    b.image[node_index(&b, 0, REELBOOK_NODE_LEVEL)] = 1;
+    equal(book_list(&b, LIST_WORDS, 7), REELBOOK_MALFORMED, "REELBOOK_MALFORMED");
+    equal(book_recover(&b), REELBOOK_MALFORMED, "REELBOOK_MALFORMED");
+    book_free(&b);
+}
+
+int main(void) {
+    check_sizes();
+    check_maxima();
+    check_header_words();
+    check_records();
+    check_tree_words();
+    check_script();
+    check_refusals_of_open();
+    check_refusals_of_heads();
+    check_refusals_of_frames();
+    check_refusals_of_images();
+    printf("header: %u checks, %u failures\n", checks, failures);
+    return failures != 0;
+}

@@ -1,0 +1,96 @@
+//! A call: the function, its numbers, and what it is lent.
+use super::buffer::Buffer;
+
+#[derive(Clone, Copy, PartialEq, Eq, PartialOrd, Ord, Debug)]
+pub enum Function {
+    Format,
+    Recover,
+    Open,
+    Claim,
+    Fill,
+    Commit,
+    Abandon,
+    Remove,
+    Has,
+    List,
+    Retire,
+    Apply,
+}
+
+impl Function {
+    pub const ALL: [Function; 12] = [
+        Function::Format,
+        Function::Recover,
+        Function::Open,
+        Function::Claim,
+        Function::Fill,
+        Function::Commit,
+        Function::Abandon,
+        Function::Remove,
+        Function::Has,
+        Function::List,
+        Function::Retire,
+        Function::Apply,
+    ];
+
+    pub fn name(self) -> String {
+        format!("{:?}", self).to_lowercase()
+    }
+}
+
+/// Each function reads those of the numbers that it has.
+#[derive(Clone, Copy, Debug)]
+pub struct Call {
+    pub function: Function,
+    pub slots: u64,
+    pub nodes: u64,
+    pub head: u64,
+    pub reel: u64,
+    pub frame: u64,
+}
+
+/// Every buffer there is; a function is lent those that it has.
+#[derive(PartialEq, Eq)]
+pub struct Lent {
+    pub image: Buffer,
+    pub map: Buffer,
+    pub heads: Buffer,
+    pub script: Buffer,
+    pub scratch: Buffer,
+    pub list: Buffer,
+}
+
+impl Lent {
+    pub fn named(&self) -> [(&'static str, &Buffer); 6] {
+        [
+            ("image", &self.image),
+            ("map", &self.map),
+            ("heads", &self.heads),
+            ("script", &self.script),
+            ("scratch", &self.scratch),
+            ("list", &self.list),
+        ]
+    }
+}
+
+impl Clone for Lent {
+    fn clone(&self) -> Lent {
+        Lent {
+            image: self.image.clone(),
+            map: self.map.clone(),
+            heads: self.heads.clone(),
+            script: self.script.clone(),
+            scratch: self.scratch.clone(),
+            list: self.list.clone(),
+        }
+    }
+
+    fn clone_from(&mut self, other: &Lent) {
+        self.image.clone_from(&other.image);
+        self.map.clone_from(&other.map);
+        self.heads.clone_from(&other.heads);
+        self.script.clone_from(&other.script);
+        self.scratch.clone_from(&other.scratch);
+        self.list.clone_from(&other.list);
+    }
+}

@@ -1,0 +1,78 @@
+//! The ways in which a call can end: its answer, and the shape of the case, by which the fuzzing knows what it has reached.
+
+#[derive(Clone, Copy, PartialEq, Eq, PartialOrd, Ord, Debug)]
+pub struct Ending {
+    pub answer: u64,
+    pub shape: &'static str,
+}
+
+const fn ending(answer: u64, shape: &'static str) -> Ending {
+    Ending { answer, shape }
+}
+
+pub const DONE: Ending = ending(0, "done");
+pub const LOCATE_EQUAL: Ending = ending(0, "no locate word differs");
+pub const LOCATE_SET: Ending = ending(0, "locate words differ");
+pub const CLEAR_ROOT: Ending = ending(0, "clear place in the root");
+pub const CLEAR_BELOW: Ending = ending(0, "clear place below the root");
+pub const DOUBLED_32: Ending = ending(0, "size 32");
+pub const DOUBLED_64: Ending = ending(0, "size 64");
+pub const BRANCHED_2: Ending = ending(0, "branch-out of 2");
+pub const BRANCHED_4: Ending = ending(0, "branch-out of 4");
+pub const BRANCHED_LAST: Ending = ending(0, "branch-out to level 31");
+pub const ABANDONED_CLAIMED: Ending = ending(0, "claimed head");
+pub const ABANDONED_FILLED: Ending = ending(0, "filled head");
+pub const REMOVED_ROOT: Ending = ending(0, "in the root");
+pub const REMOVED_BELOW: Ending = ending(0, "below the root");
+pub const HAS_NO: Ending = ending(0, "no");
+pub const HAS_YES: Ending = ending(0, "yes");
+pub const TREE_EMPTY: Ending = ending(0, "no frame");
+pub const TREE_ROOT: Ending = ending(0, "frames in one node");
+pub const TREE_DEEP: Ending = ending(0, "several nodes");
+pub const STORES_NONE: Ending = ending(0, "no store");
+pub const STORES_HEADER: Ending = ending(0, "store to the header");
+pub const STORES: Ending = ending(0, "stores");
+
+pub const TOO_SHORT: Ending = ending(1, "too short for its header");
+pub const SLOTS: Ending = ending(1, "number of slots");
+pub const NODES: Ending = ending(1, "number of nodes");
+pub const LENGTH: Ending = ending(1, "length");
+pub const EDITION: Ending = ending(2, "edition");
+pub const MAP_LENGTH: Ending = ending(3, "map's length");
+pub const SCRATCH_LENGTH: Ending = ending(3, "scratch's length");
+pub const SCRIPT_LENGTH: Ending = ending(3, "script too short");
+pub const SCRIPT_ODD: Ending = ending(3, "script of odd length");
+pub const BARRIER_VALUE: Ending = ending(3, "barrier with a value");
+pub const STORE_OUTSIDE: Ending = ending(3, "store outside");
+
+pub const OUTSIDE: Ending = ending(4, "node outside the pool");
+pub const LEVEL: Ending = ending(4, "level is not the depth");
+pub const SIZE: Ending = ending(4, "size not allowed");
+pub const LOCATE_ABOVE: Ending = ending(4, "locate bit above the size");
+pub const SET_ABOVE: Ending = ending(4, "set bit above the size");
+pub const NEXT_SMALL: Ending = ending(4, "next below size 64");
+pub const NEXT_LAST: Ending = ending(4, "next at level 31");
+pub const CHILDREN_OUTSIDE: Ending = ending(4, "children past the pool");
+pub const LAST_FULL: Ending = ending(4, "full to level 31");
+pub const HEAD_NODE: Ending = ending(4, "head's node outside");
+pub const HEAD_PLACE: Ending = ending(4, "head's place outside");
+pub const REACHED_TWICE: Ending = ending(4, "node reached twice");
+pub const REEL_TWICE: Ending = ending(4, "reel in two slots");
+pub const OFF_PATH: Ending = ending(4, "frame off its path");
+pub const HELD_TWICE: Ending = ending(4, "frame held twice");
+pub const FINGERPRINT: Ending = ending(4, "wrong fingerprint");
+
+pub const NO_REEL: Ending = ending(5, "no such reel");
+pub const ALREADY_OPEN: Ending = ending(6, "reel already open");
+pub const NO_SLOT: Ending = ending(7, "no empty slot");
+pub const NO_NODE: Ending = ending(8, "no free node");
+pub const TOO_FEW: Ending = ending(8, "too few free nodes");
+pub const NO_RUN: Ending = ending(8, "free nodes but no run");
+pub const HELD: Ending = ending(9, "frame held");
+pub const NOT_HELD: Ending = ending(10, "frame not held");
+pub const HEAD_NUMBER: Ending = ending(11, "head number");
+pub const HEAD_IDLE: Ending = ending(12, "head idle");
+pub const HEAD_CLAIMED: Ending = ending(12, "head claimed");
+pub const HEAD_FILLED: Ending = ending(12, "head filled");
+pub const BUSY: Ending = ending(13, "reel busy");
+pub const LIST_SHORT: Ending = ending(14, "list short");

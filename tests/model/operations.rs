@@ -1,0 +1,282 @@
+//! The twelve functions: answer, count, script and every buffer at the end, over any contents, numbers and lengths.
+//! Refusals come by `?`, in the specification's sequence, before anything is written.
+use super::call::{Call, Function, Lent};
+use super::claim::claim;
+use super::ending::*;
+use super::fault::Fault;
+use super::image::*;
+use super::node::*;
+use super::script::{self, Entry, BARRIER, SCRIPT_WORDS};
+use super::tree::{self, Reached};
+use std::collections::HashSet;
+
+/// How a call ended, and what it handed back: words of script, frames listed, or Has's yes or no. A refusal hands back 0.
+pub struct Outcome {
+    pub ending: Ending,
+    pub count: u64,
+}
+
+pub type Ended = Result<(Ending, u64), Ending>;
+
+pub fn perform(call: &Call, lent: &mut Lent, fault: Fault) -> Outcome {
+    let ended = match call.function {
+        Function::Format => format(call, lent, fault),
+        Function::Recover => recover(lent, fault),
+        Function::Open => open(call, lent, fault),
+        Function::Claim => claim(call, lent, fault),
+        Function::Fill => fill(call, lent, fault),
+        Function::Commit => commit(call, lent, fault),
+        Function::Abandon => abandon(call, lent, fault),
+        Function::Remove => remove(call, lent, fault),
+        Function::Has => has(call, lent, fault),
+        Function::List => list(call, lent, fault),
+        Function::Retire => retire(call, lent, fault),
+        Function::Apply => apply(lent, fault),
+    };
+    let (ending, count) = ended.unwrap_or_else(|refusal| (refusal, 0));
+    Outcome { ending, count }
+}
+
+/// Refusals 1 and 2.
+pub fn check_image(words: &[u64], fault: Fault) -> Result<Image<'_>, Ending> {
+    let image = Image::read(words, fault)?;
+    check(words[0] == 1, EDITION)?;
+    Ok(image)
+}
+
+pub fn check(holds: bool, refusal: Ending) -> Result<(), Ending> {
+    if holds {
+        Ok(())
+    } else {
+        Err(refusal)
+    }
+}
+
+/// Refusal 3 for a pool map.
+pub fn check_map(map: &[u64], nodes: u64) -> Result<(), Ending> {
+    check(map.len() as u64 == map_words(nodes), MAP_LENGTH)
+}
+
+fn check_scratch(scratch: &[u64], nodes: u64) -> Result<(), Ending> {
+    check(scratch.len() as u64 == map_words(nodes), SCRATCH_LENGTH)
+}
+
+pub fn check_script(script: &[u64]) -> Result<(), Ending> {
+    check(script.len() >= SCRIPT_WORDS, SCRIPT_LENGTH)
+}
+
+/// Refusal 13.
+pub fn check_busy(heads: &[u64], slot: u64, fault: Fault) -> Result<(), Ending> {
+    let idle = |head: u64| match fault {
+        Fault::AnyStateBusy => heads[head as usize * HEAD_WORDS] == 0,
+        _ => Head::read(heads, head).state == State::Idle,
+    };
+    check((0..HEADS).all(|head| idle(head) || Head::read(heads, head).slot != slot), BUSY)
+}
+
+/// Refusals 11 and 12: the head's record, if its state is one of these.
+pub fn check_head(heads: &[u64], head: u64, states: &[State]) -> Result<Head, Ending> {
+    check(head < HEADS, HEAD_NUMBER)?;
+    let record = Head::read(heads, head);
+    let refusal = match record.state {
+        State::Idle => HEAD_IDLE,
+        State::Claimed => HEAD_CLAIMED,
+        State::Filled => HEAD_FILLED,
+    };
+    check(states.contains(&record.state), refusal)?;
+    Ok(record)
+}
+
+fn format(call: &Call, lent: &mut Lent, fault: Fault) -> Ended {
+    check_length(lent.image.len(), call.slots, call.nodes, fault)?;
+    check_map(&lent.map, call.nodes)?;
+    lent.image[..HEADER_WORDS as usize].fill(0);
+    lent.image[..3].copy_from_slice(&[1, call.slots, call.nodes]);
+    for slot in 0..call.slots {
+        lent.image[slot_index(slot) as usize + 1] = 0;
+    }
+    lent.map.fill(0);
+    lent.heads.fill(0);
+    Ok((DONE, 0))
+}
+
+fn recover(lent: &mut Lent, fault: Fault) -> Ended {
+    let image = check_image(&lent.image, fault)?;
+    check_map(&lent.map, image.nodes)?;
+    let sound = image.sound();
+    if sound.is_ok() || fault != Fault::MapLeft {
+        lent.map.fill(0);
+    }
+    let reached = sound?;
+    let mut stores: Vec<Entry> = Vec::new();
+    for &number in &reached {
+        mark_used(&mut lent.map, number);
+        let node = Node::of(image, number);
+        let (from, to) = if fault == Fault::LocateTrusted { (LOCATE, SET) } else { (SET, LOCATE) };
+        if node.word(from) != node.word(to) {
+            stores.push((node.at(to), node.word(from)));
+        }
+    }
+    script::carry_out(&mut lent.image, &stores);
+    lent.heads.fill(0);
+    Ok((if stores.is_empty() { LOCATE_EQUAL } else { LOCATE_SET }, 0))
+}
+
+fn open(call: &Call, lent: &mut Lent, fault: Fault) -> Ended {
+    let image = check_image(&lent.image, fault)?;
+    check_map(&lent.map, image.nodes)?;
+    check_script(&lent.script)?;
+    let stale = fault == Fault::EmptySlotRead && (0..image.slots).any(|slot| image.reel(slot) == call.reel);
+    check(image.slot_of(call.reel).is_none() && !stale, ALREADY_OPEN)?;
+    let slot = (0..image.slots).find(|&slot| !image.filled(slot)).ok_or(NO_SLOT)?;
+    let number = free_run(&lent.map, image.nodes, 1).ok_or(NO_NODE)?;
+    let node = Node::of(image, number);
+    let mut entries: Vec<Entry> = [NEXT, LOCATE, SET, LEVEL_AT].iter().map(|&word| (node.at(word), 0)).collect();
+    entries.push((node.at(SIZE_AT), 16));
+    let (reel, root) = ((slot_index(slot), call.reel), (slot_index(slot) + 1, number + 1));
+    entries.extend(match fault {
+        Fault::RootUnordered => vec![reel, root, BARRIER],
+        Fault::ReelUnordered => vec![BARRIER, reel, root, BARRIER],
+        _ => vec![reel, BARRIER, root, BARRIER],
+    });
+    mark_used(&mut lent.map, number);
+    if fault == Fault::SpareBitsCleared && image.nodes % 64 != 0 {
+        lent.map[image.nodes as usize / 64] &= (1 << (image.nodes % 64)) - 1;
+    }
+    Ok((DONE, script::write(&mut lent.script, &entries)))
+}
+
+/// What Fill, Commit and Abandon have in common: refusals 1, 2, 3, 11, 12 and 4, then the head's record and its node.
+fn claimed<'a>(call: &Call, lent: &'a Lent, states: &[State], fault: Fault) -> Result<(Head, Node<'a>), Ending> {
+    let image = check_image(&lent.image, fault)?;
+    check_script(&lent.script)?;
+    let head = check_head(&lent.heads, call.head, states)?;
+    check(head.node < image.nodes, HEAD_NODE)?;
+    check(head.place < PLACES, HEAD_PLACE)?;
+    Ok((head, Node::of(image, head.node)))
+}
+
+fn fill(call: &Call, lent: &mut Lent, fault: Fault) -> Ended {
+    let (head, node) = claimed(call, lent, &[State::Claimed], fault)?;
+    let at = FINGERPRINTS + head.place / 8;
+    let kept = if fault == Fault::BytesLost { 0 } else { node.word(at) };
+    let prints = with_byte(kept, head.place % 8, fingerprint(head.frame));
+    let mut entries = vec![(node.at(FRAMES + head.place), head.frame), BARRIER, (node.at(at), prints), BARRIER];
+    if fault == Fault::HeldFromFill {
+        entries.extend([(node.at(SET), node.word(SET) | 1 << head.place), BARRIER]);
+    }
+    write_head(&mut lent.heads, call.head, [2, head.slot, head.node, head.place, head.frame]);
+    Ok((DONE, script::write(&mut lent.script, &entries)))
+}
+
+fn commit(call: &Call, lent: &mut Lent, fault: Fault) -> Ended {
+    let (head, node) = claimed(call, lent, &[State::Filled], fault)?;
+    let mut entries = vec![(node.at(SET), node.word(SET) | 1 << head.place), BARRIER];
+    if fault == Fault::NoLastBarrier {
+        entries.pop();
+    }
+    write_head(&mut lent.heads, call.head, [0; HEAD_WORDS]);
+    Ok((DONE, script::write(&mut lent.script, &entries)))
+}
+
+fn abandon(call: &Call, lent: &mut Lent, fault: Fault) -> Ended {
+    let (head, node) = claimed(call, lent, &[State::Claimed, State::Filled], fault)?;
+    let entries = [(node.at(LOCATE), node.word(LOCATE) & !(1 << head.place)), BARRIER];
+    write_head(&mut lent.heads, call.head, [0; HEAD_WORDS]);
+    let ending = if head.state == State::Claimed { ABANDONED_CLAIMED } else { ABANDONED_FILLED };
+    Ok((ending, script::write(&mut lent.script, &entries)))
+}
+
+fn remove(call: &Call, lent: &mut Lent, fault: Fault) -> Ended {
+    let image = check_image(&lent.image, fault)?;
+    check_script(&lent.script)?;
+    let slot = image.slot_of(call.reel).ok_or(NO_REEL)?;
+    check_busy(&lent.heads, slot, fault)?;
+    let path = image.path(image.root(slot), call.frame)?;
+    let found = match fault {
+        Fault::LastPlaceRemoved => {
+            path.iter().rev().find_map(|node| node.places_of(call.frame).last().map(|place| (*node, place)))
+        }
+        _ => tree::lookup(&path, call.frame),
+    };
+    let (node, place) = found.ok_or(NOT_HELD)?;
+    let without = |word: u64| node.word(word) & !(1 << place);
+    let locate = if fault == Fault::LocateLeft { node.word(LOCATE) } else { without(LOCATE) };
+    let entries = [(node.at(SET), without(SET)), BARRIER, (node.at(LOCATE), locate), BARRIER];
+    let ending = if node.number == path[0].number { REMOVED_ROOT } else { REMOVED_BELOW };
+    Ok((ending, script::write(&mut lent.script, &entries)))
+}
+
+fn has(call: &Call, lent: &mut Lent, fault: Fault) -> Ended {
+    let image = check_image(&lent.image, fault)?;
+    let slot = image.slot_of(call.reel).ok_or(NO_REEL)?;
+    let path = image.path(image.root(slot), call.frame)?;
+    Ok(if tree::lookup(&path, call.frame).is_some() { (HAS_YES, 1) } else { (HAS_NO, 0) })
+}
+
+fn shape(walk: &[Reached]) -> Ending {
+    if walk.len() > 1 {
+        TREE_DEEP
+    } else if tree::frames(walk).is_empty() {
+        TREE_EMPTY
+    } else {
+        TREE_ROOT
+    }
+}
+
+fn list(call: &Call, lent: &mut Lent, fault: Fault) -> Ended {
+    let image = check_image(&lent.image, fault)?;
+    check_scratch(&lent.scratch, image.nodes)?;
+    if fault != Fault::ScratchLeft {
+        lent.scratch.fill(0);
+    }
+    let slot = image.slot_of(call.reel).ok_or(NO_REEL)?;
+    lent.scratch.fill(0);
+    let walk = image.walk(image.root(slot), &mut HashSet::new())?;
+    let frames = tree::frames(&walk);
+    check(frames.len() <= lent.list.len(), LIST_SHORT)?;
+    lent.list[..frames.len()].copy_from_slice(&frames);
+    Ok((shape(&walk), frames.len() as u64))
+}
+
+fn retire(call: &Call, lent: &mut Lent, fault: Fault) -> Ended {
+    let image = check_image(&lent.image, fault)?;
+    check_map(&lent.map, image.nodes)?;
+    check_scratch(&lent.scratch, image.nodes)?;
+    check_script(&lent.script)?;
+    lent.scratch.fill(0);
+    let slot = image.slot_of(call.reel).ok_or(NO_REEL)?;
+    check_busy(&lent.heads, slot, fault)?;
+    let walk = image.walk(image.root(slot), &mut HashSet::new())?;
+    let freed = if fault == Fault::ChildrenLeft { &walk[..1] } else { &walk[..] };
+    for reached in freed {
+        mark_free(&mut lent.map, reached.node.number);
+    }
+    Ok((shape(&walk), script::write(&mut lent.script, &[(slot_index(slot) + 1, 0), BARRIER])))
+}
+
+fn apply(lent: &mut Lent, fault: Fault) -> Ended {
+    let length = Image::read(&lent.image, fault)?.words.len() as u64;
+    check(lent.script.len() % 2 == 0, SCRIPT_ODD)?;
+    let entries = script::read(&lent.script);
+    for (done, &(index, value)) in entries.iter().enumerate() {
+        if fault == Fault::AppliedInPart {
+            script::carry_out(&mut lent.image, &entries[..done]);
+        }
+        if index == BARRIER.0 {
+            check(value == BARRIER.1 || fault == Fault::BarrierWithValue, BARRIER_VALUE)?;
+        } else {
+            check(index < length, STORE_OUTSIDE)?;
+        }
+    }
+    script::carry_out(&mut lent.image, &entries);
+    let store = |least: u64, below: u64| entries.iter().any(|entry| entry.0 >= least && entry.0 < below);
+    let ending = if store(0, HEADER_WORDS) {
+        STORES_HEADER
+    } else if store(HEADER_WORDS, length) {
+        STORES
+    } else {
+        STORES_NONE
+    };
+    Ok((ending, 0))
+}

@@ -1,0 +1,192 @@
+//! The plain table of reels: what a history of operations answers, without nodes, scripts or crashes.
+//! It is fed the calls' numbers, the lengths lent, and the book's answer where that turns on nodes: 8.
+use super::call::{Call, Function, Lent};
+use super::image::{image_words, map_words, HEADS, MAX_NODES, MAX_SLOTS};
+use super::script::SCRIPT_WORDS;
+use std::collections::{BTreeMap, BTreeSet};
+
+pub type Reels = BTreeMap<u64, BTreeSet<u64>>;
+
+#[derive(Clone, Copy, PartialEq, Eq, Debug)]
+pub enum Head {
+    Idle,
+    Claimed { reel: u64, frame: u64 },
+    Filled { reel: u64, frame: u64 },
+}
+
+/// The lengths lent.
+pub struct Lengths {
+    image: u64,
+    map: u64,
+    script: u64,
+    scratch: u64,
+    list: u64,
+}
+
+impl Lengths {
+    pub fn of(lent: &Lent) -> Lengths {
+        Lengths {
+            image: lent.image.len() as u64,
+            map: lent.map.len() as u64,
+            script: lent.script.len() as u64,
+            scratch: lent.scratch.len() as u64,
+            list: lent.list.len() as u64,
+        }
+    }
+}
+
+/// What Has and List read.
+#[derive(PartialEq, Eq, Debug)]
+pub enum Value {
+    None,
+    Has(bool),
+    Frames(BTreeSet<u64>),
+}
+
+pub type Reply = Result<Value, u64>;
+
+#[derive(Clone)]
+pub struct Table {
+    pub slots: u64,
+    pub nodes: u64,
+    pub reels: Reels,
+    pub heads: [Head; HEADS as usize],
+}
+
+fn refuse(applies: bool, number: u64) -> Result<(), u64> {
+    if applies {
+        Err(number)
+    } else {
+        Ok(())
+    }
+}
+
+impl Table {
+    pub fn formatted(slots: u64, nodes: u64) -> Table {
+        Table { slots, nodes, reels: Reels::new(), heads: [Head::Idle; HEADS as usize] }
+    }
+
+    /// The value, or the refusal's number. `book` is the book's answer.
+    pub fn perform(&mut self, call: &Call, lengths: &Lengths, book: u64) -> Reply {
+        if call.function == Function::Format {
+            return self.format(call, lengths);
+        }
+        self.check_lengths(call.function, lengths)?;
+        match call.function {
+            Function::Recover => self.heads = [Head::Idle; HEADS as usize],
+            Function::Open => self.open(call.reel, book)?,
+            Function::Claim => self.claim(call, book)?,
+            Function::Fill => self.fill(call.head)?,
+            Function::Commit => self.commit(call.head)?,
+            Function::Abandon => self.abandon(call.head)?,
+            Function::Remove => self.remove(call.reel, call.frame)?,
+            Function::Has => return Ok(Value::Has(self.frames(call.reel)?.contains(&call.frame))),
+            Function::List => return self.list(call.reel, lengths.list),
+            Function::Retire => self.retire(call.reel)?,
+            Function::Format | Function::Apply => unreachable!("answered above, or no operation"),
+        }
+        Ok(Value::None)
+    }
+
+    fn format(&mut self, call: &Call, lengths: &Lengths) -> Reply {
+        let allowed = (1..=MAX_SLOTS).contains(&call.slots) && (1..=MAX_NODES).contains(&call.nodes);
+        refuse(!allowed || lengths.image != image_words(call.slots, call.nodes), 1)?;
+        refuse(lengths.map != map_words(call.nodes), 3)?;
+        *self = Table::formatted(call.slots, call.nodes);
+        Ok(Value::None)
+    }
+
+    /// Refusals 1 and 3, for what the operation is lent.
+    fn check_lengths(&self, function: Function, lengths: &Lengths) -> Result<(), u64> {
+        use Function::*;
+        refuse(lengths.image != image_words(self.slots, self.nodes), 1)?;
+        let map = matches!(function, Recover | Open | Claim | Retire);
+        refuse(map && lengths.map != map_words(self.nodes), 3)?;
+        let scratch = matches!(function, List | Retire);
+        refuse(scratch && lengths.scratch != map_words(self.nodes), 3)?;
+        let script = !matches!(function, Recover | Has | List);
+        refuse(script && lengths.script < SCRIPT_WORDS as u64, 3)
+    }
+
+    fn frames(&mut self, reel: u64) -> Result<&mut BTreeSet<u64>, u64> {
+        self.reels.get_mut(&reel).ok_or(5)
+    }
+
+    /// Refusals 5 and 13.
+    fn quiet(&mut self, reel: u64) -> Result<&mut BTreeSet<u64>, u64> {
+        let busy = self.heads.iter().any(|head| match *head {
+            Head::Idle => false,
+            Head::Claimed { reel: about, .. } | Head::Filled { reel: about, .. } => about == reel,
+        });
+        let frames = self.frames(reel)?;
+        refuse(busy, 13)?;
+        Ok(frames)
+    }
+
+    /// Refusal 11.
+    fn head(&mut self, head: u64) -> Result<&mut Head, u64> {
+        refuse(head >= HEADS, 11)?;
+        Ok(&mut self.heads[head as usize])
+    }
+
+    fn open(&mut self, reel: u64, book: u64) -> Result<(), u64> {
+        refuse(self.reels.contains_key(&reel), 6)?;
+        refuse(self.reels.len() as u64 == self.slots, 7)?;
+        refuse(book == 8, 8)?;
+        self.reels.insert(reel, BTreeSet::new());
+        Ok(())
+    }
+
+    fn claim(&mut self, call: &Call, book: u64) -> Result<(), u64> {
+        let (reel, frame) = (call.reel, call.frame);
+        refuse(*self.head(call.head)? != Head::Idle, 12)?;
+        refuse(self.quiet(reel)?.contains(&frame), 9)?;
+        refuse(book == 8, 8)?;
+        *self.head(call.head)? = Head::Claimed { reel, frame };
+        Ok(())
+    }
+
+    fn fill(&mut self, head: u64) -> Result<(), u64> {
+        let head = self.head(head)?;
+        match *head {
+            Head::Claimed { reel, frame } => *head = Head::Filled { reel, frame },
+            _ => return Err(12),
+        }
+        Ok(())
+    }
+
+    fn commit(&mut self, head: u64) -> Result<(), u64> {
+        let head = self.head(head)?;
+        match *head {
+            Head::Filled { reel, frame } => {
+                *head = Head::Idle;
+                self.frames(reel)?.insert(frame);
+            }
+            _ => return Err(12),
+        }
+        Ok(())
+    }
+
+    fn abandon(&mut self, head: u64) -> Result<(), u64> {
+        let head = self.head(head)?;
+        refuse(*head == Head::Idle, 12)?;
+        *head = Head::Idle;
+        Ok(())
+    }
+
+    fn remove(&mut self, reel: u64, frame: u64) -> Result<(), u64> {
+        refuse(!self.quiet(reel)?.remove(&frame), 10)
+    }
+
+    fn list(&mut self, reel: u64, room: u64) -> Reply {
+        let frames = self.frames(reel)?;
+        refuse(frames.len() as u64 > room, 14)?;
+        Ok(Value::Frames(frames.clone()))
+    }
+
+    fn retire(&mut self, reel: u64) -> Result<(), u64> {
+        self.quiet(reel)?;
+        self.reels.remove(&reel);
+        Ok(())
+    }
+}

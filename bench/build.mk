@@ -1,0 +1,28 @@
+# make bench: the reel book beside its floors and other stores; tables on the output and in build/bench.tsv.
+# make bench QUICK=1: the book and its floor alone. FRAMES is how many are loaded, MEMORY and DISK are folders for the files,
+# LIBRARY is another build of the library, RUN is a program to run it in, such as a profiler.
+# A store whose package is missing is left out: apt-get install libpmemobj-dev liblmdb-dev libsqlite3-dev.
+# make bench-docs: the tables and the plot of the last whole run go to docs/.
+.PHONY: bench bench-docs
+
+MEMORY ?= /dev/shm
+DISK ?= build
+FRAMES ?= 1000000
+BENCH_SOURCES = bench/bench.c bench/book.c bench/floor.c bench/work.c bench/report.c driver/medium.c driver/carry.c
+
+# Another store, by its name, header, source and library, where its header is found.
+other_store = $(if $(shell $(CC) -include $(2) -fsyntax-only -x c /dev/null 2>/dev/null && echo found), \
+    -DHAVE_$(1) bench/$(3).c -l$(4), $(info bench: no $(2), so $(1) is left out: apt-get install lib$(4)-dev))
+OTHER_STORES = $(call other_store,PMEMOBJ,libpmemobj.h,pmemobj,pmemobj) $(call other_store,LMDB,lmdb.h,lmdb,lmdb) \
+    $(call other_store,SQLITE,sqlite3.h,sqlite,sqlite3)
+
+# PMEM_IS_PMEM_FORCE: libpmemobj flushes lines, as the book does, where it would call msync.
+bench: $(LIBRARY)
+	@mkdir -p build
+	@$(CC) $(WARNINGS) $(CFLAGS) -Iinclude -Idriver -o build/benchmark $(BENCH_SOURCES) $(LIBRARY) $(OTHER_STORES)
+	@memory=$$(mktemp -d $(MEMORY)/reelbook.XXXXXX) && disk=$$(mktemp -d $(DISK)/reelbook.XXXXXX) && \
+	    trap 'rm -rf "$$memory" "$$disk"' EXIT INT TERM && \
+	    PMEM_IS_PMEM_FORCE=1 $(RUN) build/benchmark "$$memory" "$$disk" build/bench$(QUICK:%=-quick).tsv $(FRAMES) $(QUICK:%=quick)
+
+bench-docs:
+	python3 bench/publish.py build/bench.tsv docs/BENCHMARKS.md docs/benchmarks.svg

@@ -1,12 +1,13 @@
 #!/bin/sh
 # Tries the tool: its commands, its errors, damaged files, then power failures, each held against a model in plain files.
-# tests/tool.sh TOOL [SEED [ROUNDS]]
+# tests/tool.sh TOOL SHADOW [SEED [ROUNDS]], SHADOW being what shadow.c is compiled to.
 set -u
 export LC_ALL=C
 here=$(cd "$(dirname "$0")" && pwd)
 tool=$(cd "$(dirname "$1")" && pwd)/$(basename "$1")
-seed=${2:-$(date +%s)}
-rounds=${3:-400}
+shadow=$(cd "$(dirname "$2")" && pwd)/$(basename "$2")
+seed=${3:-$(date +%s)}
+rounds=${4:-400}
 parent=${TMPDIR:-/tmp}
 [ -n "${TMPDIR-}" ] || [ ! -w /dev/shm ] || parent=/dev/shm
 work=$(mktemp -d "$parent/reelbook.XXXXXX") || exit 1
@@ -322,8 +323,9 @@ try_damage() {
 }
 
 . "$here/tool-failures.sh"
+. "$here/tool-barriers.sh"
 
-for part in commands pictures help refusals arguments files reading locks damage mixtures power_failures; do
+for part in commands pictures help refusals arguments files reading locks damage mixtures power_failures barriers; do
     "try_$part"
 done
-echo "$checks checks, $failures power failures, $cuts recoveries cut short; all as they should be"
+echo "$checks checks, $failures power failures, $cuts recoveries cut short, $chains pairs of barriers; all as they should be"

@@ -126,6 +126,7 @@ uint64_t file_create(struct file *f, const char *path, int force, int *created) 
     return answer;
 }
 
+/* A directory that may not be read cannot be opened for this: then the file's own fsync has to do. */
 static int settle_name(const char *path) {
     char *copy = strdup(path);
     if (!copy)
@@ -133,7 +134,7 @@ static int settle_name(const char *path) {
     int directory = open(dirname(copy), O_RDONLY | O_CLOEXEC);
     free(copy);
     if (directory < 0)
-        return -1;
+        return errno == EACCES ? 0 : -1;
     int failed = fsync(directory) != 0 && errno != EINVAL; /* EINVAL: this file system has no need of it */
     close(directory);
     return failed;

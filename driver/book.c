@@ -11,8 +11,8 @@ static uint64_t done_unless(int failed) {
 
 /* The clean flag and the saved map, against a power failure between any two stores. Where the flag is lasting as 1, the saved map
  * is lasting and is the image's, and no place is claimed.
- *   opening   flag 1: the map is loaded; flag 0: the saved map may be torn or old and is not read. Flag 0; barrier; only then comes
- *             the first store to the image. Where the flag was 0, recovery builds the map; barrier over the image.
+ *   opening   flag 1: the map is loaded; flag 0: the saved map may be torn or old and is not read. Flag 0; barrier; only then
+ *             comes the first store to the image. Where the flag was 0, recovery builds the map; barrier over the image.
  *   working   the flag is 0, whatever happens: the next opening recovers.
  *   closing   every head is idle, every script's last barrier has passed; the map is saved; barrier; flag 1; barrier.
  * The flag is one word, so a failure leaves it 0 or 1, and while its own barrier has not passed either is right: the map is

@@ -119,8 +119,8 @@ static void on_bus_error(int signal_number) {
     _exit(1);
 }
 
-/* A book must not get the number of a closed standard stream, lest output goes to it. What takes that number fails when it is used.
- * A limit of the file size is reported. */
+/* A book must not get the number of a closed standard stream, lest output goes to it. What takes the number fails when it is
+ * used. A limit of the file size is reported. */
 static void prepare_process(void) {
     for (int fd = STDIN_FILENO; fd <= STDERR_FILENO; fd++)
         if (fcntl(fd, F_GETFD) < 0)

@@ -342,7 +342,8 @@ try_damage() {
 . "$here/tool-failures.sh"
 . "$here/tool-barriers.sh"
 
-for part in commands pictures help refusals arguments files streams reading locks recovery damage mixtures power_failures barriers; do
+for part in commands pictures help refusals arguments files streams reading locks recovery damage \
+    mixtures power_failures barriers; do
     "try_$part"
 done
 echo "$checks checks, $failures power failures, $cuts recoveries cut short, $chains pairs of barriers; all as they should be"

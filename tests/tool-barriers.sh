@@ -66,11 +66,11 @@ try_barriers() {
     chains=0 pages=0 failing=
     rm -f book disk
     on_shadow 0 format book --reels 4 --nodes 16
-    holds test "$status" = 0
     if [ ! -e disk ]; then
         echo 'tool.sh: barriers are not tried: LD_PRELOAD does not work here'
         return
     fi
+    holds test "$status" = 0
     holds cmp -s book disk
     for thing in 'open 1' 'open 2' "add 1 $(seq -s ' ' 0 63)" 'add 2 5 6'; do kill_in 0 ${thing%% *} ${thing#* }; done
     dump

@@ -11,12 +11,13 @@ static uint64_t done_unless(int failed) {
 
 /* The clean flag and the saved map, against a power failure between any two stores. Where the flag is lasting as 1, the saved map
  * is lasting and is the image's, and no place is claimed.
- *   opening   flag 1: the map is loaded; flag 0; barrier; only then comes the first store to the image.
- *             flag 0: the saved map may be torn or old and is not read; recovery builds the map; barrier over the image.
+ *   opening   flag 1: the map is loaded; flag 0: the saved map may be torn or old and is not read. Flag 0; barrier; only then
+ *             comes the first store to the image. Where the flag was 0, recovery builds the map; barrier over the image.
  *   working   the flag is 0, whatever happens: the next opening recovers.
  *   closing   every head is idle, every script's last barrier has passed; the map is saved; barrier; flag 1; barrier.
  * The flag is one word, so a failure leaves it 0 or 1, and while its own barrier has not passed either is right: the map is
- * lasting before the flag can be 1, and the image is untouched before it is 0. Where closing is left out, as after a failed
+ * lasting before the flag can be 1, and the image is untouched before it is 0. A flag that is read as 0 need not be lasting: its
+ * process may have been killed before the barrier. So opening stores it again. Where closing is left out, as after a failed
  * barrier, the next opening recovers. */
 static uint64_t set_clean_flag(struct book *b, uint64_t value) {
     medium_store(&b->medium, FILE_CLEAN_AT, value);
@@ -24,7 +25,8 @@ static uint64_t set_clean_flag(struct book *b, uint64_t value) {
 }
 
 static uint64_t begin_writing(struct book *b) {
-    memcpy(b->map, b->medium.words + b->file.map_at, b->file.map_words * sizeof *b->map);
+    if (b->file.clean)
+        memcpy(b->map, b->medium.words + b->file.map_at, b->file.map_words * sizeof *b->map);
     return set_clean_flag(b, 0);
 }
 
@@ -114,7 +116,7 @@ static uint64_t map_book(struct book *b) {
 
 /* A refused recovery has changed nothing: the flag is as it was. */
 static uint64_t prepare(struct book *b, enum book_mode mode) {
-    uint64_t answer = b->file.clean ? begin_writing(b) : REELBOOK_DONE;
+    uint64_t answer = begin_writing(b);
     if (answer != REELBOOK_DONE || (b->file.clean && mode != BOOK_RECOVER))
         return answer;
     answer = book_recover(b);

@@ -1,10 +1,11 @@
-# make tool: build/reelbook. make check-tool: tries its commands, its errors and some hundreds of power failures, and the program
-# in docs/DRIVER.md.
+# make tool: build/reelbook. make check-tool: tries its commands, its errors, some hundreds of power failures and each of its
+# barriers, and the program in docs/DRIVER.md.
 .PHONY: tool check-tool
 
 TOOL = build/reelbook
 TOOL_OBJECTS = $(patsubst driver/%.c,build/driver/%.o,$(wildcard driver/*.c))
 DRIVER_PAGE = build/driver/page
+SHADOW = build/shadow.so
 
 tool: $(TOOL)
 
@@ -20,6 +21,10 @@ $(DRIVER_PAGE): docs/DRIVER.md include/reelbook.h $(LIBRARY)
 	sed -n '/^```c$$/,/^```$$/ { /^```/ !p }' docs/DRIVER.md >$@.c
 	$(CC) $(CFLAGS) $(WARNINGS) -Iinclude -o $@ $@.c $(LIBRARY)
 
-check-tool: $(TOOL) $(DRIVER_PAGE)
+$(SHADOW): tests/shadow.c
+	@mkdir -p build
+	$(CC) $(CFLAGS) $(WARNINGS) -shared -fPIC -o $@ $< -ldl
+
+check-tool: $(TOOL) $(DRIVER_PAGE) $(SHADOW)
 	test "$$($(DRIVER_PAGE))" = 'answer 0, held'
-	sh tests/tool.sh $(TOOL)
+	sh tests/tool.sh $(TOOL) $(SHADOW)

@@ -33,21 +33,23 @@ static int open_any(const char *path, int flags) {
     return open(path, flags | O_CLOEXEC | O_NONBLOCK, 0666);
 }
 
-/* Locks a regular file and tells its length. */
+/* Locks a regular file and tells its length, which stays so while it is locked. */
 static uint64_t lock_regular(int fd, int kind, off_t *bytes) {
     struct stat status;
     if (fstat(fd, &status) != 0)
         return BOOK_SYSTEM;
-    *bytes = status.st_size;
     if (S_ISDIR(status.st_mode)) {
         errno = EISDIR;
         return BOOK_SYSTEM;
     }
     if (!S_ISREG(status.st_mode))
         return BOOK_NOT_REGULAR;
-    if (flock(fd, kind | LOCK_NB) == 0)
-        return REELBOOK_DONE;
-    return errno == EWOULDBLOCK ? BOOK_LOCKED : BOOK_SYSTEM;
+    if (flock(fd, kind | LOCK_NB) != 0)
+        return errno == EWOULDBLOCK ? BOOK_LOCKED : BOOK_SYSTEM;
+    if (fstat(fd, &status) != 0)
+        return BOOK_SYSTEM;
+    *bytes = status.st_size;
+    return REELBOOK_DONE;
 }
 
 /* 1 if the file starts with a header, whatever it says; 0 if it is too short. */
@@ -93,6 +95,15 @@ static uint64_t allocate(const struct file *f, off_t old_bytes) {
     return BOOK_SYSTEM;
 }
 
+/* Between making a file and locking it another process may make it a book: then it is one that was there. */
+static uint64_t lock_new(const struct file *f, int force, int *created, off_t *old_bytes) {
+    uint64_t answer = lock_regular(f->fd, LOCK_EX, old_bytes);
+    if (answer != REELBOOK_DONE || !*created || *old_bytes == 0)
+        return answer;
+    *created = 0;
+    return force ? REELBOOK_DONE : BOOK_EXISTS;
+}
+
 uint64_t file_create(struct file *f, const char *path, int force, int *created) {
     off_t old_bytes;
     f->fd = open_any(path, O_RDWR | O_CREAT | O_EXCL);
@@ -104,17 +115,18 @@ uint64_t file_create(struct file *f, const char *path, int force, int *created) 
     }
     if (f->fd < 0)
         return BOOK_SYSTEM;
-    uint64_t answer = lock_regular(f->fd, LOCK_EX, &old_bytes);
-    if (answer == REELBOOK_DONE)
+    uint64_t answer = lock_new(f, force, created, &old_bytes);
+    if (answer == REELBOOK_DONE) {
         answer = allocate(f, old_bytes);
-    if (answer == REELBOOK_DONE)
-        return REELBOOK_DONE;
-    if (*created)
-        unlink(path);
-    file_close(f);
+        if (answer != REELBOOK_DONE && *created)
+            unlink(path); /* only while it is locked */
+    }
+    if (answer != REELBOOK_DONE)
+        file_close(f);
     return answer;
 }
 
+/* A directory that may not be read cannot be opened for this: then the file's own fsync has to do. */
 static int settle_name(const char *path) {
     char *copy = strdup(path);
     if (!copy)
@@ -122,7 +134,7 @@ static int settle_name(const char *path) {
     int directory = open(dirname(copy), O_RDONLY | O_CLOEXEC);
     free(copy);
     if (directory < 0)
-        return -1;
+        return errno == EACCES ? 0 : -1;
     int failed = fsync(directory) != 0 && errno != EINVAL; /* EINVAL: this file system has no need of it */
     close(directory);
     return failed;

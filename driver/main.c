@@ -119,14 +119,12 @@ static void on_bus_error(int signal_number) {
     _exit(1);
 }
 
-/* A book must not get the number of a closed standard stream, lest output goes to it. A limit of the file size is reported. */
+/* A book must not get the number of a closed standard stream, lest output goes to it. What takes the number fails when it is
+ * used. A limit of the file size is reported. */
 static void prepare_process(void) {
-    int fd;
-    do
-        fd = open("/dev/null", O_RDONLY);
-    while (fd >= 0 && fd <= STDERR_FILENO);
-    if (fd >= 0)
-        close(fd);
+    for (int fd = STDIN_FILENO; fd <= STDERR_FILENO; fd++)
+        if (fcntl(fd, F_GETFD) < 0)
+            open("/dev/null", fd == STDIN_FILENO ? O_WRONLY : O_RDONLY);
     signal(SIGBUS, on_bus_error);
     signal(SIGXFSZ, SIG_IGN);
 }

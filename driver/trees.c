@@ -43,7 +43,7 @@ static void put_link(const struct panel *panel, double from, double to, double y
             end);
 }
 
-/* Draws a subtree and answers the middle of its root. */
+/* Draws a subtree in the columns of its leaves, and answers the middle of its root. */
 static double put_subtree(struct panel *panel, uint64_t number, unsigned level) {
     const uint64_t *node = book_node(panel->picture->book, number);
     unsigned children = node[REELBOOK_NODE_NEXT] ? survey_fanout(level) : 0;
@@ -53,10 +53,11 @@ static double put_subtree(struct panel *panel, uint64_t number, unsigned level) 
         middles[i] = put_subtree(panel, node[REELBOOK_NODE_NEXT] - 1 + i, level + 1);
     panel->leaves += children == 0;
     double right = panel->left + panel->column * (double)panel->leaves;
+    double width = least(BOX_WIDTH, BOX_SHARE * (right - left));
     double middle = children ? (middles[0] + middles[children - 1]) / 2 : (left + right) / 2;
+    middle = most(left + width / 2, least(middle, right - width / 2));
     for (unsigned i = 0; i < children; i++)
         put_link(panel, middle, middles[i], y + BOX_HEIGHT);
-    double width = least(BOX_WIDTH, BOX_SHARE * (right - left));
     draw_node(panel->picture, number, (struct box){middle - width / 2, y, width, BOX_HEIGHT});
     return middle;
 }

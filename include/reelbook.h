@@ -1,15 +1,16 @@
 /* The reel book: sets of 64-bit frames per reel, in a suffix bit tree in persistent memory.
  *
- * Every function takes its arguments as words. A slice is a pointer and a length in words; no buffer may overlap another, and nobody
- * else writes image, map or heads meanwhile. A function answers REELBOOK_DONE or the number of its refusal: its refusals are tried in
- * the sequence given with it, the first that applies is the answer, the count handed back is then 0, and nothing lent has changed
- * except as said. Contents and lengths may be anything: no call is out of bounds or without end.
+ * Every function takes its arguments as words. A slice is a pointer and a length in words; with length 0 the pointer may be NULL.
+ * No buffer may overlap another, and nobody else writes image, map or heads meanwhile. A function answers REELBOOK_DONE or the
+ * number of its refusal: its refusals are tried in the sequence given with it, the first that applies is the answer, the count
+ * handed back is then 0, and nothing lent has changed except as said. Contents and lengths may be anything: no call is out of
+ * bounds or without end.
  *
- * A function with a script stores nothing to the image. It writes entries of two words to the script's start and their number of words
- * to *used; the caller carries them out in their sequence before the next call: a store (word index, value) is one aligned 8-byte
- * store to that word of the image, a barrier (REELBOOK_BARRIER, 0) returns when every store before it is lasting. What the operation
- * does is lasting when its last barrier has passed; after a power failure before that, recovery finds all of it or nothing of it.
- * Map and heads have changed when the function returns, and are lost in a power failure.
+ * A function with a script stores nothing to the image. It writes entries of two words to the script's start and their number of
+ * words to *used; the caller carries them out in their sequence before the next call: a store (word index, value) is one aligned
+ * 8-byte store to that word of the image, a barrier (REELBOOK_BARRIER, 0) returns when every store before it is lasting. What the
+ * operation does is lasting when its last barrier has passed; after a power failure before that, recovery finds all of it or
+ * nothing of it. Map and heads have changed when the function returns, and are lost in a power failure.
  *
  * docs/DRIVER.md shows the whole loop. */
 #ifndef REELBOOK_H
@@ -78,32 +79,33 @@ enum {
 enum { REELBOOK_IDLE = 0, REELBOOK_CLAIMED = 1, REELBOOK_FILLED = 2 };
 #define REELBOOK_HEADS_WORDS (REELBOOK_HEADS * REELBOOK_HEAD_WORDS)
 
-/* The words of an image, for numbers within the maxima. */
+/* The words of an image, for numbers within the maxima. (SIZE_MAX instead of a cast, which C and C++ write differently.) */
 static inline size_t reelbook_image_words(uint64_t slots, uint64_t nodes) {
-    return (size_t)(REELBOOK_HEADER_WORDS + REELBOOK_SLOT_WORDS * slots + REELBOOK_NODE_WORDS * nodes);
+    return (REELBOOK_HEADER_WORDS + REELBOOK_SLOT_WORDS * slots + REELBOOK_NODE_WORDS * nodes) & SIZE_MAX;
 }
 
 /* The words of its pool map, and of a scratch map: bit n % 64 of word n / 64 is 1 if node n is used. */
 static inline size_t reelbook_map_words(uint64_t nodes) {
-    return (size_t)((nodes + 63) / 64);
+    return ((nodes + 63) / 64) & SIZE_MAX;
 }
 
-/* Makes the image anew. Refusals 1, 3. Writes the image's header and roots itself, clears the map, makes the heads idle; lasting when
- * the caller has passed a barrier. Not safe against a power failure before that: then format again. */
-uint64_t reelbook_format(uint64_t *image, size_t image_words, uint64_t *map, size_t map_words, uint64_t heads[REELBOOK_HEADS_WORDS],
-                         uint64_t slots, uint64_t nodes);
+/* Makes the image anew. Refusals 1, 3. Writes the image's header and roots itself, clears the map, makes the heads idle; lasting
+ * when the caller has passed a barrier. Not safe against a power failure before that: then format again. */
+uint64_t reelbook_format(uint64_t *image, size_t image_words, uint64_t *map, size_t map_words,
+                         uint64_t heads[REELBOOK_HEADS_WORDS], uint64_t slots, uint64_t nodes);
 
-/* After power-up, before anything else, and again until it answers 0. Refusals 1, 2, 3, 4; after 4 the image is as it was and the map
- * all 0. Stores to the image itself, each word whole; builds the map, makes the heads idle; open claims are lost. It has ended when the
- * caller has passed a barrier; a power failure before that does no harm. */
-uint64_t reelbook_recover(uint64_t *image, size_t image_words, uint64_t *map, size_t map_words, uint64_t heads[REELBOOK_HEADS_WORDS]);
+/* After power-up, before anything else, and again until it answers 0. Refusals 1, 2, 3, 4; after 4 the image is as it was and the
+ * map all 0. Stores to the image itself, each word whole; builds the map, makes the heads idle; open claims are lost. It has
+ * ended when the caller has passed a barrier; a power failure before that does no harm. */
+uint64_t reelbook_recover(uint64_t *image, size_t image_words, uint64_t *map, size_t map_words,
+                          uint64_t heads[REELBOOK_HEADS_WORDS]);
 
 /* Opens a reel. Refusals 1, 2, 3, 6, 7, 8. Marks a node in the map. */
 uint64_t reelbook_open(const uint64_t *image, size_t image_words, uint64_t *map, size_t map_words, uint64_t *script,
                        size_t script_words, uint64_t reel, uint64_t *used);
 
-/* Takes a place for a frame. Refusals 1, 2, 3, 11, 12 unless the head is idle, 5, 13, 4, 9, 8. The head is claimed; new nodes are marked in
- * the map. The frame is not held before its commit, and a claim that a power failure cuts short leaves no frame. */
+/* Takes a place for a frame. Refusals 1, 2, 3, 11, 12 unless the head is idle, 5, 13, 4, 9, 8. The head is claimed; new nodes are
+ * marked in the map. The frame is not held before its commit, and a claim that a power failure cuts short leaves no frame. */
 uint64_t reelbook_claim(const uint64_t *image, size_t image_words, uint64_t *map, size_t map_words,
                         uint64_t heads[REELBOOK_HEADS_WORDS], uint64_t *script, size_t script_words, uint64_t head, uint64_t reel,
                         uint64_t frame, uint64_t *used);
@@ -112,7 +114,8 @@ uint64_t reelbook_claim(const uint64_t *image, size_t image_words, uint64_t *map
 uint64_t reelbook_fill(const uint64_t *image, size_t image_words, uint64_t heads[REELBOOK_HEADS_WORDS], uint64_t *script,
                        size_t script_words, uint64_t head, uint64_t *used);
 
-/* Makes the frame a member of its reel: it is held from this script's barrier on. Refusals 1, 2, 3, 11, 12 unless the head is filled, 4. The head is idle. */
+/* Makes the frame a member of its reel: it is held from this script's barrier on. Refusals 1, 2, 3, 11, 12 unless the head is
+ * filled, 4. The head is idle. */
 uint64_t reelbook_commit(const uint64_t *image, size_t image_words, uint64_t heads[REELBOOK_HEADS_WORDS], uint64_t *script,
                          size_t script_words, uint64_t head, uint64_t *used);
 
@@ -127,19 +130,19 @@ uint64_t reelbook_remove(const uint64_t *image, size_t image_words, const uint64
 /* Does a reel hold a frame? 1 or 0 in *yes. Refusals 1, 2, 5, 4. */
 uint64_t reelbook_has(const uint64_t *image, size_t image_words, uint64_t reel, uint64_t frame, uint64_t *yes);
 
-/* Writes a reel's frames to the list's start, each once, and their number to *count. Refusals 1, 2, 3, 5, 4, 14; nothing is written to the list then.
- * The scratch map is all 0 after any end but 1, 2 or 3. */
+/* Writes a reel's frames to the list's start, each once, and their number to *count. Refusals 1, 2, 3, 5, 4, 14; nothing is
+ * written to the list then. The scratch map is all 0 after any end but 1, 2 or 3. */
 uint64_t reelbook_list(const uint64_t *image, size_t image_words, uint64_t *scratch, size_t scratch_words, uint64_t *list,
                        size_t list_words, uint64_t reel, uint64_t *count);
 
-/* Takes a reel out with all its frames; its nodes become free in the map. Refusals 1, 2, 3, 5, 13, 4. The scratch map is all 0 after any
- * end but 1, 2 or 3. */
+/* Takes a reel out with all its frames; its nodes become free in the map. Refusals 1, 2, 3, 5, 13, 4. The scratch map is all 0
+ * after any end but 1, 2 or 3. */
 uint64_t reelbook_retire(const uint64_t *image, size_t image_words, uint64_t *map, size_t map_words,
                          const uint64_t heads[REELBOOK_HEADS_WORDS], uint64_t *scratch, size_t scratch_words, uint64_t *script,
                          size_t script_words, uint64_t reel, uint64_t *used);
 
-/* Makes a script's stores on an image, barriers skipped: not for an image that must outlast a power failure meanwhile. Refusals 1; 3 if the
- * script is odd in length or an entry is neither a barrier nor a store inside the image, with nothing written. */
+/* Makes a script's stores on an image, barriers skipped: not for an image that must outlast a power failure meanwhile. Refusals
+ * 1; 3 if the script is odd in length or an entry is neither a barrier nor a store inside the image, with nothing written. */
 uint64_t reelbook_apply(uint64_t *image, size_t image_words, const uint64_t *script, size_t script_words);
 
 #ifdef __cplusplus

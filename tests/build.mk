@@ -13,7 +13,7 @@ HEADER_AS_CXX = $(CXX) -x c++ -std=c++11 $(HEADER_WARNINGS) -Iinclude $(CFLAGS)
 
 check-header: build/header-c build/header-c++
 	echo '#include "reelbook.h"' | $(HEADER_AS_C) -fsyntax-only -
-	echo '#include "reelbook.h"' | $(HEADER_AS_CXX) -fsyntax-only -
+	echo '#include "reelbook.h"' | $(HEADER_AS_CXX) -Wold-style-cast -fsyntax-only -
 	build/header-c
 	build/header-c++
 

@@ -1,12 +1,13 @@
 #!/bin/sh
 # Tries the tool: its commands, its errors, damaged files, then power failures, each held against a model in plain files.
-# tests/tool.sh TOOL [SEED [ROUNDS]]
+# tests/tool.sh TOOL SHADOW [SEED [ROUNDS]], SHADOW being what shadow.c is compiled to.
 set -u
 export LC_ALL=C
 here=$(cd "$(dirname "$0")" && pwd)
 tool=$(cd "$(dirname "$1")" && pwd)/$(basename "$1")
-seed=${2:-$(date +%s)}
-rounds=${3:-400}
+shadow=$(cd "$(dirname "$2")" && pwd)/$(basename "$2")
+seed=${3:-$(date +%s)}
+rounds=${4:-400}
 parent=${TMPDIR:-/tmp}
 [ -n "${TMPDIR-}" ] || [ ! -w /dev/shm ] || parent=/dev/shm
 work=$(mktemp -d "$parent/reelbook.XXXXXX") || exit 1
@@ -215,6 +216,14 @@ try_files() {
     holds test "$(cat other)" = 'not a book'
     does '' format other --reels 4 --nodes 16 --force
     does "$sound" check other
+    mkdir closed
+    chmod 333 closed # may be written, but not read: its fsync is left out
+    does '' format closed/book --reels 1 --nodes 1
+    chmod 755 closed
+    does "$sound" check closed/book
+}
+
+try_streams() {
     if [ -w /dev/full ]; then
         "$tool" list book 7 >/dev/full 2>err
         holds test "$(cat err)" = 'reelbook: list: standard output: No space left on device'
@@ -222,6 +231,11 @@ try_files() {
     "$tool" add book 7 1 >&- 2>err
     holds test "$(cat err)" = 'reelbook: add: standard output: Bad file descriptor'
     does '1 frame removed' remove book 7 1
+    "$tool" add book 7 <&- >out 2>err
+    holds test $? = 1
+    holds test "$(cat out err)" = 'reelbook: add: standard input: Bad file descriptor; 0 frames added before it'
+    "$tool" has book 7 5 <&- >out 2>err
+    holds test "$(cat out err)" = yes
 }
 
 # Commands that read leave a book that was closed cleanly alone: they need no permission to write. (Root has it always.)
@@ -278,8 +292,8 @@ try_locks() {
     holds test "$(cat out err)" = '0 frames added'
 }
 
-# A book that was not closed cleanly is recovered from the image alone; a damaged one is refused and left alone.
-try_damage() {
+# A book that was not closed cleanly is recovered from the image alone.
+try_recovery() {
     cp book good
     "$tool" list good 7 >frames
     poke book "$clean_at" 000
@@ -297,6 +311,10 @@ try_damage() {
     does 'sound; closed cleanly; locate words that differ: 1' check book
     does 'closed cleanly; reels: 1, frames: 167, locate words mended: 1' recover book
     holds cmp -s book good
+}
+
+# A damaged one is refused and left alone.
+try_damage() {
     poke book "$((node_at + 3 * 8))" 005
     refuses 'check: book: not sound: the tree is malformed (4); closed cleanly' check book
     refuses 'recover: book: the tree is malformed (4)' recover book
@@ -322,8 +340,10 @@ try_damage() {
 }
 
 . "$here/tool-failures.sh"
+. "$here/tool-barriers.sh"
 
-for part in commands pictures help refusals arguments files reading locks damage mixtures power_failures; do
+for part in commands pictures help refusals arguments files streams reading locks recovery damage \
+    mixtures power_failures barriers; do
     "try_$part"
 done
-echo "$checks checks, $failures power failures, $cuts recoveries cut short; all as they should be"
+echo "$checks checks, $failures power failures, $cuts recoveries cut short, $chains pairs of barriers; all as they should be"

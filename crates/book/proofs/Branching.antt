@@ -1,6 +1,6 @@
 -- A branch-out: a group of nodes is made and linked to the last node of a full path. What the image is then.
 use mathlib.Core.Path.{_≡_, refl, sym, _∙_}
-use mathlib.Core.Logic.{_⊎_, inl, inr}
+use mathlib.Core.Logic.{_⊎_, inl, inr, _↔_}
 use mathlib.Core.List.{List, _∷_, List·Memᴰ}
 use Prim.Native.Nat.{ℕ, suc, _+_, _-_, _^_, _<_}
 use native.Mathlib.Omega.{arith}
@@ -19,7 +19,8 @@ use Rattle.tree.proofs.Laws.{child-laws, node-laws, same-laws, change-laws}
 use Rattle.book.specs.Perform.{group}
 use Rattle.book.specs.Table.{Reel}
 use Rattle.book.specs.Agrees.{Reached}
-use Rattle.book.specs.Ways.{UnreachedRun, FullPath}
+use Rattle.book.specs.Ways.{UnreachedRun, FullPath, Beside, NewWord}
+use Rattle.book.specs.Growth.{SameNodes, Adds}
 use Rattle.book.proofs.View.{Header, View}
 use Rattle.book.proofs.Stored.{stores-set, header-set, few-nodes}
 use Rattle.book.proofs.Reels.{node-slots}
@@ -27,7 +28,8 @@ use Rattle.book.proofs.Views.{view-linked}
 use Rattle.book.proofs.Sames.{reached-inside}
 use Rattle.book.proofs.Crashed.{torn-whole}
 use Rattle.book.proofs.Still.{Still, still-on}
-use Rattle.book.proofs.NewNodes.{newNodes, Made, made, words-torn, same-torn, still-torn}
+use Rattle.book.proofs.NewNodes.{newNodes, Made, made, either, words-torn, same-torn, still-torn}
+use Rattle.book.proofs.SameNodes.{links-nodes}
 
 -- the nodes of a group
 pub in-group : (start d : ℕ) {n : ℕ} → List·Memᴰ n (group start d) → (c : ℕ) × (c < fanout d) × (n ≡ start + c)
@@ -53,6 +55,7 @@ pub record Branches (g : Geometry) (m m' : Memory) (slot f d start : ℕ) : Type
   -- a node reached then is new, or reached before
   pub new-way : (c : ℕ) → c < fanout d → Reaches g m' slot (c ∷ wayOf d f) (start + c)
   pub old-or-new : {k : ℕ} → Reached g m' k → Reached g m k ⊎ ((c : ℕ) × (c < fanout d) × (k ≡ start + c))
+  pub reaches : {i k : ℕ} {w : List ℕ} → Reaches g m' i w k ↔ (Reaches g m i w k ⊎ NewChild slot (wayOf d f) start i w k)
 
 module _ {g : Geometry} {im : List ℕ} {rs : List Reel} {slot f d start : ℕ} (v : View g im rs) (x : FullPath g (reads im) slot f d)
     (deep : d < 31) (run : UnreachedRun g (reads im) (fanout d) start) where
@@ -152,6 +155,15 @@ module _ {g : Geometry} {im : List ℕ} {rs : List Reel} {slot f d start : ℕ} 
         within = record { filled = λ b. o .filled .1 b; reels = λ b. o .reels (o .filled .1 b); holds = λ y. grown .holds .0 y };
       })
 
+  -- no other words are stored to
+  pub beside-linked : Beside m m2 (λ i. (i ≡ nextAt g parent) ⊎ NewWord g start (fanout d) i)
+  beside-linked i o = elim (either g (suc d) 64 ns v unreached level-fits whole i) [
+    | inl q ↦ sym (q ∙ stored2 .old i (λ z. o (inl z)))
+    | inr y ↦
+        let c = in-group start d (y .1) in
+        absurd (o (inr (record { child = c .0; low = c .1; from = omega (arith, c .2, y .2); to = omega (arith, c .2, y .3) })))
+  ]
+
   new-child : (c : ℕ) → c < fanout d → NewChild slot (wayOf d f) start slot (c ∷ wayOf d f) (start + c)
   new-child c l = record { child = c; low = rw (child-laws .length-way d f) l; slot = refl; way = refl; is = refl }
 
@@ -168,4 +180,26 @@ module _ {g : Geometry} {im : List ℕ} {rs : List Reel} {slot f d start : ℕ} 
       | inl y ↦ inl (record { slot = r .slot; way = r .way; there = same-laws same1 .reaches .1 y })
       | inr y ↦ inr (y .child, rw (child-laws .length-way d f) at (y .low), y .is)
     ];
+    reaches = (
+      λ y. elim (grown .reaches .0 y) [ inl z ↦ inl (same-laws same1 .reaches .1 z) | inr z ↦ inr z ],
+      λ y. grown .reaches .1 (elim y [ inl z ↦ inl (same-laws same1 .reaches .0 z) | inr z ↦ inr z ]),
+    );
+  }
+
+  -- ---- the nodes
+
+  -- made, torn or whole, they are not reached yet
+  pub nodes-made : {im' : List ℕ} → Torn im (newNodes g (suc d) 64 ns) im' → SameNodes im im'
+  nodes-made t = links-nodes (v .header .geometry) (still-made t .view .header .geometry) (same-torn g (suc d) 64 ns v unreached level-fits t .links)
+      (λ i n w y. words-torn g (suc d) 64 ns v unreached level-fits t y .words (sizeAt g n) (omega arith) (omega arith))
+
+  sizes-kept : {i n : ℕ} {w : List ℕ} → Reaches g m i w n → m2 (sizeAt g n) ≡ m (sizeAt g n)
+  sizes-kept {n = n} y = sym (branches .words (sizeAt g n) y (omega arith) (omega arith))
+
+  -- linked, they come, and nothing else
+  pub adds : Adds im im2 64 (NewChild slot (wayOf d f) start)
+  adds = record {
+    ways = rw (v .header .geometry, header2 .geometry) (branches .reaches);
+    sizes = rw (v .header .geometry, header2 .geometry) sizes-kept;
+    new-sizes = rw (header2 .geometry) (λ y. rw (y .is) (branches .size (y .child) (rw (child-laws .length-way d f) at (y .low))));
   }

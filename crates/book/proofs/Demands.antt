@@ -1,5 +1,6 @@
 -- The demands, proved: a proof for each statement of specs/Demands.antt.
 use Rattle.book.specs.Demands.{Demand2, Demand3, Placed}
+use Rattle.book.specs.Growth.{Growth}
 pub use Rattle.book.proofs.Demand1.{demand1}
 pub use Rattle.book.proofs.Fixed.{fixed}
 pub use Rattle.book.proofs.Scripts.{scripts}
@@ -14,6 +15,7 @@ use Rattle.book.proofs.StepRead.{step-has, step-list}
 use Rattle.book.proofs.StepRetire.{step-retire}
 use Rattle.book.proofs.ClaimPlaced.{claim-placed}
 use Rattle.book.proofs.Placed.{placed-from}
+use Rattle.book.proofs.Growth.{growth-from}
 use Rattle.book.proofs.Witnesses.{witnesses-from}
 use Rattle.book.specs.Witnesses.{Witnesses}
 use mathlib.Core.Path.{_≡_}
@@ -46,6 +48,9 @@ demand3 = demand3-from steps
 
 pub placed : Placed
 placed = placed-from steps (record { placed = claim-placed })
+
+pub growth : Growth
+growth = growth-from steps
 
 pub witnesses : Witnesses
 witnesses = witnesses-from demand3

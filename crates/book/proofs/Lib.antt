@@ -40,6 +40,7 @@ pub mod StepOpen
 pub mod StepRead
 pub mod Targets
 pub mod Placed
+pub mod SameNodes
 pub mod StepFill
 pub mod StepRemove
 pub mod Claiming
@@ -52,6 +53,7 @@ pub mod Branching
 pub mod StepBranch
 pub mod StepClaim
 pub mod ClaimPlaced
+pub mod Growth
 pub mod Demands
 pub mod Sample
 pub mod Witnesses

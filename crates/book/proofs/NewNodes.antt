@@ -77,8 +77,8 @@ module _ (g : Geometry) (level size : ℕ) where
   -- a torn image shows and holds the same, if nothing reaches the nodes
   module _ {im im' : List ℕ} {rs : List Reel} (ns : List ℕ) (v : View g im rs) (free : (n : ℕ) → List·Memᴰ n ns → Reached g (reads im) n → ⊥)
       (fits : (level < 2 ^ 64) × (size < 2 ^ 64)) (t : Torn im (newNodes ns) im') where
-    -- a word is as before, or one of such a node
-    pub either : (i : ℕ) → (reads im i ≡ reads im' i) ⊎ ((n : ℕ) × List·Memᴰ n ns × (nodeAt g n ≤ i) × (i < nodeAt g n + 80))
+    -- a word is as before, or one of the first five of such a node
+    pub either : (i : ℕ) → (reads im i ≡ reads im' i) ⊎ ((n : ℕ) × List·Memᴰ n ns × (nodeAt g n ≤ i) × (i < nodeAt g n + 5))
     either i = elim (t .each i) [
       | inl q ↦ inl (sym q)
       | inr x ↦

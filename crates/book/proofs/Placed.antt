@@ -85,12 +85,12 @@ keeps-none {im' = im'} v = record { same-place = λ x y q. absurd (none (y .ther
     none : {s n : ℕ} {w : List ℕ} → Reaches (geometryOf (reads im')) (reads im') s w n → ⊥
     none r = List·Memᴰ·not-nil (v .same .present _ .0 (_, record { open-slot = slot-filled r; number = refl }) .1)
 
-no-reels : (slots nodes : ℕ) → emptyTable slots nodes .reels ≡ []
+pub no-reels : (slots nodes : ℕ) → emptyTable slots nodes .reels ≡ []
 unfolding emptyTable
 no-reels slots nodes = refl
 
 -- one that leaves the image can be interrupted in its script alone
-script-alone : {op : Operation} {s : State} {k : ℕ} {m : List ℕ} (c : Interrupted op s k m) → perform op s .work .after .image ≡ s .image
+pub script-alone : {op : Operation} {s : State} {k : ℕ} {m : List ℕ} (c : Interrupted op s k m) → perform op s .work .after .image ≡ s .image
     → CrashImage (s .image) (segmented (perform op s .work .script)) k m
 script-alone c q = rw (itself-same c q) at (c .script)
 

@@ -6,7 +6,7 @@ use Prim.Native.Nat.{ℕ}
 use lib.ListN.{set}
 use Rattle.tree.specs.Memory.{reads, Store, stores, segmented, apply, CrashImage}
 use Rattle.tree.specs.Layout.{geometryOf}
-use Rattle.tree.proofs.Memory.{crash-laws}
+use Rattle.tree.proofs.Memory.{apply-laws, crash-laws}
 use Rattle.book.specs.State.{State, Operation}
 use Rattle.book.specs.Perform.{granted, writing}
 use Rattle.book.specs.Table.{Table, tableWork}
@@ -30,6 +30,11 @@ pub apply-single : (im : List ℕ) (ss : List Store) → apply im (segmented (si
 unfolding apply segmented stores
 apply-single im [] = refl
 apply-single im (s ∷ ss) = apply-single (set im (s .0) (s .1)) ss
+
+pub apply-first : (im : List ℕ) (seg : List Store) (segs : List (List Store))
+    → apply im (segmented (seg ∷ segs)) ≡ apply (apply im (stores seg)) (segmented segs)
+unfolding apply segmented
+apply-first im seg segs = apply-laws .in-turn im (stores seg) _
 
 -- agreement in the image's own geometry
 pub agrees-by : {s : State} {t : Table} → Agrees s t → AgreesBy (geometryOf (reads (s .image))) s t

@@ -1,18 +1,19 @@
 -- A claim on a path that is full to its end, a node of size 64: a branch-out, then place 0 of the frame's child.
-use mathlib.Core.Path.{_≡_, refl, ap, subst}
+use mathlib.Core.Path.{_≡_, refl, sym, _∙_, ap, subst}
 use mathlib.Core.Bool.{true}
 use mathlib.Core.Logic.{_⊎_, inl, inr, _↔_}
 use mathlib.Core.List.{List, [], _∷_, map, List·Memᴰ, Memᴰ·cast}
 use Prim.Native.Nat.{ℕ, suc, _+_, _*_, _%_, _<_}
 use native.Mathlib.Omega.{arith}
 use lib.ListN.{length, set}
-use Rattle.tree.specs.Memory.{Memory, reads, isSet, withBit, byte}
+use Rattle.tree.specs.Memory.{Memory, reads, isSet, withBit, byte, Store}
 use Rattle.tree.specs.declared.layout.Geometry.{Geometry}
 use Rattle.tree.specs.Layout.{nextAt, locateAt, setAt, sizeAt, fingerprintsAt, frameAt}
 use Rattle.tree.specs.Path.{fanout, child, wayOf}
 use Rattle.tree.specs.Node.{held}
 use Rattle.tree.specs.Reach.{Reaches}
 use Rattle.tree.specs.Pool.{used, markAll}
+use Rattle.tree.specs.Changes.{NewChild}
 use Rattle.tree.proofs.Cases.{true-not-false}
 use Rattle.tree.proofs.Lists.{range-has}
 use Rattle.tree.proofs.Memory.{no-bit}
@@ -24,10 +25,13 @@ use Rattle.book.specs.State.{State}
 use Rattle.book.specs.Perform.{group}
 use Rattle.book.specs.Table.{Table, claimed, withTableHead}
 use Rattle.book.specs.Agrees.{Reached, Claims, ClaimsPlace, Agrees}
-use Rattle.book.specs.Ways.{UnreachedRun, FullPath}
+use Rattle.book.specs.Ways.{UnreachedRun, FullPath, Beside, NewWord}
+use Rattle.book.specs.Growth.{SameNodes, Adds}
 use Rattle.book.proofs.View.{View}
+use Rattle.book.proofs.Stored.{stores-set}
+use Rattle.book.proofs.Sames.{reached-inside}
 use Rattle.book.proofs.Showing.{shows-view}
-use Rattle.book.proofs.Crashed.{Through, through-each}
+use Rattle.book.proofs.Crashed.{Through, through-each, torn-whole}
 use Rattle.book.proofs.Reading.{sizesOf, claim-inside}
 use Rattle.book.proofs.Claims.{SameClaim, about-claim}
 use Rattle.book.proofs.Keeps.{within-frames}
@@ -36,7 +40,9 @@ use Rattle.book.proofs.Claiming.{Asked, targetAt}
 use Rattle.book.proofs.Making.{Makes, asked-made}
 use Rattle.book.proofs.StepClear.{Placed, placed}
 use Rattle.book.proofs.NewNodes.{newNodes}
-use Rattle.book.proofs.Branching.{in-group, madeImage, linkedImage, Branches, still-made, still1, still2, branches}
+use Rattle.book.proofs.Branching.{in-group, madeImage, linkedImage, Branches, still-made, still1, still2, branches, beside-linked, nodes-made, adds}
+use Rattle.book.proofs.SameNodes.{Nodes, nodes-itself, nodes-back, nodes-through, adds-on, quiet-set}
+use Rattle.book.proofs.Single.{single, apply-single, apply-first}
 
 way-more : (d f : ℕ) → wayOf (suc d) f ≡ child d f ∷ wayOf d f
 unfolding wayOf
@@ -170,6 +176,13 @@ module _ {s : State} {t : Table} {h reel f slot d start : ℕ} (a : Asked s t h 
   pub path-branched : Reaches shape (reads last) slot (wayOf (suc d) f) node
   path-branched = let r = placed-there .ways child-there in rw locate-new at r
 
+  -- the child's locate word is one of its group's
+  pub beside-branched : Beside (reads (s .image)) (reads last) (λ i. (i ≡ nextAt shape (x .last)) ⊎ NewWord shape start (fanout d) i)
+  beside-branched i o =
+      sym (stores-set linked (locateAt shape node) (withBit 0 0) (reached-inside (still-linked .view) child-there 1 (omega arith)) .old i
+      (λ q. o (inr (record { child = child d f; low = low; from = omega arith; to = omega arith }))))
+      ∙ beside-linked old-view x deep run i o
+
   pub through-branched : Through (Still shape (t .reels) (s .image)) (s .image)
       (newNodes shape (suc d) 64 (group start d) ∷ map (λ z. z ∷ []) ((nextAt shape (x .last), start + 1) ∷ (locateAt shape node, withBit 0 0) ∷ []))
   through-branched = (
@@ -178,3 +191,31 @@ module _ {s : State} {t : Table} {h reel f slot d start : ℕ} (a : Asked s t h 
         ((nextAt shape (x .last), start + 1) ∷ (locateAt shape node, withBit 0 0) ∷ []) (still1 old-view x deep run)
         (still-linked, (still-on still-linked (rw locate-new at (placed-there .still)), tt)),
   )
+
+  -- ---- the nodes
+
+  nodes-marked : SameNodes linked last
+  nodes-marked = quiet-set (still-linked .view .header .geometry) node 1 _ (omega arith) (omega arith) (omega arith)
+
+  -- carried out, the group's nodes have come, and no other
+  pub adds-branched : Adds (s .image) last 64 (NewChild slot (wayOf d f) start)
+  adds-branched = adds-on (adds old-view x deep run) nodes-marked
+
+  -- every image that a crash leaves has the nodes as before, or as then
+  through-nodes : Through (λ im. SameNodes (s .image) im ⊎ SameNodes last im) (s .image)
+      (newNodes shape (suc d) 64 (group start d) ∷ single ((nextAt shape (x .last), start + 1) ∷ (locateAt shape node, withBit 0 0) ∷ []))
+  through-nodes = (
+    λ im' y. inl (nodes-made old-view x deep run y),
+    through-each (λ im. SameNodes (s .image) im ⊎ SameNodes last im) (madeImage shape (s .image) d start)
+        ((nextAt shape (x .last), start + 1) ∷ (locateAt shape node, withBit 0 0) ∷ [])
+        (inl (nodes-made old-view x deep run (torn-whole (s .image) (newNodes shape (suc d) 64 (group start d)))))
+        (inr (nodes-back nodes-marked), (inr (nodes-itself last), tt)),
+  )
+
+  pub nodes-branched : {After : List ℕ → Type 0} → After last
+      → Nodes (s .image) (newNodes shape (suc d) 64 (group start d)
+      ∷ single ((nextAt shape (x .last), start + 1) ∷ (locateAt shape node, withBit 0 0) ∷ [])) After
+  nodes-branched h =
+      let ss : List Store = (nextAt shape (x .last), start + 1) ∷ (locateAt shape node, withBit 0 0) ∷ [] in
+      nodes-through (apply-first (s .image) (newNodes shape (suc d) 64 (group start d)) (single ss) ∙ apply-single (madeImage shape (s .image) d start) ss)
+      h through-nodes

@@ -7,7 +7,7 @@ use mathlib.Core.List.{List, [], _∷_}
 use Prim.Native.Nat.{ℕ, suc, _+_, _*_, _^_, _≤_, _<_}
 use native.Mathlib.Omega.{arith}
 use borrow.Author.Tests as tests
-use Rattle.tree.specs.Memory.{Memory, reads, withBit, Store, stores, segmented, apply, isSome, Fit, CrashImage}
+use Rattle.tree.specs.Memory.{Memory, reads, withBit, Store, segmented, isSome, Fit, CrashImage}
 use Rattle.tree.specs.declared.layout.Geometry.{Geometry}
 use Rattle.tree.specs.Layout.{nextAt, locateAt, sizeAt}
 use Rattle.tree.specs.Path.{fanout, child}
@@ -17,7 +17,7 @@ use Rattle.tree.specs.declared.path.Spot.{Spot}
 use Rattle.tree.specs.Lookup.{pathFrom, find, freeRun}
 use Rattle.tree.specs.Pool.{markAll}
 use Rattle.tree.proofs.Cases.{true-not-false}
-use Rattle.tree.proofs.Memory.{apply-laws, crash-laws}
+use Rattle.tree.proofs.Memory.{crash-laws}
 use Rattle.tree.proofs.Laws.{slot-laws, lookup-rule, child-laws}
 use Rattle.book.specs.declared.HeadState.the-variants.{Claimed}
 use Rattle.book.specs.Heads.{headCount, headAt, isIdle, busy, withHead}
@@ -31,6 +31,7 @@ use Rattle.book.specs.Table.{Table, claimed, withTableHead, tableWork}
 use Rattle.book.specs.Agrees.{Agrees}
 use Rattle.book.specs.Histories.{carriedOut}
 use Rattle.book.specs.Ways.{FullPath, LowestRun, Takes, first-clear, scaled-up, branched-out}
+use Rattle.book.specs.Growth.{ClaimGrows, finds-clear, scales-up, branches-out}
 use Rattle.book.proofs.Refusals.{passes}
 use Rattle.book.proofs.Performed.{answer-is}
 use Rattle.book.proofs.Heads.{names-about, busy-names}
@@ -41,12 +42,13 @@ use Rattle.book.proofs.Showing.{shows-view, view-shows}
 use Rattle.book.proofs.Crashed.{Through, AfterEach, through-each, falls-through}
 use Rattle.book.proofs.Still.{Still, still-self, still-keeps}
 use Rattle.book.proofs.Step.{Step}
-use Rattle.book.proofs.Single.{single, apply-single}
+use Rattle.book.proofs.Single.{single, apply-single, apply-first}
 use Rattle.book.proofs.Claiming.{Asked, targetAt}
 use Rattle.book.proofs.NewNodes.{newNodes}
-use Rattle.book.proofs.StepClear.{agrees-clear, still-clear}
-use Rattle.book.proofs.StepScale.{agrees-scaled, each-scaled, size-scaled}
-use Rattle.book.proofs.StepBranch.{agrees-branched, through-branched, path-branched}
+use Rattle.book.proofs.StepClear.{agrees-clear, still-clear, beside-clear}
+use Rattle.book.proofs.StepScale.{agrees-scaled, each-scaled, size-scaled, beside-scaled, doubles-scaled, nodes-scaled}
+use Rattle.book.proofs.StepBranch.{agrees-branched, through-branched, path-branched, beside-branched, adds-branched, nodes-branched}
+use Rattle.book.proofs.SameNodes.{Nodes, quiet-nodes}
 
 -- ---- what the tests say
 
@@ -100,11 +102,6 @@ asked {s} {t} {h} {reel} {f} a fit u =
 
 -- ---- scripts
 
-apply-first : (im : List ℕ) (seg : List Store) (segs : List (List Store))
-    → apply im (segmented (seg ∷ segs)) ≡ apply (apply im (stores seg)) (segmented segs)
-unfolding apply segmented
-apply-first im seg segs = apply-laws .in-turn im (stores seg) _
-
 module _ (g : Geometry) (m : Memory) (start f : ℕ) where
   script-clear : (t : Spot) → claimScript g m (Clear t) start f ≡ single ((locateAt g (t .node), withBit (m (locateAt g (t .node))) (t .place)) ∷ [])
   unfolding claimScript roomScript
@@ -138,6 +135,7 @@ pub record ClaimStep (s : State) (t : Table) (h reel f slot : ℕ) (r : Room) (s
   pub through : Through (Still (sizesOf (s .image)) (t .reels) (s .image)) (s .image) (claimScript (sizesOf (s .image)) (reads (s .image)) r start f)
   pub takes : Takes (sizesOf (s .image)) (reads (s .image)) (reads (carriedOut (workOf s h f slot r start) .image)) slot f
       (placeIn r start f .node) (placeIn r start f .place)
+  pub nodes : Nodes (s .image) (claimScript (sizesOf (s .image)) (reads (s .image)) r start f) (λ im'. ClaimGrows (s .image) im' slot f)
 
 module _ {s : State} {t : Table} {h reel f slot : ℕ} (a : Asked s t h reel f slot) where
   abbrev g : Geometry
@@ -160,14 +158,19 @@ module _ {s : State} {t : Table} {h reel f slot : ℕ} (a : Asked s t h reel f s
         final = rw (script-scale, apply-single, mark-none) (agrees-scaled a (c .there) (c .ends) some small);
         through = rw script-scale (each ((sizeAt g n, 2 * m (sizeAt g n)) ∷ (locateAt g n, withBit (m (locateAt g n)) (m (sizeAt g n))) ∷ [])
             (each-scaled a (c .there) (c .ends) some small));
-        takes = scaled-up (c .there) (c .ends) small (c .full) (rw (script-scale, apply-single) (size-scaled a (c .there) (c .ends) some small));
+        takes = scaled-up (c .there) (c .ends) small (c .full) (rw (script-scale, apply-single) (size-scaled a (c .there) (c .ends) some small))
+            (rw (script-scale, apply-single) (beside-scaled a (c .there) (c .ends) some small));
+        nodes = rw script-scale (nodes-scaled a (c .there) (c .ends) some small
+            (scales-up (c .there) (c .ends) small (c .full) (doubles-scaled a (c .there) (c .ends) some small)));
       }
 
   branched : {d start : ℕ} (x : FullPath g m slot f d) → d < 31 → LowestRun g m (fanout d) start → ClaimStep s t h reel f slot (BranchOut (x .last) d) start
   branched {d} {start} x deep l = record {
     final = rw (script-branch, apply-first, apply-single) (agrees-branched a x deep (l .run));
     through = rw script-branch (through-branched a x deep (l .run));
-    takes = branched-out x l (rw (script-branch, apply-first, apply-single) (path-branched a x deep (l .run)));
+    takes = branched-out x l (rw (script-branch, apply-first, apply-single) (path-branched a x deep (l .run)))
+        (rw (script-branch, apply-first, apply-single) (beside-branched a x deep (l .run)));
+    nodes = rw script-branch (nodes-branched a x deep (l .run) (branches-out x l (adds-branched a x deep (l .run))));
   }
 
   by-room : (r : Room) → RoomIs g m slot f r → (needs r ≤ 0) ⊎ (startIn s r < g .nodes) → ClaimStep s t h reel f slot r (startIn s r)
@@ -175,7 +178,9 @@ module _ {s : State} {t : Table} {h reel f slot : ℕ} (a : Asked s t h reel f s
     final = rw (script-clear, apply-single, mark-none) (agrees-clear (c .depth) a (c .there) (c .place) (c .clear-bit));
     through = rw script-clear (each ((locateAt g (u .node), withBit (m (locateAt g (u .node))) (u .place)) ∷ [])
         (still-clear (c .depth) a (c .there) (c .place) (c .clear-bit), tt));
-    takes = first-clear (c .there) (c .above) (c .place) (c .clear-bit) (c .lower);
+    takes = first-clear (c .there) (c .above) (c .place) (c .clear-bit) (c .lower)
+        (rw (script-clear, apply-single) (beside-clear (c .depth) a (c .there) (c .place) (c .clear-bit)));
+    nodes = rw script-clear (quiet-nodes (((u .node, 1, refl, omega arith, omega arith, omega arith), tt), tt) (λ im'. finds-clear (c .depth) (c .there) (c .place) (c .clear-bit)));
   }
   by-room (ScaleUp n size) c l = rw (c .is) (scaled _ (rw (c .is) at c))
   by-room (BranchOut parent d) c l =

@@ -26,6 +26,7 @@ use Rattle.book.specs.Heads.{withHead}
 use Rattle.book.specs.State.{State}
 use Rattle.book.specs.Table.{Table, claimed, withTableHead}
 use Rattle.book.specs.Agrees.{Reached, Claims, Agrees}
+use Rattle.book.specs.Ways.{Beside}
 use Rattle.book.proofs.View.{View}
 use Rattle.book.proofs.Stored.{stores-set}
 use Rattle.book.proofs.Sames.{node-formed, reached-inside, view-locate}
@@ -75,6 +76,9 @@ module _ {s : State} {t : Table} {h reel f slot n p : ℕ} (d : ℕ) (a : Asked 
     view = view-locate old-view x new (bit-laws .with-fits (m (locateAt g n)) p (m (sizeAt g n)) low (formed .locate));
     within = within-same same;
   }
+
+  pub beside-clear : Beside m m' (λ i. i ≡ locateAt g n)
+  beside-clear i d = sym (stored .old i d)
 
   -- the bits of locate words: one more
   bits : (k q : ℕ) → (isSet (m' (locateAt g k)) q ≡ true) ↔ ((isSet (m (locateAt g k)) q ≡ true) ⊎ ((k ≡ n) × (q ≡ p)))

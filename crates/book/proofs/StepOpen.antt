@@ -24,10 +24,12 @@ use Rattle.tree.proofs.Same.{filled-back}
 use Rattle.tree.proofs.Laws.{node-laws, same-laws, change-laws, pool-laws}
 use Rattle.book.specs.declared.Target.{Target}
 use Rattle.book.specs.State.{State, openReel, arguments}
-use Rattle.book.specs.Perform.{perform, writing, newNode, openScript}
+use Rattle.book.specs.Perform.{perform, granted, writing, newNode, openScript}
 use Rattle.book.specs.Table.{Table, withReels}
 use Rattle.book.specs.Agrees.{Reached, Shows, Claims, ClaimsPlace, Agrees}
 use Rattle.book.specs.Histories.{carriedOut}
+use Rattle.book.specs.Ways.{SlotHas, LowestRun}
+use Rattle.book.specs.Growth.{SameNodes, Adds, OpenGrows}
 use Rattle.book.proofs.View.{Header, View}
 use Rattle.book.proofs.Stored.{stores-set, header-set, few-nodes}
 use Rattle.book.proofs.Reels.{frames-to}
@@ -40,6 +42,8 @@ use Rattle.book.proofs.Keeps.{keeps-of, step-of}
 use Rattle.book.proofs.Claims.{SameClaim, untouched, head-on, about-claim, locates-on, agrees-of}
 use Rattle.book.proofs.Step.{Keeps, Step}
 use Rattle.book.proofs.Opening.{Each, node-words, stored-each, two-segments, Opening, opening, open-granted, open-table}
+use Rattle.book.proofs.Level31.{lowest-run}
+use Rattle.book.proofs.SameNodes.{Nodes, nodes-equal, links-nodes, nodes-through}
 
 -- ---- the first segment
 
@@ -252,6 +256,55 @@ module _ {s : State} {t : Table} {slot n reel : ℕ} (a : Agrees s t) (o : Openi
       (withReels t (record { number = reel; frames = [] } ∷ t .reels))
   unfolding openScript
   final = rw (two-segments (s .image) first (rootAt slot) (n + 1)) agrees-rooted
+
+  -- ---- the nodes
+
+  torn-nodes : {im : List ℕ} → Torn (s .image) first im → SameNodes (s .image) im
+  torn-nodes y = links-nodes (v .header .geometry) (torn-view y .header .geometry) (same-read (differ y) .links)
+      (λ i k w x. read-node (differ y) x .words (sizeAt g k) (omega arith) (omega arith))
+
+  size-rooted : reads rooted (sizeAt g n) ≡ 16
+  size-rooted = sym (beside-nodes g stored slot n (o .inside) refl .words (sizeAt g n) (omega arith) (omega arith)) ∙ size-now
+
+  reaches-rooted : {i k : ℕ} {w : List ℕ} → Reaches g (reads rooted) i w k ↔ (Reaches g m i w k ⊎ NewRoot slot n i w k)
+  reaches-rooted = (
+    λ x. elim (change .reaches .0 x) [ inl y ↦ inl (torn-same whole .reaches .1 y) | inr y ↦ inr y ],
+    λ x. elim x [ inl y ↦ reached-on y | inr y ↦ change .reaches .1 (inr y) ],
+  )
+
+  sizes-kept : {i k : ℕ} {w : List ℕ} → Reaches g m i w k → reads rooted (sizeAt g k) ≡ m (sizeAt g k)
+  sizes-kept {k = k} x = sym (words x .words (sizeAt g k) (omega arith) (omega arith))
+
+  adds : Adds (s .image) rooted 16 (NewRoot slot n)
+  adds = record {
+    ways = rw (header .geometry) reaches-rooted;
+    sizes = rw (header .geometry) sizes-kept;
+    new-sizes = rw (header .geometry) (λ y. rw (y .is) size-rooted);
+  }
+
+  has-reel : SlotHas g (reads rooted) reel slot
+  has-reel = record {
+    open-slot = record { inside = o .inside; linked = omega (arith, stored .new) };
+    number = sym (stored .old (reelAt slot) (λ q. omega arith)) ∙ reel-now;
+  }
+
+  open-nodes : LowestRun g m 1 n → Nodes (s .image) (openScript g slot n reel) (λ im'. OpenGrows (s .image) im' reel)
+  unfolding openScript
+  open-nodes l = nodes-through (two-segments (s .image) first (rootAt slot) (n + 1))
+      (record { slot = slot; node = n; was-empty = o .empty; lowest = l; of-reel = rw (header .geometry) has-reel; adds = adds }) (
+        λ im y. inl (torn-nodes y),
+        (
+          λ im y. elim (torn-one y) [ inl q ↦ inl (rw q (torn-nodes whole)) | inr q ↦ inr (nodes-equal q) ],
+          inr (nodes-equal (apply-one written (rootAt slot) (n + 1))),
+        ),
+      )
+
+pub grows-open : {s : State} {t : Table} → Agrees s t → (words script reel : ℕ) → Fit (arguments (openReel words script reel))
+    → perform (openReel words script reel) s .answer ≡ 0
+    → Nodes (s .image) (granted (openReel words script reel) s .script) (λ im'. OpenGrows (s .image) im' reel)
+grows-open {s} a words script reel fits h =
+    let o = opening a words script reel (fits 0) h in
+    rw (open-granted s words script reel) (open-nodes a o (lowest-run a 1 (omega arith) (o .low)))
 
 pub step-open : {s : State} {t : Table} → Agrees s t → (words script reel : ℕ) → Fit (arguments (openReel words script reel))
     → perform (openReel words script reel) s .answer ≡ 0 → Step (openReel words script reel) s t

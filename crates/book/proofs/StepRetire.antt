@@ -10,7 +10,7 @@ use lib.Dec.{eqb}
 use Rattle.tree.specs.Memory.{Memory, reads, Fit}
 use Rattle.tree.specs.Lists.{keep}
 use Rattle.tree.specs.declared.layout.Geometry.{Geometry}
-use Rattle.tree.specs.Layout.{reelAt, rootAt}
+use Rattle.tree.specs.Layout.{reelAt, rootAt, sizeAt}
 use Rattle.tree.specs.Fingerprint.{ruleOf}
 use Rattle.tree.specs.Slots.{Filled, slotOf}
 use Rattle.tree.specs.Reach.{Reaches}
@@ -29,6 +29,8 @@ use Rattle.tree.specs.Subtree.{nodesOf}
 use Rattle.book.specs.Perform.{perform, granted, writing}
 use Rattle.book.specs.Table.{Table, withReels, tableWork}
 use Rattle.book.specs.Agrees.{Reached, Shows, About, Claims, Agrees}
+use Rattle.book.specs.Ways.{SlotHas}
+use Rattle.book.specs.Growth.{shapeIn, Drops}
 use Rattle.book.proofs.Refusals.{passes}
 use Rattle.book.proofs.Performed.{answer-is}
 use Rattle.book.proofs.View.{Header, View}
@@ -43,6 +45,7 @@ use Rattle.book.proofs.Reading.{sizesOf, claim-inside}
 use Rattle.book.proofs.Keeps.{keeps-of, keeps-itself, step-of}
 use Rattle.book.proofs.Claims.{SameClaim, untouched, head-on, locates-on, agrees-of}
 use Rattle.book.proofs.Step.{Keeps, Step}
+use Rattle.book.proofs.SameNodes.{Nodes, nodes-itself, nodes-through}
 
 -- ---- what a retirement does
 
@@ -152,6 +155,27 @@ module _ {s : State} {t : Table} (a : Agrees s t) (slot : ℕ) (b : Filled (size
     apart = a .apart;
     locates = λ n p r l. let y = change .reaches .0 (r .there) .0 in locates-on p (words n) (a .locates n p (record { slot = r .slot; way = r .way; there = y }) l);
   })
+
+  sizes-kept : {i n : ℕ} {w : List ℕ} → Reaches g (reads cleared) i w n → reads cleared (sizeAt g n) ≡ m (sizeAt g n)
+  sizes-kept {n = n} x = sym (words n .words (sizeAt g n) (omega arith) (omega arith))
+
+  -- the slot's nodes go, and no other
+  drops : Drops (s .image) cleared slot
+  drops = record {
+    ways = rw (header .geometry) (change .reaches);
+    sizes = rw (header .geometry) sizes-kept;
+  }
+
+pub grows-retire : {s : State} {t : Table} → Agrees s t → (words scratch script reel : ℕ) → perform (retire words scratch script reel) s .answer ≡ 0
+    → Nodes (s .image) (granted (retire words scratch script reel) s .script)
+    (λ im'. (slot : ℕ) × SlotHas (shapeIn (s .image)) (reads (s .image)) reel slot × Drops (s .image) im' slot)
+grows-retire {s} a words scratch script reel h =
+    let p = retire-passes s words scratch script reel h in
+    let k = slotOf (sizesOf (s .image)) (reads (s .image)) reel in
+    let x = slot-laws (sizesOf (s .image)) (reads (s .image)) .reel reel (p .0) in
+    rw (retire-granted s words scratch script reel) (nodes-through (apply-single (s .image) ((rootAt k, 0) ∷ []))
+    (k, record { open-slot = x .0; number = x .1 }, drops a k (x .0) (p .1))
+    (through-each _ (s .image) ((rootAt k, 0) ∷ []) (inl (nodes-itself (s .image))) (inr (nodes-itself _), tt)))
 
 pub step-retire : {s : State} {t : Table} → Agrees s t → (words scratch script reel : ℕ) → Fit (arguments (retire words scratch script reel))
     → perform (retire words scratch script reel) s .answer ≡ 0 → Step (retire words scratch script reel) s t

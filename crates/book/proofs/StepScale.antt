@@ -1,11 +1,12 @@
 -- A claim in a full root below size 64: the root is scaled up, then the old size is the place.
 use mathlib.Core.Path.{_≡_, refl, sym, _∙_, ap}
+use mathlib.Core.Logic.{_⊎_, inl, inr, _↔_, _≢_}
 use mathlib.Core.List.{List, [], _∷_}
 use Prim.Native.Nat.{ℕ, _*_, _≤_, _<_}
 use native.Mathlib.Omega.{arith}
 use native.Mathlib.Decide.{ℕ-discrete}
 use lib.ListN.{length, set}
-use Rattle.tree.specs.Memory.{Memory, reads, isSet, withBit}
+use Rattle.tree.specs.Memory.{Memory, reads, isSet, withBit, Store}
 use Rattle.tree.specs.declared.layout.Geometry.{Geometry}
 use Rattle.tree.specs.Layout.{nextAt, locateAt, setAt, sizeAt}
 use Rattle.tree.specs.Reach.{Reaches}
@@ -19,12 +20,14 @@ use Rattle.book.specs.Heads.{withHead}
 use Rattle.book.specs.State.{State}
 use Rattle.book.specs.Table.{Table, claimed, withTableHead}
 use Rattle.book.specs.Agrees.{Claims, Agrees}
+use Rattle.book.specs.Ways.{Beside}
+use Rattle.book.specs.Growth.{SameNodes, Doubles}
 use Rattle.book.proofs.View.{View}
 use Rattle.book.proofs.Rooms.{root-way}
 use Rattle.book.proofs.Stored.{stores-set, node-inside}
 use Rattle.book.proofs.Sames.{node-formed, reached-inside, view-size}
 use Rattle.book.proofs.Showing.{shows-view}
-use Rattle.book.proofs.Crashed.{AfterEach}
+use Rattle.book.proofs.Crashed.{AfterEach, through-each}
 use Rattle.book.proofs.Reading.{sizesOf, claim-inside}
 use Rattle.book.proofs.Claims.{SameClaim}
 use Rattle.book.proofs.Keeps.{within-same}
@@ -33,6 +36,8 @@ use Rattle.book.proofs.Still.{Still, still-on, same-word, claim-beside}
 use Rattle.book.proofs.Claiming.{Asked, targetAt}
 use Rattle.book.proofs.Making.{Makes, asked-made}
 use Rattle.book.proofs.StepClear.{Placed, placed}
+use Rattle.book.proofs.SameNodes.{Nodes, nodes-itself, nodes-back, nodes-through, doubles-on, quiet-set}
+use Rattle.book.proofs.Single.{single, apply-single}
 
 module _ {s : State} {t : Table} {h reel f slot n : ℕ} (a : Asked s t h reel f slot) (x : Reaches (sizesOf (s .image)) (reads (s .image)) slot [] n)
     (ends : reads (s .image) (nextAt (sizesOf (s .image)) n) ≡ 0) (some : 0 < reads (s .image) (sizeAt (sizesOf (s .image)) n))
@@ -105,8 +110,43 @@ module _ {s : State} {t : Table} {h reel f slot n : ℕ} (a : Asked s t h reel f
   pub each-scaled : AfterEach (Still g (t .reels) (s .image)) (s .image) ((sizeAt g n, 2 * size) ∷ (locateAt g n, withBit (m (locateAt g n)) size) ∷ [])
   each-scaled = (makes .still, (still-on (makes .still) (rw locate-same (placed-there .still)), tt))
 
+  marked : Stores m' (locateAt g n) (withBit (m (locateAt g n)) size) (reads last)
+  marked = stores-set im' (locateAt g n) (withBit (m (locateAt g n)) size)
+      (node-inside n 1 (makes .still .view .header) (formed .inside) (omega arith))
+
   -- the root's size is doubled
   pub size-scaled : reads last (sizeAt g n) ≡ 2 * size
-  size-scaled =
-      let i : locateAt g n < length im' = node-inside n 1 (makes .still .view .header) (formed .inside) (omega arith) in
-      sym (stores-set im' (locateAt g n) (withBit (m (locateAt g n)) size) i .old (sizeAt g n) (λ q. omega arith)) ∙ stored .new
+  size-scaled = sym (marked .old (sizeAt g n) (λ q. omega arith)) ∙ stored .new
+
+  pub beside-scaled : Beside m (reads last) (λ i. (i ≡ sizeAt g n) ⊎ (i ≡ locateAt g n))
+  beside-scaled i d = sym (stored .old i (λ q. d (inl q)) ∙ marked .old i (λ q. d (inr q)))
+
+  -- ---- the nodes
+
+  nodes-marked : SameNodes im' last
+  nodes-marked = quiet-set (makes .still .view .header .geometry) n 1 _ (omega arith) (omega arith) (omega arith)
+
+  links-scaled : {i k : ℕ} {w : List ℕ} → Reaches g m' i w k ↔ Reaches g m i w k
+  links-scaled = (same-laws same .reaches .1, same-laws same .reaches .0)
+
+  sizes-scaled : {i k : ℕ} {w : List ℕ} → Reaches g m i w k → k ≢ n → m' (sizeAt g k) ≡ m (sizeAt g k)
+  sizes-scaled {k = k} x d = sym (stored .old (sizeAt g k) (λ q. d (omega arith)))
+
+  doubles : Doubles (s .image) im' n
+  doubles = record {
+    ways = rw (makes .still .view .header .geometry) links-scaled;
+    doubled = rw (makes .still .view .header .geometry) (stored .new);
+    sizes = rw (makes .still .view .header .geometry) sizes-scaled;
+  }
+
+  -- carried out, the root's size alone is doubled
+  pub doubles-scaled : Doubles (s .image) last n
+  doubles-scaled = doubles-on doubles x nodes-marked
+
+  -- every image that a crash leaves has the nodes as before, or as then
+  pub nodes-scaled : {After : List ℕ → Type 0} → After last
+      → Nodes (s .image) (single ((sizeAt g n, 2 * size) ∷ (locateAt g n, withBit (m (locateAt g n)) size) ∷ [])) After
+  nodes-scaled h =
+      let ss : List Store = (sizeAt g n, 2 * size) ∷ (locateAt g n, withBit (m (locateAt g n)) size) ∷ [] in
+      nodes-through (apply-single (s .image) ss) h (through-each (λ im. SameNodes (s .image) im ⊎ SameNodes last im) (s .image) ss
+      (inl (nodes-itself (s .image))) (inr (nodes-back nodes-marked), (inr (nodes-itself last), tt)))

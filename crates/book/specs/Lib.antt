@@ -9,6 +9,7 @@ pub mod CarryOut
 pub mod Histories
 pub mod Ways
 pub mod Demands
+pub mod Growth
 pub mod Starred
 pub mod Witnesses
 pub mod Fixed

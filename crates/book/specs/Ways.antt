@@ -1,6 +1,7 @@
 -- What the demands say of paths and nodes, by ways alone and not by the book's own searches.
 use mathlib.Core.Path.{_≡_}
 use mathlib.Core.Bool.{true, false}
+use mathlib.Core.Logic.{_⊎_}
 use mathlib.Core.List.{[]}
 use Prim.Native.Nat.{ℕ, suc, _+_, _*_, _≤_, _<_}
 use Rattle.tree.specs.Memory.{Memory, isSet}
@@ -39,17 +40,30 @@ module _ (g : Geometry) (m : Memory) where
     pub wide : m (sizeAt g last) ≡ 64
     pub full : FullAbove slot f (suc d)
 
--- the place that a frame gets on its path, from a memory m to m' once the claim's script is carried out
+-- every word is as it was, but for those named
+abbrev pub Beside : (m m' : Memory) → (ℕ → Type 0) → Type 0
+Beside m m' Own = (i : ℕ) → (Own i → ⊥) → m' i ≡ m i
+
+-- a word that a new node is made with, next to size, in one of k nodes from start on
+pub record NewWord (g : Geometry) (start k i : ℕ) : Type 0 where
+  pub child : ℕ
+  pub low : child < k
+  pub from : nextAt g (start + child) ≤ i
+  pub to : i ≤ sizeAt g (start + child)
+
+-- the place that a frame gets on its path, and the words that change, from a memory m to m' once the claim's script is carried out
 pub data Takes (g : Geometry) (m m' : Memory) (slot f : ℕ) : (node place : ℕ) → Type 0 where
   -- the first node from the root with a clear place, and the lowest such place
   first-clear : {d n p : ℕ} → Reaches g m slot (wayOf d f) n → FullAbove g m slot f d → p < m (sizeAt g n)
-      → isSet (m (locateAt g n)) p ≡ false → ((q : ℕ) → q < p → isSet (m (locateAt g n)) q ≡ true) → Takes g m m' slot f n p
+      → isSet (m (locateAt g n)) p ≡ false → ((q : ℕ) → q < p → isSet (m (locateAt g n)) q ≡ true)
+      → Beside m m' (λ i. i ≡ locateAt g n) → Takes g m m' slot f n p
   -- none, and the root alone below size 64: it is scaled up, and the old size is the place
   scaled-up : {n : ℕ} → Reaches g m slot [] n → m (nextAt g n) ≡ 0 → m (sizeAt g n) < 64 → Full g m n
-      → m' (sizeAt g n) ≡ 2 * m (sizeAt g n) → Takes g m m' slot f n (m (sizeAt g n))
+      → m' (sizeAt g n) ≡ 2 * m (sizeAt g n) → Beside m m' (λ i. (i ≡ sizeAt g n) ⊎ (i ≡ locateAt g n)) → Takes g m m' slot f n (m (sizeAt g n))
   -- none, and the last node has size 64: place 0 of the frame's child in a new group, the lowest run of free nodes
-  branched-out : {d start : ℕ} → FullPath g m slot f d → LowestRun g m (fanout d) start
-      → Reaches g m' slot (wayOf (suc d) f) (start + child d f) → Takes g m m' slot f (start + child d f) 0
+  branched-out : {d start : ℕ} (x : FullPath g m slot f d) → LowestRun g m (fanout d) start
+      → Reaches g m' slot (wayOf (suc d) f) (start + child d f) → Beside m m' (λ i. (i ≡ nextAt g (x .last)) ⊎ NewWord g start (fanout d) i)
+      → Takes g m m' slot f (start + child d f) 0
 
 -- a filled slot with a reel's number
 pub record SlotHas (g : Geometry) (m : Memory) (reel s : ℕ) : Type 0 where

@@ -2,7 +2,6 @@
 use mathlib.Core.Path.{_≡_, refl, sym, _∙_, ap}
 use mathlib.Core.Bool.{Bool, true, false, cond}
 use mathlib.Core.Logic.{inl, inr, _≢_}
-use mathlib.Core.Option.{some}
 use mathlib.Core.List.{List, [], _∷_, List·Memᴰ, List·Memᴰ·head, List·Memᴰ·tail}
 use Prim.Native.Nat.{ℕ, _*_, _≤_}
 use native.Mathlib.Omega.{arith}
@@ -16,21 +15,20 @@ use Rattle.tree.specs.declared.layout.Geometry.{Geometry}
 use Rattle.tree.specs.Layout.{badImage, mapWords, editionAt, geometryOf}
 use Rattle.tree.specs.Subtree.{listed}
 use Rattle.tree.proofs.Memory.{script-laws}
-use Rattle.tree.proofs.Cases.{test, some-inj}
+use Rattle.tree.proofs.Cases.{test}
 use Rattle.book.specs.Refusals.{refusal}
 use Rattle.book.specs.State.{State, Operation, format, recover, openReel, claim, fill, commit, abandon, remove, has, list, retire, Work, scratchAfter}
 use Rattle.book.specs.Checks.{refusals}
 use Rattle.book.specs.Perform.{granted, leaves, clears, perform}
 use Rattle.book.specs.CarryOut.{carry}
-use Rattle.book.specs.Table.{Table, emptyTable}
+use Rattle.book.specs.Table.{Table, emptyTable, tableWork, reply}
 use Rattle.book.specs.Demands.{Leaves, as-before, map-cleared}
-use Rattle.book.specs.Histories.{done, replied, Interrupted, Attempts, Recovered, Follows, formatted, performed, before, after}
-use Rattle.book.specs.Histories.{none-yet as no-attempt, refused as refused-attempt, interrupted as interrupted-attempt}
-use Rattle.book.proofs.Demands.{demand1, demand2, demand3, scripts}
+use Rattle.book.specs.Histories.{done, replied, Follows, formatted, performed}
+use Rattle.book.proofs.Demands.{demand1, demand2, scripts}
+use Rattle.book.proofs.Done.{done-same}
 use Rattle.book.proofs.Performed.{answer-is, work-granted, work-refused}
-use Rattle.book.proofs.Recovery.{recover-writes}
-use Rattle.operations.specs.Ends.{Buffers, noBuffers, state, Ends, ended, found, ends}
-use Rattle.operations.specs.Chain.{Counted, nothing, script-words, yes-or-no, frames, counted, wordsIn, framesIn, valueIn, next, Answered, Refused, OtherMap, by-format, by-recover, by-open, by-claim, by-retire, Unread, GoesOn, FormatGoesOn, Fits, CutShort, Retries, none-yet, refused as refused-retry, cut-short, Recovers, Survives, Driven, formats, calls, lends-another, refused-format, loses-power, Stands, Chain}
+use Rattle.operations.specs.Ends.{Buffers, state, Ends, ended, found, ends}
+use Rattle.operations.specs.Chain.{Counted, nothing, script-words, yes-or-no, frames, counted, wordsIn, framesIn, valueIn, next, Answered, Refused, OtherMap, by-format, by-recover, by-open, by-claim, by-retire, Unread, Fits, OtherBuffer, another-length, to-format, Called, with-its-map, with-another, afterCall, GoesOn, Chain}
 use Rattle.operations.proofs.Endings.{refused as ends-refused, done as ends-done}
 
 -- ---- what is handed back
@@ -67,18 +65,18 @@ granted-over (list scratch room reel) s b = (no-words, refl, take-append-seam _ 
 granted-over (retire words scratch script reel) s b = (script-taken _ _, refl, refl)
 
 -- and nothing where the count is 0
-nothing-over : (k : Counted) (e : Ends) → e .count ≡ 0 → (wordsIn k e ≡ []) × (valueIn k e ≡ 0) × (framesIn k e ≡ [])
+pub nothing-over : (k : Counted) (e : Ends) → e .count ≡ 0 → (wordsIn k e ≡ []) × (valueIn k e ≡ 0) × (framesIn k e ≡ [])
 nothing-over script-words e z = (rw z refl, refl, refl)
 nothing-over frames e z = (refl, z, rw z refl)
 nothing-over yes-or-no e z = (refl, z, refl)
 nothing-over nothing e z = (refl, refl, refl)
 
 module _ (op : Operation) (s : State) (b : Buffers) where
-  answer-ends : ends op s b .answer ≡ perform op s .answer
+  pub answer-ends : ends op s b .answer ≡ perform op s .answer
   unfolding ends found
   answer-ends = refl
 
-  after-ends : ends op s b .after ≡ perform op s .work .after
+  pub after-ends : ends op s b .after ≡ perform op s .work .after
   unfolding ends found
   after-ends = refl
 
@@ -120,6 +118,7 @@ module _ (op : Operation) (s : State) (b : Buffers) (h : perform op s .answer �
         script = rw (d .no-store) refl;
         list = rw (d .no-listing) refl;
         after = rw (d .no-store) refl;
+        left = d .left;
       }
 
 -- ---- a map of another length
@@ -182,7 +181,7 @@ module _ (op : Operation) (s : State) (z : perform op s .answer ≢ 0) (l : perf
   unfolding scratchAfter
   early-ends b = ends-refused op s b (perform op s .answer) (sym (answer-is op s)) z all-left ∙ rw scratch-kept refl
 
-one-to-three : {n : ℕ} → List·Memᴰ n (1 ∷ 2 ∷ 3 ∷ []) → (n ≢ 0) × (n ≤ 3)
+pub one-to-three : {n : ℕ} → List·Memᴰ n (1 ∷ 2 ∷ 3 ∷ []) → (n ≢ 0) × (n ≤ 3)
 one-to-three (List·Memᴰ·head q) = omega arith
 one-to-three (List·Memᴰ·tail (List·Memᴰ·head q)) = omega arith
 one-to-three (List·Memᴰ·tail (List·Memᴰ·tail (List·Memᴰ·head q))) = omega arith
@@ -235,7 +234,9 @@ told op s b fit = elim (test (eqb (perform op s .answer) 0)) [
       }
 ]
 
-goes-on : (op : Operation) (s : State) (t : Table) (b : Buffers) → Follows s t → Fits op s → GoesOn op s t (ends op s b)
+-- ---- in a history, with the book's map
+
+goes-on : (op : Operation) (s : State) (t : Table) (b : Buffers) → Follows s t → Fits op s → GoesOn op s t (ends op s b) (next op (ends op s b))
 goes-on op s t b f fit =
     let a = demand2 .alike s t f op (fit .numbers) in
     let d = told op s b fit in
@@ -246,7 +247,7 @@ goes-on op s t b f fit =
       follows = rw (d .step) (performed f op (fit .numbers));
     }
 
--- ---- a format in a history
+-- ---- with another buffer
 
 -- what a format answers goes by the image's length and by the map's: neither map nor heads is read
 format-answer : (words slots nodes : ℕ) (image pool pool' heads heads' : List ℕ)
@@ -254,155 +255,97 @@ format-answer : (words slots nodes : ℕ) (image pool pool' heads heads' : List 
 unfolding perform refusals
 format-answer words slots nodes image pool pool' heads heads' = refl
 
--- a format that is refused leaves everything
-format-refused : (words slots nodes : ℕ) (s : State) (b : Buffers) → perform (format words slots nodes) s .answer ≢ 0
-    → ends (format words slots nodes) s b ≡ ended (perform (format words slots nodes) s .answer) 0 s b
-format-refused words slots nodes s b z = early-ends (format words slots nodes) s z
-    (few (demand1 .refused (format words slots nodes) s z .number)) b
-  where
-    few : {n : ℕ} → List·Memᴰ n (1 ∷ 3 ∷ []) → n ≤ 3
-    few (List·Memᴰ·head q) = omega arith
-    few (List·Memᴰ·tail (List·Memᴰ·head q)) = omega arith
+one-or-three : {n : ℕ} → List·Memᴰ n (1 ∷ 3 ∷ []) → n ≤ 3
+one-or-three (List·Memᴰ·head q) = omega arith
+one-or-three (List·Memᴰ·tail (List·Memᴰ·head q)) = omega arith
 
-format-goes-on : (words slots nodes : ℕ) (s : State) (t : Table) (map : List ℕ) (b : Buffers) → Follows s t → Fits (format words slots nodes) s
-    → FormatGoesOn words slots nodes s t map b (ends (format words slots nodes) (state (s .image) map (s .heads)) b)
-format-goes-on words slots nodes s t map b f fit =
+-- the number is the same with the book's map, and a refusal leaves everything
+pub record SentBack (op : Operation) (s : State) (map : List ℕ) (b : Buffers) (e : Ends) : Type 0 where
+  pub answer : e .answer ≡ perform op s .answer
+  pub is : e .answer ≢ 0 → e ≡ ended (e .answer) 0 (state (s .image) map (s .heads)) b
+  pub stays : e .answer ≢ 0 → done op s ≡ s
+
+pub sent-back : {op : Operation} {s : State} (map : List ℕ) (b : Buffers) → OtherBuffer (s .image) op
+    → SentBack op s map b (ends op (state (s .image) map (s .heads)) b)
+sent-back {op} {s} map b (another-length o) =
+    let u = unread op (s .image) map (s .heads) b o in
+    let n = one-to-three (u .number) in
+    record {
+      answer = sym (u .same (s .pool));
+      is = λ z. u .leaves-all map;
+      stays = λ z. done-same op s (rw (u .same (s .pool)) z) (λ p. omega (arith, u .same (s .pool), p, n .1));
+    }
+sent-back {s = s} map b (to-format {words} {slots} {nodes}) =
     let op = format words slots nodes in
     let s' = state (s .image) map (s .heads) in
     let q = answer-ends op s' b in
+    let same = format-answer words slots nodes (s .image) map (s .pool) (s .heads) (s .heads) in
     record {
-      answer = q ∙ format-answer words slots nodes (s .image) map (s .pool) (s .heads) (s .heads) ∙ demand2 .alike s t f op (fit .numbers) .answer;
-      answered = λ h. rw (told op s' b (record { image = fit .image; heads = fit .heads; numbers = fit .numbers }) .step)
-          (formatted words slots nodes s' (fit .image) (sym q ∙ h));
-      refused = λ z. format-refused words slots nodes s' b (λ h. z (q ∙ h)) ∙ ap (λ n. ended n 0 s' b) (sym q);
+      answer = q ∙ same;
+      is = λ z.
+          let h : perform op s' .answer ≢ 0 = λ p. z (q ∙ p) in
+          early-ends op s' h (one-or-three (demand1 .refused op s' h .number)) b ∙ ap (λ n. ended n 0 s' b) (sym q);
+      stays = λ z.
+          let h : perform op s .answer ≢ 0 = λ p. z (q ∙ same ∙ p) in
+          done-same op s h (λ p. omega (arith, p, one-or-three (demand1 .refused op s h .number)));
     }
 
--- ---- power lost
+-- a format that the table answers leaves it empty
+format-table : (words slots nodes : ℕ) (s : State) (t : Table) → replied (format words slots nodes) s t .answer ≡ 0
+    → replied (format words slots nodes) s t .work .after ≡ emptyTable slots nodes
+unfolding reply tableWork
+format-table words slots nodes s t h = rw h refl
 
-no-entries : (n : ℕ) → decode n [] ≡ some []
-unfolding decode
-no-entries n = refl
-
--- the entries that the words are read as are the script's
-read-entries : (op : Operation) (s : State) (b : Buffers) → Fits op s
-    → decode (length (s .image)) (wordsIn (counted op) (ends op s b)) ≡ some (segmented (perform op s .work .script))
-unfolding segmented
-read-entries op s b fit = elim (test (eqb (perform op s .answer) 0)) [
-  | inl t ↦ answered op s b (eqb-true (perform op s .answer) 0 t) fit .entries
-  | inr t ↦
-      let h = eqb-false (perform op s .answer) 0 t in
-      rw (nothing-over (counted op) (ends op s b) (refused op s b h .count) .0, demand1 .refused op s h .no-store) (no-entries _)
-]
-
--- a driver's cut is one of the history's
-cut-interrupted : {op : Operation} {s : State} {e : Ends} {k : ℕ} {m : List ℕ} (b : Buffers) → e ≡ ends op s b
-    → decode (length (s .image)) (wordsIn (counted op) e) ≡ some (segmented (perform op s .work .script)) → (c : CutShort op s e k m)
-    → Interrupted op s k m × (c .entries ≡ segmented (perform op s .work .script))
-cut-interrupted {op} {s} b q d c =
-    let same : c .entries ≡ segmented (perform op s .work .script) = some-inj (sym (c .decoded) ∙ d) in
-    let answer = ap (λ (x : Ends). x .answer) q ∙ answer-ends op s b in
-    let image = ap (λ (x : Ends). x .after .image) q ∙ ap (λ (x : State). x .image) (after-ends op s b) in (
-      record {
-        unsteady = λ x. c .unsteady (rw answer x);
-        itself = c .itself;
-        same-length = c .same-length;
-        old-or-new = rw image at (c .old-or-new);
-        script = rw same at (c .cut);
-      },
-      same,
-    )
-
--- ---- recovery
-
-module _ (words : ℕ) (s : State) (b : Buffers) where
-  -- it hands out no words, and leaves the image that the history goes on with
-  recover-entries : decode (length (s .image)) (wordsIn (counted (recover words)) (ends (recover words) s b))
-      ≡ some (segmented (perform (recover words) s .work .script))
-  unfolding segmented
-  recover-entries = rw (recover-writes words s .script) (no-entries _)
-
-  recover-after : ends (recover words) s b .after ≡ done (recover words) s
-  unfolding segmented apply
-  recover-after = after-ends (recover words) s b ∙ rw (recover-writes words s .script) refl
-
-retries-attempts : {m m' : List ℕ} → Retries m m' → Attempts m m'
-retries-attempts none-yet = no-attempt
-retries-attempts {m} {m'} (refused-retry map heads e q z r) =
-    let s = state m map heads in
-    let words = length map in
-    let same : e .after .image ≡ done (recover words) s .image =
-    ap (λ (x : Ends). x .after .image) q ∙ ap (λ (x : State). x .image) (recover-after words s noBuffers) in
-    refused-attempt words s refl (λ h. z (ap (λ (x : Ends). x .answer) q ∙ answer-ends (recover words) s noBuffers ∙ h)) (rw same at (retries-attempts r))
-retries-attempts {m} (cut-short map heads e q k c r) =
-    let s = state m map heads in
-    let words = length map in
-    interrupted-attempt words s k refl (cut-interrupted noBuffers q (recover-entries words s noBuffers) c .0) (retries-attempts r)
-
-recovers-recovered : {m : List ℕ} {s' : State} → Recovers m s' → Recovered m s'
-recovers-recovered r =
-    let s = state (r .image) (r .map) (r .heads) in
-    let words = length (r .map) in
-    let q = r .contract in
+-- refused, it is told what the table replies, and has its own map still
+sent-back-goes-on : {op : Operation} {s : State} {t : Table} {map : List ℕ} {b : Buffers} {e : Ends} → Follows s t → Fits op s → SentBack op s map b e
+    → e .answer ≢ 0 → GoesOn op s t e (state (next op e .image) (s .pool) (e .after .heads))
+sent-back-goes-on {op} {s} {t} {map} {b} {e} f fit x z =
+    let a = demand2 .alike s t f op (fit .numbers) in
+    let d = demand1 .refused op s (rw (← x .answer) z) in
+    let n = nothing-over (counted op) e (ap (λ (y : Ends). y .count) (x .is z)) in
+    let heads = ap (λ (y : Ends). y .after .heads) (x .is z) in
+    let image = ap (λ (y : Ends). y .after .image) (x .is z) in
+    let step : Follows (done op s) (replied op s t .work .after) = performed f op (fit .numbers) in
     record {
-      left = r .image;
-      attempts = retries-attempts (r .retries);
-      words = words;
-      from = s;
-      image = refl;
-      answered = sym (answer-ends (recover words) s noBuffers) ∙ sym (ap (λ (x : Ends). x .answer) q) ∙ r .answered;
-      is = r .is ∙ ap (λ (x : Ends). x .after) q ∙ recover-after words s noBuffers;
+      answer = x .answer ∙ a .answer;
+      value = n .1 ∙ sym (d .no-value) ∙ a .value;
+      listing = rw (n .2, ← d .no-listing) (a .listing);
+      follows = rw (n .0, nothing-carried (e .after .image), image, heads) (rw (x .stays z) at step);
     }
 
-survives : (op : Operation) (s : State) (t : Table) (b : Buffers) (e : Ends) (k : ℕ) (m : List ℕ) → Follows s t → Fits op s → e ≡ ends op s b
-    → (c : CutShort op s e k m) → Survives op s t e k m c
-survives op s t b e k m f fit q c =
-    let i = cut-interrupted b q (rw q (read-entries op s b fit)) c in
-    let lives = demand3 s t f .survives op (fit .numbers) k m in
-    record {
-      accepted = λ m' map heads e' r q'.
-          ap (λ (x : Ends). x .answer) q' ∙ answer-ends (recover (length map)) (state m' map heads) noBuffers
-          ∙ lives m' (i .0) (retries-attempts r) .accepted (length map) (state m' map heads) refl;
-      follows = λ s' r.
-          let x = recovers-recovered r in
-          elim (lives m (i .0) no-attempt .whole s' x) [
-            | inl y ↦ inl (rw (i .1) (y .0), before f op (fit .numbers) k (i .0) x (y .0) (y .1))
-            | inr y ↦ inr (after f op (fit .numbers) k (i .0) x y)
-          ];
-    }
-
--- ---- a driver
-
--- a call that leaves everything leaves the book's own map too
-left-alone : {s s' : State} {map : List ℕ} {t : Table} → Follows s t → s' ≡ state (s .image) map (s .heads)
-    → (t : Table) × Follows (state (s' .image) (s .pool) (s' .heads)) t
-left-alone {t = t} f q = (t, rw q f)
-
-driven : {s : State} → Driven s → (t : Table) × Follows s t
-driven (formats words slots nodes s b e fit q h) =
-    let op = format words slots nodes in
-    let h' : perform op s .answer ≡ 0 = sym (answer-ends op s b) ∙ sym (ap (λ (x : Ends). x .answer) q) ∙ h in
-    (emptyTable slots nodes, rw (q, told op s b fit .step) (formatted words slots nodes s (fit .image) h'))
-driven (calls {s} d op b e fit q) = let f = driven d in (replied op s (f .0) .work .after, rw q (goes-on op s (f .0) b (f .1) fit .follows))
-driven (lends-another {s} d op map b e o q) =
-    let u = unread op (s .image) map (s .heads) b o in
-    left-alone (driven d .1) (ap (λ (x : Ends). x .after) (q ∙ u .leaves-all map))
-driven (refused-format {s} d words slots nodes map b e q z) =
+-- a format that is answered starts the book anew, with the map that it was lent
+format-goes-on : (words slots nodes : ℕ) (s : State) (t : Table) (map : List ℕ) (b : Buffers) {e : Ends} → Follows s t → Fits (format words slots nodes) s
+    → e ≡ ends (format words slots nodes) (state (s .image) map (s .heads)) b → e .answer ≡ 0
+    → GoesOn (format words slots nodes) s t e (next (format words slots nodes) e)
+format-goes-on words slots nodes s t map b {e} f fit q h =
     let op = format words slots nodes in
     let s' = state (s .image) map (s .heads) in
-    let z' : perform op s' .answer ≢ 0 = λ h. z (ap (λ (x : Ends). x .answer) q ∙ answer-ends op s' b ∙ h) in
-    left-alone (driven d .1) (ap (λ (x : Ends). x .after) (q ∙ format-refused words slots nodes s' b z'))
-driven (loses-power {s} {s'} {m} d op b e fit q k c r) =
-    let f = driven d in
-    elim (survives op s (f .0) b e k m (f .1) fit q c .follows s' r) [ inl x ↦ (_, x .1) | inr x ↦ (_, x) ]
+    let own = goes-on op s t b f fit in
+    let x = rw (← q) at (sent-back {op = op} {s = s} map b to-format) in
+    let answer : e .answer ≡ replied op s t .answer = x .answer ∙ demand2 .alike s t f op (fit .numbers) .answer in
+    let h' : perform op s' .answer ≡ 0 = sym (answer-ends op s' b) ∙ sym (ap (λ (y : Ends). y .answer) q) ∙ h in
+    let fit' : Fits op s' = record { image = fit .image; heads = fit .heads; numbers = fit .numbers } in
+    record {
+      answer = answer;
+      value = own .value;
+      listing = own .listing;
+      follows = rw (format-table words slots nodes s t (sym answer ∙ h), q, told op s' b fit' .step) (formatted words slots nodes s' (fit .image) h');
+    }
 
-stands : {s : State} {t : Table} → Follows s t → Stands s
-stands {s} {t} f = record {
-  table = t;
-  follows = f;
-  agrees = demand3 s t f .agrees;
-  goes-on = λ op b e fit q. rw q (goes-on op s t b f fit);
-  survives = λ op b e fit q k m c. survives op s t b e k m f fit q c;
-}
+-- one that is lent a map of another length is never answered
+answered-another : (op : Operation) (s : State) (t : Table) (b : Buffers) (e : Ends) (map : List ℕ) → Follows s t → Fits op s → OtherBuffer (s .image) op
+    → e ≡ ends op (state (s .image) map (s .heads)) b → e .answer ≡ 0 → GoesOn op s t e (next op e)
+answered-another op s t b e map f fit (another-length o) q h =
+    absurd (one-to-three (unread op (s .image) map (s .heads) b o .number) .0 (sym (ap (λ (y : Ends). y .answer) q) ∙ h))
+answered-another op s t b e map f fit (to-format {words} {slots} {nodes}) q h = format-goes-on words slots nodes s t map b f fit q h
+
+called-goes-on : (op : Operation) (s : State) (t : Table) (b : Buffers) (e : Ends) → Follows s t → Fits op s → (c : Called op s b e)
+    → GoesOn op s t e (afterCall c)
+called-goes-on op s t b e f fit (with-its-map q) = rw q (goes-on op s t b f fit)
+called-goes-on op s t b e f fit (with-another map o q) = elim (test (eqb (e .answer) 0)) [
+  | inl r ↦ rw r (answered-another op s t b e map f fit o q (eqb-true (e .answer) 0 r))
+  | inr r ↦ rw r (sent-back-goes-on f fit (rw (← q) at (sent-back {op = op} {s = s} map b o)) (eqb-false (e .answer) 0 r))
+]
 
 pub chain : Chain
 chain = record {
@@ -413,8 +356,5 @@ chain = record {
       let op = format words slots nodes in
       let h' : perform op s .answer ≡ 0 = sym (answer-ends op s b) ∙ sym (ap (λ (x : Ends). x .answer) q) ∙ h in
       rw (q, told op s b fit .step) (formatted words slots nodes s (fit .image) h');
-  goes-on = λ op s t b e f fit q. rw q (goes-on op s t b f fit);
-  format-goes-on = λ words slots nodes s t map b e f fit q. rw q (format-goes-on words slots nodes s t map b f fit);
-  survives = survives;
-  driven = λ s d. stands (driven d .1);
+  goes-on = called-goes-on;
 }

@@ -14,3 +14,4 @@ pub mod Claiming
 pub mod ClaimingScripts
 pub mod ClaimingEndings
 pub mod Chain
+pub mod Driver

@@ -2,21 +2,22 @@
 -- demands speak of histories, whose steps are `done op s`. A driver that carries out the words that it was handed makes that step.
 use mathlib.Core.Path.{_≡_}
 use mathlib.Core.Bool.{cond}
-use mathlib.Core.Logic.{_⊎_, _≢_}
+use mathlib.Core.Logic.{_≢_}
 use mathlib.Core.Option.{some}
 use mathlib.Core.List.{List, [], _∷_, List·Memᴰ}
 use Prim.Native.Nat.{ℕ}
 use lib.ListN.{length, take}
 use lib.Dec.{eqb}
-use Rattle.tree.specs.Memory.{reads, Entry, segmented, decode, CrashImage, passed, Fit}
+use Rattle.tree.specs.Memory.{reads, segmented, decode, Fit}
 use Rattle.tree.specs.Layout.{mapWords, geometryOf}
 use Rattle.book.specs.State.{State, Operation, format, recover, openReel, claim, fill, commit, abandon, remove, has, list, retire, arguments}
 use Rattle.book.specs.Perform.{perform}
 use Rattle.book.specs.CarryOut.{carry, carried}
-use Rattle.book.specs.Table.{Table, emptyTable, allIdle}
-use Rattle.book.specs.Agrees.{EachOnce, Agrees}
-use Rattle.book.specs.Histories.{done, replied, Steady, Follows}
-use Rattle.operations.specs.Ends.{Buffers, noBuffers, state, Ends, ended, ends}
+use Rattle.book.specs.Table.{Table, emptyTable}
+use Rattle.book.specs.Agrees.{EachOnce}
+use Rattle.book.specs.Demands.{Leaves}
+use Rattle.book.specs.Histories.{done, replied, Follows}
+use Rattle.operations.specs.Ends.{Buffers, state, Ends, ended, ends}
 
 -- ---- what the driver has been handed
 
@@ -77,6 +78,8 @@ pub record Refused (op : Operation) (s : State) (b : Buffers) (e : Ends) : Type 
   pub script : e .buffers .script ≡ b .script
   pub list : e .buffers .list ≡ b .list
   pub after : e .after ≡ done op s
+  -- whatever map it was lent: everything is as before, but for the map that a recovery refused 4 clears
+  pub left : Leaves s op (e .answer) (e .after)
 
 -- ---- a map of another length
 
@@ -96,103 +99,33 @@ pub record Unread (op : Operation) (image heads : List ℕ) (b : Buffers) (e : E
 
 -- ---- in a history
 
--- the driver is told what the table replies, and with its next state the history goes on
-pub record GoesOn (op : Operation) (s : State) (t : Table) (e : Ends) : Type 0 where
-  pub answer : e .answer ≡ replied op s t .answer
-  pub value : valueIn (counted op) e ≡ replied op s t .work .value
-  pub listing : EachOnce (framesIn (counted op) e) (replied op s t .work .frames)
-  pub follows : Follows (next op e) (replied op s t .work .after)
-
--- a format in a history is lent a map as long as its own N needs, which may be another buffer than the book's: answered, it starts
--- the book anew; refused, it leaves the map too
-pub record FormatGoesOn (words slots nodes : ℕ) (s : State) (t : Table) (map : List ℕ) (b : Buffers) (e : Ends) : Type 0 where
-  pub answer : e .answer ≡ replied (format words slots nodes) s t .answer
-  pub answered : e .answer ≡ 0 → Follows (next (format words slots nodes) e) (emptyTable slots nodes)
-  pub refused : e .answer ≢ 0 → e ≡ ended (e .answer) 0 (state (s .image) map (s .heads)) b
-
 -- image, heads and arguments are words of 64 bits, as they are in the code
 pub record Fits (op : Operation) (s : State) : Type 0 where
   pub image : Fit (s .image)
   pub heads : Fit (s .heads)
   pub numbers : Fit (arguments op)
 
--- ---- power lost
+-- a buffer that is not the book's map: one of another length, or whatever a format is lent, whose N is its own
+pub data OtherBuffer (image : List ℕ) : Operation → Type 0 where
+  another-length : {op : Operation} → OtherMap image op → OtherBuffer image op
+  to-format : {words slots nodes : ℕ} → OtherBuffer image (format words slots nodes)
 
--- the images that power lost can leave, from an operation's call to the last barrier of the words that it handed out: the call, where it
--- writes the image itself, has left each word old or new; then the words, read as entries, are cut after k of these
-pub record CutShort (op : Operation) (s : State) (e : Ends) (k : ℕ) (m : List ℕ) : Type 0 where
-  pub unsteady : Steady op (e .answer) → ⊥
-  pub itself : List ℕ
-  pub same-length : length itself ≡ length (s .image)
-  pub old-or-new : (i : ℕ) → (reads itself i ≡ reads (s .image) i) ⊎ (reads itself i ≡ reads (e .after .image) i)
-  pub entries : List Entry
-  pub decoded : decode (length (s .image)) (wordsIn (counted op) e) ≡ some entries
-  pub cut : CrashImage itself entries k m
+-- a call on the book's image and heads: with its map, or with another buffer. What the contract then says
+pub data Called (op : Operation) (s : State) (b : Buffers) (e : Ends) : Type 0 where
+  with-its-map : e ≡ ends op s b → Called op s b e
+  with-another : (map : List ℕ) → OtherBuffer (s .image) op → e ≡ ends op (state (s .image) map (s .heads)) b → Called op s b e
 
--- what the contract of recover says of a call with this image, this map and these heads
-abbrev pub RecoverEnds : (image map heads : List ℕ) → Ends → Type 0
-RecoverEnds image map heads e = e ≡ ends (recover (length map)) (state image map heads) noBuffers
+-- the driver's state then, the words carried out. Its map is the one lent, or its own where it lent another and was refused
+abbrev pub afterCall : {op : Operation} {s : State} {b : Buffers} {e : Ends} → Called op s b e → State
+afterCall {op} {e = e} (with-its-map q) = next op e
+afterCall {op} {s} {e = e} (with-another map o q) = state (next op e .image) (cond (eqb (e .answer) 0) (e .after .pool) (s .pool)) (e .after .heads)
 
--- power is back: calls of recover that are refused, or in which power is lost once more, from image to image. Map and heads hold anything
-pub data Retries : (image image' : List ℕ) → Type 0 where
-  none-yet : {m : List ℕ} → Retries m m
-  refused : {m m' : List ℕ} (map heads : List ℕ) (e : Ends) → RecoverEnds m map heads e → e .answer ≢ 0
-      → Retries (e .after .image) m' → Retries m m'
-  cut-short : {m m' m'' : List ℕ} (map heads : List ℕ) (e : Ends) → RecoverEnds m map heads e
-      → (k : ℕ) → CutShort (recover (length map)) (state m map heads) e k m' → Retries m' m'' → Retries m m''
-
--- then one that answers 0, and whose barrier is passed: the driver's state is as that call left image, map and heads
-pub record Recovers (m : List ℕ) (s' : State) : Type 0 where
-  pub image : List ℕ
-  pub retries : Retries m image
-  pub map : List ℕ
-  pub heads : List ℕ
-  pub e : Ends
-  pub contract : RecoverEnds image map heads e
-  pub answered : e .answer ≡ 0
-  pub is : s' ≡ e .after
-
--- power lost in an operation of a history
-pub record Survives (op : Operation) (s : State) (t : Table) (e : Ends) (k : ℕ) (m : List ℕ) (c : CutShort op s e k m) : Type 0 where
-  -- however often recover was refused or cut short since, a call answers 0, or 3 for a map of another length
-  pub accepted : (m' map heads : List ℕ) (e' : Ends) → Retries m m' → RecoverEnds m' map heads e'
-      → e' .answer ≡ cond (eqb (length map) (mapWords (geometryOf (reads m')))) 0 3
-  -- once one has answered 0, the history goes on with the table before, while a barrier was left to pass, or with the one after; heads idle
-  pub follows : (s' : State) → Recovers m s'
-      → ((passed (c .entries) k → ⊥) × Follows s' (allIdle t)) ⊎ Follows s' (allIdle (replied op s t .work .after))
-
--- ---- a driver
-
--- whatever a driver that keeps to the contracts can come to, in its own terms: the equations that the contracts give it, the words that it
--- was handed, and power lost at any moment
-pub data Driven : State → Type 0 where
-  -- a format that is answered, over any memory, any map and any heads
-  formats : (words slots nodes : ℕ) (s : State) (b : Buffers) (e : Ends) → Fits (format words slots nodes) s
-      → e ≡ ends (format words slots nodes) s b → e .answer ≡ 0 → Driven (next (format words slots nodes) e)
-  -- any operation on the book's image, map and heads; the words that it handed out are carried out
-  calls : {s : State} → Driven s → (op : Operation) (b : Buffers) (e : Ends) → Fits op s → e ≡ ends op s b → Driven (next op e)
-  -- one that is lent another buffer for the map, of a wrong length, or by a format that is refused: the book's own map stays
-  lends-another : {s : State} → Driven s → (op : Operation) (map : List ℕ) (b : Buffers) (e : Ends) → OtherMap (s .image) op
-      → e ≡ ends op (state (s .image) map (s .heads)) b → Driven (state (e .after .image) (s .pool) (e .after .heads))
-  refused-format : {s : State} → Driven s → (words slots nodes : ℕ) (map : List ℕ) (b : Buffers) (e : Ends)
-      → e ≡ ends (format words slots nodes) (state (s .image) map (s .heads)) b → e .answer ≢ 0
-      → Driven (state (e .after .image) (s .pool) (e .after .heads))
-  -- power lost from an operation's call to its last barrier, and recover called until it answers 0. Between two calls that is k = 0 of the
-  -- next one; a call that is lent another map writes nothing
-  loses-power : {s s' : State} {m : List ℕ} → Driven s → (op : Operation) (b : Buffers) (e : Ends) → Fits op s → e ≡ ends op s b
-      → (k : ℕ) → CutShort op s e k m → Recovers m s' → Driven s'
-
--- where it then stands: with a plain table
-pub record Stands (s : State) : Type 0 where
-  pub table : Table
-  -- the one that the history so far comes to, and that the book agrees with: reels, frames, heads, and the map's nodes
-  pub follows : Follows s table
-  pub agrees : Agrees s table
-  -- whatever it calls next, it is told what the table replies, and stands with the table after that
-  pub goes-on : (op : Operation) (b : Buffers) (e : Ends) → Fits op s → e ≡ ends op s b → GoesOn op s table e
-  -- and if it loses power in that, anywhere, recover comes to answer 0, and it stands with that table or with the one after, whole
-  pub survives : (op : Operation) (b : Buffers) (e : Ends) → Fits op s → e ≡ ends op s b → (k : ℕ) (m : List ℕ) (c : CutShort op s e k m)
-      → Survives op s table e k m c
+-- the driver is told what the table replies, and with its next state the history goes on
+pub record GoesOn (op : Operation) (s : State) (t : Table) (e : Ends) (s' : State) : Type 0 where
+  pub answer : e .answer ≡ replied op s t .answer
+  pub value : valueIn (counted op) e ≡ replied op s t .work .value
+  pub listing : EachOnce (framesIn (counted op) e) (replied op s t .work .frames)
+  pub follows : Follows s' (replied op s t .work .after)
 
 pub record Chain : Type 0 where
   pub answered : (op : Operation) (s : State) (b : Buffers) (e : Ends) → Fits op s → e ≡ ends op s b → e .answer ≡ 0 → Answered op s e
@@ -201,12 +134,5 @@ pub record Chain : Type 0 where
       → e ≡ ends op (state image pool heads) b → Unread op image heads b e
   pub starts : (words slots nodes : ℕ) (s : State) (b : Buffers) (e : Ends) → Fits (format words slots nodes) s
       → e ≡ ends (format words slots nodes) s b → e .answer ≡ 0 → Follows (next (format words slots nodes) e) (emptyTable slots nodes)
-  pub goes-on : (op : Operation) (s : State) (t : Table) (b : Buffers) (e : Ends) → Follows s t → Fits op s → e ≡ ends op s b → GoesOn op s t e
-  pub format-goes-on : (words slots nodes : ℕ) (s : State) (t : Table) (map : List ℕ) (b : Buffers) (e : Ends) → Follows s t
-      → Fits (format words slots nodes) s → e ≡ ends (format words slots nodes) (state (s .image) map (s .heads)) b
-      → FormatGoesOn words slots nodes s t map b e
-  pub survives : (op : Operation) (s : State) (t : Table) (b : Buffers) (e : Ends) (k : ℕ) (m : List ℕ) → Follows s t → Fits op s → e ≡ ends op s b
-      → (c : CutShort op s e k m) → Survives op s t e k m c
-  -- all of it: a driver that calls the exported functions, carries out the words that it was handed, loses power anywhere, and then calls
-  -- recover until this answers 0, stands with a plain table, wherever it has come to
-  pub driven : (s : State) → Driven s → Stands s
+  pub goes-on : (op : Operation) (s : State) (t : Table) (b : Buffers) (e : Ends) → Follows s t → Fits op s → (c : Called op s b e)
+      → GoesOn op s t e (afterCall c)

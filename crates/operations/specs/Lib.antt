@@ -3,3 +3,4 @@ pub mod HeadLists
 pub mod Ends
 pub mod Checked
 pub mod Chain
+pub mod Driver

@@ -1,0 +1,166 @@
+-- A driver's whole history, proved: its cuts are those of histories, its calls of recover the recoveries there.
+use mathlib.Core.Path.{_≡_, refl, sym, _∙_, ap}
+use mathlib.Core.Logic.{inl, inr, _≢_}
+use mathlib.Core.Option.{some}
+use mathlib.Core.List.{List, []}
+use Prim.Native.Nat.{ℕ}
+use native.Mathlib.Decide.{ℕ-discrete}
+use lib.ListN.{length}
+use Rattle.tree.specs.Memory.{decode, segmented, apply}
+use Rattle.tree.proofs.Cases.{some-inj}
+use Rattle.book.specs.State.{State, Operation, format, recover}
+use Rattle.book.specs.Perform.{perform}
+use Rattle.book.specs.Table.{Table}
+use Rattle.book.specs.Histories.{done, replied, Steady, answered-format, Interrupted, Attempts, Recovered, Follows, before, after}
+use Rattle.book.specs.Histories.{none-yet as no-attempt, refused as refused-attempt, interrupted as interrupted-attempt}
+use Rattle.book.proofs.Demands.{demand1, demand3}
+use Rattle.book.proofs.Done.{refused-image}
+use Rattle.book.proofs.Recovery.{recover-writes}
+use Rattle.operations.specs.Ends.{Buffers, noBuffers, state, Ends, ends}
+use Rattle.operations.specs.Chain.{counted, wordsIn, Fits, OtherBuffer, another-length, to-format, Called, with-its-map, with-another}
+use Rattle.operations.specs.Driver.{CutShort, Retries, none-yet, refused, cut-short, Recovers, Whole, as-before, as-after, Driven, formats, calls, loses-power, Survives, Stands, Driver}
+use Rattle.operations.proofs.Chain.{nothing-over, answer-ends, after-ends, one-to-three, sent-back, chain}
+
+-- ---- power lost
+
+no-entries : (n : ℕ) → decode n [] ≡ some []
+unfolding decode
+no-entries n = refl
+
+-- a call as histories have it: its answer, the image that it left, and the entries that its words are read as
+record Performs (op : Operation) (s : State) (e : Ends) : Type 0 where
+  answer : e .answer ≡ perform op s .answer
+  image : e .after .image ≡ perform op s .work .after .image
+  entries : decode (length (s .image)) (wordsIn (counted op) e) ≡ some (segmented (perform op s .work .script))
+
+-- one that is refused hands out no words
+performs-refused : {op : Operation} {s : State} {e : Ends} → e .answer ≡ perform op s .answer → e .after .image ≡ perform op s .work .after .image
+    → e .count ≡ 0 → perform op s .answer ≢ 0 → Performs op s e
+unfolding segmented
+performs-refused {op} {s} {e} q i c h = record {
+  answer = q;
+  image = i;
+  entries = rw (nothing-over (counted op) e c .0, demand1 .refused op s h .no-store) (no-entries _);
+}
+
+performs : (op : Operation) (s : State) (b : Buffers) → Fits op s → Performs op s (ends op s b)
+performs op s b fit = elim (ℕ-discrete (perform op s .answer) 0) [
+  | yes h ↦ record {
+    answer = answer-ends op s b;
+    image = ap (λ (x : State). x .image) (after-ends op s b);
+    entries = chain .answered op s b (ends op s b) fit refl (answer-ends op s b ∙ h) .entries;
+  }
+  | no h ↦ performs-refused (answer-ends op s b) (ap (λ (x : State). x .image) (after-ends op s b))
+      (chain .refused op s b (ends op s b) refl (λ z. h (sym (answer-ends op s b) ∙ z)) .count) h
+]
+
+-- a driver's cut is one of the history's
+cut-interrupted : {op : Operation} {s : State} {e : Ends} {k : ℕ} {m : List ℕ} → Performs op s e → (c : CutShort op s e k m)
+    → Interrupted op s k m × (c .entries ≡ segmented (perform op s .work .script))
+cut-interrupted {op} {s} p c =
+    let same : c .entries ≡ segmented (perform op s .work .script) = some-inj (sym (c .decoded) ∙ p .entries) in (
+      record {
+        unsteady = λ x. c .unsteady (rw (p .answer) x);
+        itself = c .itself;
+        same-length = c .same-length;
+        old-or-new = rw (p .image) at (c .old-or-new);
+        script = rw same at (c .cut);
+      },
+      same,
+    )
+
+another-refused : {op : Operation} (s : State) (map : List ℕ) (b : Buffers) → OtherBuffer (s .image) op
+    → (Steady op (ends op (state (s .image) map (s .heads)) b .answer) → ⊥) → ends op (state (s .image) map (s .heads)) b .answer ≢ 0
+another-refused {op} s map b (another-length o) u z =
+    one-to-three (chain .other-map op (s .image) map (s .heads) b _ o refl .number) .0 z
+another-refused s map b to-format u z = u (rw z answered-format)
+
+-- with another buffer it is refused; a format that is answered is on steady power
+called-performs : {op : Operation} {s : State} {b : Buffers} {e : Ends} → Fits op s → Called op s b e → (Steady op (e .answer) → ⊥) → Performs op s e
+called-performs {op} {s} {b} fit (with-its-map q) u = rw q (performs op s b fit)
+called-performs {op} {s} {b} {e} fit (with-another map o q) u =
+    let x = rw (← q) at (sent-back {op = op} {s = s} map b o) in
+    let z : e .answer ≢ 0 = rw q (another-refused {op = op} s map b o (rw q at u)) in
+    let h : perform op s .answer ≢ 0 = rw (← x .answer) z in
+    performs-refused (x .answer) (ap (λ (y : Ends). y .after .image) (x .is z) ∙ sym (refused-image op s h)) (ap (λ (y : Ends). y .count) (x .is z)) h
+
+-- ---- recovery
+
+module _ (words : ℕ) (s : State) (b : Buffers) where
+  -- it hands out no words, and leaves the image that the history goes on with
+  recover-performs : Performs (recover words) s (ends (recover words) s b)
+  unfolding segmented
+  recover-performs = record {
+    answer = answer-ends (recover words) s b;
+    image = ap (λ (x : State). x .image) (after-ends (recover words) s b);
+    entries = rw (recover-writes words s .script) (no-entries _);
+  }
+
+  recover-after : ends (recover words) s b .after ≡ done (recover words) s
+  unfolding segmented apply
+  recover-after = after-ends (recover words) s b ∙ rw (recover-writes words s .script) refl
+
+retries-attempts : {m m' : List ℕ} → Retries m m' → Attempts m m'
+retries-attempts none-yet = no-attempt
+retries-attempts {m} {m'} (refused map heads e q z r) =
+    let s = state m map heads in
+    let words = length map in
+    let same : e .after .image ≡ done (recover words) s .image =
+    ap (λ (x : Ends). x .after .image) q ∙ ap (λ (x : State). x .image) (recover-after words s noBuffers) in
+    refused-attempt words s refl (λ h. z (ap (λ (x : Ends). x .answer) q ∙ answer-ends (recover words) s noBuffers ∙ h)) (rw same at (retries-attempts r))
+retries-attempts {m} (cut-short map heads e q k c r) =
+    let s = state m map heads in
+    let words = length map in
+    interrupted-attempt words s k refl (cut-interrupted (rw q (recover-performs words s noBuffers)) c .0) (retries-attempts r)
+
+recovers-recovered : {m : List ℕ} {s' : State} → Recovers m s' → Recovered m s'
+recovers-recovered r =
+    let s = state (r .image) (r .map) (r .heads) in
+    let words = length (r .map) in
+    let q = r .contract in
+    record {
+      left = r .image;
+      attempts = retries-attempts (r .retries);
+      words = words;
+      from = s;
+      image = refl;
+      answered = sym (answer-ends (recover words) s noBuffers) ∙ sym (ap (λ (x : Ends). x .answer) q) ∙ r .answered;
+      is = r .is ∙ ap (λ (x : Ends). x .after) q ∙ recover-after words s noBuffers;
+    }
+
+-- ---- a driver
+
+module _ {op : Operation} {s : State} {t : Table} {b : Buffers} {e : Ends} {k : ℕ} {m : List ℕ} (f : Follows s t) (fit : Fits op s) (call : Called op s b e)
+    (c : CutShort op s e k m) where
+  cut : Interrupted op s k m × (c .entries ≡ segmented (perform op s .work .script))
+  cut = cut-interrupted (called-performs fit call (c .unsteady)) c
+
+  whole-follows : {s' : State} {t' : Table} → Recovers m s' → Whole (c .entries) k t (replied op s t .work .after) s' t' → Follows s' t'
+  whole-follows r (as-before p a) = before f op (fit .numbers) k (cut .0) (recovers-recovered r) (rw (cut .1) at p) a
+  whole-follows r (as-after a) = after f op (fit .numbers) k (cut .0) (recovers-recovered r) a
+
+  survives : Survives op s t e k m c
+  survives =
+      let lives = demand3 s t f .survives op (fit .numbers) k m in
+      record {
+        accepted = λ m' map heads e' r q.
+            ap (λ (x : Ends). x .answer) q ∙ answer-ends (recover (length map)) (state m' map heads) noBuffers
+            ∙ lives m' (cut .0) (retries-attempts r) .accepted (length map) (state m' map heads) refl;
+        whole = λ s' r. elim (lives m (cut .0) no-attempt .whole s' (recovers-recovered r)) [
+          | inl y ↦ (_, as-before (rw (cut .1) (y .0)) (y .1))
+          | inr y ↦ (_, as-after y)
+        ];
+      }
+
+follows : {s : State} {t : Table} → Driven s t → Follows s t
+follows (formats words slots nodes s b e fit q h) = chain .starts words slots nodes s b e fit q h
+follows (calls {s} {t} d op b e fit c) = chain .goes-on op s t b e (follows d) fit c .follows
+follows (loses-power d op b e fit call k c r w) = whole-follows (follows d) fit call c r w
+
+pub driver : Driver
+driver s t d = let f = follows d in record {
+  follows = f;
+  agrees = demand3 s t f .agrees;
+  goes-on = λ op b e fit c. chain .goes-on op s t b e f fit c;
+  survives = λ op b e fit call k m c. survives f fit call c;
+}

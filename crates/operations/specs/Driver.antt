@@ -1,0 +1,100 @@
+-- A driver's whole history, power lost included: statements alone, in the driver's own terms. These are the equations that the exported
+-- contracts give it, the words that it was handed, and what power lost leaves of these.
+use mathlib.Core.Path.{_≡_}
+use mathlib.Core.Bool.{cond}
+use mathlib.Core.Logic.{_⊎_, _≢_}
+use mathlib.Core.Option.{some}
+use mathlib.Core.List.{List}
+use Prim.Native.Nat.{ℕ}
+use lib.ListN.{length}
+use lib.Dec.{eqb}
+use Rattle.tree.specs.Memory.{reads, Entry, decode, CrashImage, passed}
+use Rattle.tree.specs.Layout.{mapWords, geometryOf}
+use Rattle.book.specs.State.{State, Operation, format, recover}
+use Rattle.book.specs.Table.{Table, emptyTable, allIdle}
+use Rattle.book.specs.Agrees.{Agrees}
+use Rattle.book.specs.Histories.{replied, Steady, Follows}
+use Rattle.operations.specs.Ends.{Buffers, noBuffers, state, Ends, ends}
+use Rattle.operations.specs.Chain.{counted, wordsIn, next, Fits, Called, afterCall, GoesOn}
+
+-- ---- power lost (the paper's cut)
+
+-- the images that power lost can leave, from an operation's call to the last barrier of the words that it handed out: the call, where it
+-- writes the image itself, has left each word old or new; then the words, read as entries, are cut after k of these
+pub record CutShort (op : Operation) (s : State) (e : Ends) (k : ℕ) (m : List ℕ) : Type 0 where
+  pub unsteady : Steady op (e .answer) → ⊥
+  pub itself : List ℕ
+  pub same-length : length itself ≡ length (s .image)
+  pub old-or-new : (i : ℕ) → (reads itself i ≡ reads (s .image) i) ⊎ (reads itself i ≡ reads (e .after .image) i)
+  pub entries : List Entry
+  pub decoded : decode (length (s .image)) (wordsIn (counted op) e) ≡ some entries
+  pub cut : CrashImage itself entries k m
+
+-- ---- recovery
+
+-- what the contract of recover says of a call with this image, this map and these heads
+abbrev pub RecoverEnds : (image map heads : List ℕ) → Ends → Type 0
+RecoverEnds image map heads e = e ≡ ends (recover (length map)) (state image map heads) noBuffers
+
+-- power is back: calls of recover that are refused, or in which power is lost once more, from image to image. Map and heads hold anything
+pub data Retries : (image image' : List ℕ) → Type 0 where
+  none-yet : {m : List ℕ} → Retries m m
+  refused : {m m' : List ℕ} (map heads : List ℕ) (e : Ends) → RecoverEnds m map heads e → e .answer ≢ 0
+      → Retries (e .after .image) m' → Retries m m'
+  cut-short : {m m' m'' : List ℕ} (map heads : List ℕ) (e : Ends) → RecoverEnds m map heads e
+      → (k : ℕ) → CutShort (recover (length map)) (state m map heads) e k m' → Retries m' m'' → Retries m m''
+
+-- then one that answers 0, and whose barrier is passed: the driver's state is as that call left image, map and heads
+pub record Recovers (m : List ℕ) (s' : State) : Type 0 where
+  pub image : List ℕ
+  pub retries : Retries m image
+  pub map : List ℕ
+  pub heads : List ℕ
+  pub e : Ends
+  pub contract : RecoverEnds image map heads e
+  pub answered : e .answer ≡ 0
+  pub is : s' ≡ e .after
+
+-- the table that a recovered book has, heads idle: the one before the operation, while a barrier of its entries was left to pass, or the
+-- one after it; the whole book agrees with it
+pub data Whole (es : List Entry) (k : ℕ) (before after : Table) (s' : State) : Table → Type 0 where
+  as-before : (passed es k → ⊥) → Agrees s' (allIdle before) → Whole es k before after s' (allIdle before)
+  as-after : Agrees s' (allIdle after) → Whole es k before after s' (allIdle after)
+
+-- ---- a driver
+
+-- whatever a driver that keeps to the contracts can come to, and the plain table for it
+pub data Driven : State → Table → Type 0 where
+  -- a format that is answered, over any memory, any map and any heads
+  formats : (words slots nodes : ℕ) (s : State) (b : Buffers) (e : Ends) → Fits (format words slots nodes) s
+      → e ≡ ends (format words slots nodes) s b → e .answer ≡ 0 → Driven (next (format words slots nodes) e) (emptyTable slots nodes)
+  -- any operation, answered or refused; the words that it handed out are carried out
+  calls : {s : State} {t : Table} → Driven s t → (op : Operation) (b : Buffers) (e : Ends) → Fits op s → (c : Called op s b e)
+      → Driven (afterCall c) (replied op s t .work .after)
+  -- power lost from an operation's call to its last barrier, and recover called until it answers 0. Between two calls that is k = 0 of the next
+  loses-power : {s s' : State} {t t' : Table} {m : List ℕ} → Driven s t → (op : Operation) (b : Buffers) (e : Ends) → Fits op s → Called op s b e
+      → (k : ℕ) (c : CutShort op s e k m) → Recovers m s' → Whole (c .entries) k t (replied op s t .work .after) s' t' → Driven s' t'
+
+-- however often recover was refused or cut short since power was lost
+pub record Survives (op : Operation) (s : State) (t : Table) (e : Ends) (k : ℕ) (m : List ℕ) (c : CutShort op s e k m) : Type 0 where
+  -- a call of it answers 0, or 3 for a map of another length
+  pub accepted : (m' map heads : List ℕ) (e' : Ends) → Retries m m' → RecoverEnds m' map heads e'
+      → e' .answer ≡ cond (eqb (length map) (mapWords (geometryOf (reads m')))) 0 3
+  -- once one has answered 0, the book has the table before or the one after, whole: the driver goes on with that by `loses-power`
+  pub whole : (s' : State) → Recovers m s' → (t' : Table) × Whole (c .entries) k t (replied op s t .work .after) s' t'
+
+-- where the driver then stands
+pub record Stands (s : State) (t : Table) : Type 0 where
+  -- its history is one of those that the demands speak of; reels, frames and heads are the table's, the map marks exactly the nodes reached
+  pub follows : Follows s t
+  pub agrees : Agrees s t
+  -- whatever it calls next, it is told what the table replies
+  pub goes-on : (op : Operation) (b : Buffers) (e : Ends) → Fits op s → (c : Called op s b e) → GoesOn op s t e (afterCall c)
+  -- and if it loses power in that, anywhere, recover comes to answer 0
+  pub survives : (op : Operation) (b : Buffers) (e : Ends) → Fits op s → Called op s b e → (k : ℕ) (m : List ℕ) (c : CutShort op s e k m)
+      → Survives op s t e k m c
+
+-- a driver that calls the exported functions, carries out the words that it was handed, loses power anywhere, and then calls recover
+-- until this answers 0, stands with its table, wherever it has come to
+abbrev pub Driver : Type 0
+Driver = (s : State) (t : Table) → Driven s t → Stands s t

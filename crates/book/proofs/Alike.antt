@@ -22,7 +22,7 @@ use Rattle.tree.proofs.Tests.{says, said}
 use Rattle.book.specs.Heads.{headCount, headAt, targetOf}
 use Rattle.book.specs.Refusals.{Refusal, _gives_, refusal}
 use Rattle.tree.specs.Room.{roomOn, needs, atLevel31}
-use Rattle.book.specs.State.{State, Operation, format, recover, openReel, claim, fill, commit, abandon, remove, has, list, retire, arguments, Work, memory, shape}
+use Rattle.book.specs.State.{State, Operation, format, recover, openReel, claim, fill, commit, abandon, remove, retire, query, has, list, arguments, Work, memory, shape}
 use Rattle.book.specs.Checks.{badMap, badScript, outside, noPath, refusals}
 use Rattle.book.specs.Perform.{oneIf, granted, perform}
 use Rattle.book.specs.Table as table
@@ -147,8 +147,8 @@ module _ {s : State} {t : Table} (a : Agrees s t) where
       reel-there reel (λ r.
       same 13 refl (same-busy a r) (λ e.
       skip (path-test f r) (same 10 refl (ap not (same-held (a .shows) r f)) (λ e. end))))))
-  paired (has reel f) x = checks (skip refl (reel-there reel (λ r. skip (path-test f r) end)))
-  paired (list scratch room reel) x =
+  paired (query (has reel f)) x = checks (skip refl (reel-there reel (λ r. skip (path-test f r) end)))
+  paired (query (list scratch room reel)) x =
       checks (same 3 refl (ap (λ g. holds (badMap g scratch)) (same-geometry (a .shows))) (λ e.
       reel-there reel (λ r.
       skip (ap not (tree-right (a .shows) (r .open-slot)))
@@ -161,22 +161,22 @@ module _ {s : State} {t : Table} (a : Agrees s t) where
 -- ---- what is handed back
 
 -- Has and List answer 0 only for a reel that is present
-has-passes : (reel f : ℕ) (x : Fed) (t : Table) → reply (has reel f) x t .answer ≡ 0 → isPresent t reel ≡ true
+has-passes : (reel f : ℕ) (x : Fed) (t : Table) → reply (query (has reel f)) x t .answer ≡ 0 → isPresent t reel ≡ true
 unfolding tableRefusals
-has-passes reel f x t h = not-false _ (passes (tableRefusals (has reel f) x t) (omega arith) (sym (reply-is (has reel f) x t) ∙ h) .0)
+has-passes reel f x t h = not-false _ (passes (tableRefusals (query (has reel f)) x t) (omega arith) (sym (reply-is (query (has reel f)) x t) ∙ h) .0)
 
-list-passes : (scratch room reel : ℕ) (x : Fed) (t : Table) → reply (list scratch room reel) x t .answer ≡ 0 → isPresent t reel ≡ true
+list-passes : (scratch room reel : ℕ) (x : Fed) (t : Table) → reply (query (list scratch room reel)) x t .answer ≡ 0 → isPresent t reel ≡ true
 unfolding tableRefusals
 list-passes scratch room reel x t h =
-    not-false _ (passes (tableRefusals (list scratch room reel) x t) (omega arith) (sym (reply-is (list scratch room reel) x t) ∙ h) .1 .0)
+    not-false _ (passes (tableRefusals (query (list scratch room reel)) x t) (omega arith) (sym (reply-is (query (list scratch room reel)) x t) ∙ h) .1 .0)
 
 none-once : EachOnce [] []
 none-once = record { once = empty; once-too = empty; same = λ x. (λ y. y, λ y. y) }
 
 -- two works hand back the same
 record SameWork (w : Work) (u : TableWork) : Type 0 where
-  value : w .value ≡ u .value
-  listing : EachOnce (w .listing) (u .frames)
+  value : w .handed .value ≡ u .handed .value
+  listing : EachOnce (w .handed .listing) (u .handed .listing)
 
 granted-alike : {s : State} {t : Table} → Agrees s t → (op : Operation) (x : Fed) → reply op x t .answer ≡ 0 → SameWork (granted op s) (tableWork op t)
 unfolding granted tableWork
@@ -189,10 +189,10 @@ granted-alike a (commit script h') x h = record { value = refl; listing = none-o
 granted-alike a (abandon script h') x h = record { value = refl; listing = none-once }
 granted-alike a (remove script reel f) x h = record { value = refl; listing = none-once }
 granted-alike a (retire words scratch script reel) x h = record { value = refl; listing = none-once }
-granted-alike {s} {t} a (has reel f) x h =
+granted-alike {s} {t} a (query (has reel f)) x h =
     let r = slot-has (a .shows) reel (has-passes reel f x t h) in
     record { value = ap oneIf (same-held (a .shows) r f); listing = none-once }
-granted-alike {s} {t} a (list scratch room reel) x h =
+granted-alike {s} {t} a (query (list scratch room reel)) x h =
     let r = slot-has (a .shows) reel (list-passes scratch room reel x t h) in
     record { value = same-length (same-frames (a .shows) r); listing = same-frames (a .shows) r }
 
@@ -241,8 +241,8 @@ table-answers (fill script h) x t = never-these (tableRefusals (fill script h) x
 table-answers (commit script h) x t = never-these (tableRefusals (commit script h) x t) (omega arith)
 table-answers (abandon script h) x t = never-these (tableRefusals (abandon script h) x t) (omega arith)
 table-answers (remove script reel f) x t = never-these (tableRefusals (remove script reel f) x t) (omega arith)
-table-answers (has reel f) x t = never-these (tableRefusals (has reel f) x t) (omega arith)
-table-answers (list scratch room reel) x t = never-these (tableRefusals (list scratch room reel) x t) (omega arith)
+table-answers (query (has reel f)) x t = never-these (tableRefusals (query (has reel f)) x t) (omega arith)
+table-answers (query (list scratch room reel)) x t = never-these (tableRefusals (query (list scratch room reel)) x t) (omega arith)
 table-answers (retire words scratch script reel) x t = never-these (tableRefusals (retire words scratch script reel) x t) (omega arith)
 
 -- ---- demand 2 of one state

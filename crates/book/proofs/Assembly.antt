@@ -11,11 +11,11 @@ use Rattle.tree.specs.Memory.{reads, segmented, apply, CrashImage, passed, Fit}
 use Rattle.tree.specs.declared.layout.Geometry.{Geometry}
 use Rattle.tree.specs.Layout.{mapWords, geometryOf}
 use Rattle.tree.proofs.Memory.{crash-laws}
-use Rattle.book.specs.State.{State, Operation, format, recover, openReel, claim, fill, commit, abandon, remove, has, list, retire, arguments}
+use Rattle.book.specs.State.{State, Operation, format, recover, openReel, claim, fill, commit, abandon, remove, retire, query, Query, arguments}
 use Rattle.book.specs.Perform.{granted, perform}
 use Rattle.book.specs.Table.{Table, Reel, geometry, fed, tableWork, emptyTable, allIdle}
 use Rattle.book.specs.Agrees.{Shows, Agrees}
-use Rattle.book.specs.Histories.{carriedOut, done, replied, answered-format, Interrupted, Attempts, Recovered, Follows, formatted, performed, before, after}
+use Rattle.book.specs.Histories.{carriedOut, done, replied, answered-format, Interrupted, Attempts, Recovered, Follows, formatted, started, performed, before, after}
 use Rattle.book.specs.Demands.{Demand2, Survives, Demand3}
 use Rattle.book.proofs.Performed.{work-granted, reply-granted, reply-refused}
 use Rattle.book.proofs.StoreLists.{crash-none, passed-or}
@@ -40,9 +40,8 @@ pub data Scripted : Operation → Type 0 where
   commits : {script h : ℕ} → Scripted (commit script h)
   abandons : {script h : ℕ} → Scripted (abandon script h)
   removes : {script reel f : ℕ} → Scripted (remove script reel f)
-  asks : {reel f : ℕ} → Scripted (has reel f)
-  lists : {scratch room reel : ℕ} → Scripted (list scratch room reel)
   retires : {words scratch script reel : ℕ} → Scripted (retire words scratch script reel)
+  asks : {q : Query} → Scripted (query q)
 
 pub record Steps : Type 0 where
   pub step : {s : State} {t : Table} {op : Operation} → Agrees s t → Scripted op → Fit (arguments op) → perform op s .answer ≡ 0 → Step op s t
@@ -63,9 +62,8 @@ kind (fill script h) = scripted fills
 kind (commit script h) = scripted commits
 kind (abandon script h) = scripted abandons
 kind (remove script reel f) = scripted removes
-kind (has reel f) = scripted asks
-kind (list scratch room reel) = scripted lists
 kind (retire words scratch script reel) = scripted retires
+kind (query q) = scripted asks
 
 pub granted-image : {op : Operation} (s : State) → Scripted op → granted op s .after .image ≡ s .image
 unfolding granted
@@ -76,7 +74,6 @@ granted-image s commits = refl
 granted-image s abandons = refl
 granted-image s removes = refl
 granted-image s asks = refl
-granted-image s lists = refl
 granted-image s retires = refl
 
 -- what the table becomes by an operation that is no script's
@@ -178,7 +175,7 @@ module _ (steps : Steps) where
   -- ---- histories
 
   pub agreed : {s : State} {t : Table} → Follows s t → Agrees s t
-  agreed (formatted words slots nodes s fit h) = format-agrees words slots nodes s fit h
+  agreed (started (formatted words slots nodes s fit h)) = format-agrees words slots nodes s fit h
   agreed (performed f op fit) = done-agrees (agreed f) op fit
   agreed (before f op fit k c r n a) = a
   agreed (after f op fit k c r a) = a

@@ -8,7 +8,7 @@ use lib.Dec.{eqb, ltb}
 use borrow.Author.Tests.{eqb-true, eqb-false, ltb-true, eq-eqb, lt-ltb}
 use Rattle.tree.specs.Test.{is}
 use Rattle.book.specs.Refusals.{Refusal, refusal, _gives_}
-use Rattle.book.specs.State.{State, Operation, format, recover, openReel, claim, fill, commit, abandon, remove, has, list, retire}
+use Rattle.book.specs.State.{State, Operation, format, recover, openReel, claim, fill, commit, abandon, remove, retire, query, has, list}
 use Rattle.book.specs.Checks.{refusals}
 use Rattle.book.specs.Perform.{leaves, pastChecks, clears, perform}
 use Rattle.book.specs.Demands.{numbers, ClearsMap, unsound, BorrowsScratch, by-list, by-retire, Leaves, as-before, map-cleared, Refused, Demand1}
@@ -34,8 +34,8 @@ numbered (fill script h) s = refusal-listed _
 numbered (commit script h) s = refusal-listed _
 numbered (abandon script h) s = refusal-listed _
 numbered (remove script reel f) s = refusal-listed _
-numbered (has reel f) s = without-third _ _ _ _
-numbered (list scratch room reel) s = refusal-listed _
+numbered (query (has reel f)) s = without-third _ _ _ _
+numbered (query (list scratch room reel)) s = refusal-listed _
 numbered (retire words scratch script reel) s = refusal-listed _
 
 cleared-at : {words n : ℕ} → ClearsMap (recover words) n → n ≡ 4
@@ -54,8 +54,7 @@ left-by (fill script h) s n = as-before {op = fill script h} {n = n} (λ c. elim
 left-by (commit script h) s n = as-before {op = commit script h} {n = n} (λ c. elim c [ ]) refl
 left-by (abandon script h) s n = as-before {op = abandon script h} {n = n} (λ c. elim c [ ]) refl
 left-by (remove script reel f) s n = as-before {op = remove script reel f} {n = n} (λ c. elim c [ ]) refl
-left-by (has reel f) s n = as-before {op = has reel f} {n = n} (λ c. elim c [ ]) refl
-left-by (list scratch room reel) s n = as-before {op = list scratch room reel} {n = n} (λ c. elim c [ ]) refl
+left-by (query q) s n = as-before {op = query q} {n = n} (λ c. elim c [ ]) refl
 left-by (retire words scratch script reel) s n = as-before {op = retire words scratch script reel} {n = n} (λ c. elim c [ ]) refl
 
 -- an end that is none of 1, 2 and 3
@@ -67,7 +66,7 @@ past-checks n = (
 
 clears-scratch : (op : Operation) (n : ℕ) → (clears op n ≡ true) ↔ (BorrowsScratch op × ((n ≡ 0) ⊎ (3 < n)))
 unfolding clears
-clears-scratch (list scratch room reel) n = (λ h. (by-list, past-checks n .0 h), λ x. past-checks n .1 (x .1))
+clears-scratch (query (list scratch room reel)) n = (λ h. (by-list, past-checks n .0 h), λ x. past-checks n .1 (x .1))
 clears-scratch (retire words scratch script reel) n = (λ h. (by-retire, past-checks n .0 h), λ x. past-checks n .1 (x .1))
 clears-scratch (format words slots nodes) n = (λ h. absurd (true-not-false h refl), λ x. elim (x .0) [ ])
 clears-scratch (recover words) n = (λ h. absurd (true-not-false h refl), λ x. elim (x .0) [ ])
@@ -77,14 +76,13 @@ clears-scratch (fill script h) n = (λ h. absurd (true-not-false h refl), λ x. 
 clears-scratch (commit script h) n = (λ h. absurd (true-not-false h refl), λ x. elim (x .0) [ ])
 clears-scratch (abandon script h) n = (λ h. absurd (true-not-false h refl), λ x. elim (x .0) [ ])
 clears-scratch (remove script reel f) n = (λ h. absurd (true-not-false h refl), λ x. elim (x .0) [ ])
-clears-scratch (has reel f) n = (λ h. absurd (true-not-false h refl), λ x. elim (x .0) [ ])
+clears-scratch (query (has reel f)) n = (λ h. absurd (true-not-false h refl), λ x. elim (x .0) [ ])
 
 refused : (op : Operation) (s : State) → perform op s .answer ≢ 0 → Refused op s
 refused op s h = let w = work-refused op s h in record {
   number = rw (answer-is op s) (numbered op s (rw (answer-is op s) at h));
   no-store = rw w;
-  no-value = rw w;
-  no-listing = rw w;
+  none-handed = rw w;
   left = rw w (left-by op s (perform op s .answer));
 }
 

@@ -4,14 +4,14 @@ use Rattle.book.specs.Growth.{Growth}
 pub use Rattle.book.proofs.Demand1.{demand1}
 pub use Rattle.book.proofs.Fixed.{fixed}
 pub use Rattle.book.proofs.Scripts.{scripts}
-use Rattle.book.proofs.Assembly.{Scripted, opens, claims, fills, commits, abandons, removes, asks, lists, retires, Steps, demand2-from, demand3-from}
+use Rattle.book.proofs.Assembly.{Scripted, opens, claims, fills, commits, abandons, removes, asks, retires, Steps, demand2-from, demand3-from}
 use Rattle.book.proofs.StepOpen.{step-open}
 use Rattle.book.proofs.StepClaim.{step-claim}
 use Rattle.book.proofs.StepFill.{step-fill}
 use Rattle.book.proofs.StepCommit.{step-commit}
 use Rattle.book.proofs.StepAbandon.{step-abandon}
 use Rattle.book.proofs.StepRemove.{step-remove}
-use Rattle.book.proofs.StepRead.{step-has, step-list}
+use Rattle.book.proofs.StepRead.{step-query}
 use Rattle.book.proofs.StepRetire.{step-retire}
 use Rattle.book.proofs.ClaimPlaced.{claim-placed}
 use Rattle.book.proofs.Placed.{placed-from}
@@ -33,8 +33,7 @@ step a (fills {script} {h}) fit answered = step-fill a script h fit answered
 step a (commits {script} {h}) fit answered = step-commit a script h fit answered
 step a (abandons {script} {h}) fit answered = step-abandon a script h fit answered
 step a (removes {script} {reel} {f}) fit answered = step-remove a script reel f fit answered
-step a (asks {reel} {f}) fit answered = step-has a reel f
-step a (lists {scratch} {room} {reel}) fit answered = step-list a scratch room reel
+step a (asks {q}) fit answered = step-query a q
 step a (retires {words} {scratch} {script} {reel}) fit answered = step-retire a words scratch script reel fit answered
 
 steps : Steps

@@ -16,7 +16,7 @@ use Rattle.tree.proofs.Memory.{crash-laws}
 use Rattle.tree.proofs.Cases.{true-not-false}
 use Rattle.tree.proofs.Reach.{slot-filled, one-node}
 use Rattle.book.specs.Heads.{headAt, targetOf}
-use Rattle.book.specs.State.{State, Operation, fill, commit, abandon, remove, has, list, arguments}
+use Rattle.book.specs.State.{State, Operation, fill, commit, abandon, remove, query, Query, arguments}
 use Rattle.book.specs.Checks.{refusals}
 use Rattle.book.specs.Perform.{foundSpot, fillScript, removeScript, granted, perform}
 use Rattle.book.specs.Table.{Table}
@@ -37,7 +37,7 @@ use Rattle.book.proofs.SameNodes.{nodes-equal, nodes-on, nodes-back, re
 use Rattle.book.proofs.StepOpen.{grows-open}
 use Rattle.book.proofs.StepClaim.{slotIn, work-is, asked-now, claim-step}
 use Rattle.book.proofs.StepRetire.{grows-retire}
-use Rattle.book.proofs.Assembly.{Steps, Scripted, opens, claims, fills, commits, abandons, removes, asks, lists, retires, Kind, formats, recovers, scripted, kind, granted-image, agreed}
+use Rattle.book.proofs.Assembly.{Steps, Scripted, opens, claims, fills, commits, abandons, removes, asks, retires, Kind, formats, recovers, scripted, kind, granted-image, agreed}
 use Rattle.book.proofs.Placed.{script-alone, no-reels}
 
 -- ---- operations that store to no next and to no size
@@ -68,13 +68,9 @@ remove-quiet s script reel f =
     let x = foundSpot (find (ruleOf m) (geometryOf m) m (slotOf (geometryOf m) m reel) f) in
     (((x .node, 2, refl, omega arith, omega arith, omega arith), tt), (((x .node, 1, refl, omega arith, omega arith, omega arith), tt), tt))
 
-has-quiet : (s : State) (reel f : ℕ) → Each (Each (Quiet (geometryOf (reads (s .image))))) (granted (has reel f) s .script)
+query-quiet : (s : State) (q : Query) → Each (Each (Quiet (geometryOf (reads (s .image))))) (granted (query q) s .script)
 unfolding granted
-has-quiet s reel f = tt
-
-list-quiet : (s : State) (scratch room reel : ℕ) → Each (Each (Quiet (geometryOf (reads (s .image))))) (granted (list scratch room reel) s .script)
-unfolding granted
-list-quiet s scratch room reel = tt
+query-quiet s q = tt
 
 -- ---- an answered operation that has a script
 
@@ -91,8 +87,7 @@ grows {s} a (fills {script} {h = k}) fit h = quiet-nodes (fill-quiet s script k 
 grows {s} a (commits {script} {h = k}) fit h = quiet-nodes (commit-quiet s script k) (λ im' x. x)
 grows {s} a (abandons {script} {h = k}) fit h = quiet-nodes (abandon-quiet s script k) (λ im' x. x)
 grows {s} a (removes {script} {reel} {f}) fit h = quiet-nodes (remove-quiet s script reel f) (λ im' x. x)
-grows {s} a (asks {reel} {f}) fit h = quiet-nodes (has-quiet s reel f) (λ im' x. x)
-grows {s} a (lists {scratch} {room} {reel}) fit h = quiet-nodes (list-quiet s scratch room reel) (λ im' x. x)
+grows {s} a (asks {q}) fit h = quiet-nodes (query-quiet s q) (λ im' x. x)
 grows a (retires {words} {scratch} {script} {reel}) fit h = grows-retire a words scratch script reel h
 
 -- ---- any operation

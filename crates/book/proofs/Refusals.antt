@@ -72,6 +72,11 @@ passes (r ∷ rs) n h = go (test (holds (r .test))) (passes rs (n .1))
     go (inl e) ih = absurd (n .0 (rw e at h))
     go (inr e) ih = (denies (r .test) e, ih (rw e at h))
 
+-- the first test alone
+pub first-passed : (r : Refusal) (rs : List Refusal) → r .number ≢ 0 → refusal (r ∷ rs) ≡ 0 → Denies (r .test)
+unfolding refusal
+first-passed r rs n h = elim (test (holds (r .test))) [ inl e ↦ absurd (n (rw e at h)) | inr e ↦ denies (r .test) e ]
+
 pub passed-all : (rs : List Refusal) → Passes rs → refusal rs ≡ 0
 unfolding refusal
 passed-all [] p = refl

@@ -20,13 +20,13 @@ use Rattle.tree.proofs.Cases.{test}
 use Rattle.book.specs.Heads.{stateOf, headAt, wordsOf, withHead, busy}
 use Rattle.book.specs.Refusals.{refusal}
 use Rattle.tree.specs.Room.{roomOn}
-use Rattle.book.specs.State.{State, Operation, format, recover, openReel, claim, fill, commit, has, arguments}
+use Rattle.book.specs.State.{State, Operation, format, recover, openReel, claim, fill, commit, query, has, arguments}
 use Rattle.book.specs.Checks.{refusals}
 use Rattle.tree.specs.Recovery.{recoverStores}
 use Rattle.book.specs.Perform.{formatStores, openScript, roomScript, claimScript, fillScript, granted, leaves, clears, perform}
 use Rattle.book.specs.Table.{Table, Fed, nothing, fed, isPresent, framesOf, isHeld, tableRefusals, tableWork, reply, emptyTable, allIdle}
 use Rattle.book.specs.Agrees.{Agrees}
-use Rattle.book.specs.Histories.{done, replied, Follows, formatted, performed}
+use Rattle.book.specs.Histories.{done, replied, Follows, formatted, started, performed}
 use Rattle.book.specs.Starred as starred
 use Rattle.book.specs.Starred.{run}
 use Rattle.book.specs.Demands.{Demand3}
@@ -58,7 +58,7 @@ zeros slots nodes = record { image = replicate (64 + 2 * slots + 80 * nodes) 0; 
 format-follows : (slots nodes : ℕ) → perform (format 1 slots nodes) (zeros slots nodes) .answer ≡ 0
     → Follows (starred.formatted slots nodes) (emptyTable slots nodes)
 unfolding starred.formatted
-format-follows slots nodes h = formatted 1 slots nodes (zeros slots nodes) (zeros-fit (64 + 2 * slots + 80 * nodes)) h
+format-follows slots nodes h = started (formatted 1 slots nodes (zeros slots nodes) (zeros-fit (64 + 2 * slots + 80 * nodes)) h)
 
 run-follows : (ops : List Operation) → Each (λ op. Words (arguments op)) ops → {s : State} {t : Table} → Follows s t
     → (t' : Table) × Follows (run ops s) t'
@@ -85,8 +85,8 @@ twice-follows =
 pub record Computed : Type 0 where
   pub answered : perform (commit 50 0) sample .answer ≡ 0
   -- Has of frame 12 of reel 7 hands back 0 before the commit, 1 after it
-  pub absent : perform (has 7 12) sample .work .value ≡ 0
-  pub present : perform (has 7 12) (done (commit 50 0) sample) .work .value ≡ 1
+  pub absent : perform (query (has 7 12)) sample .work .handed .value ≡ 0
+  pub present : perform (query (has 7 12)) (done (commit 50 0) sample) .work .handed .value ≡ 1
   -- a recovery makes both locate words new, so one that is cut may leave either of them old
   pub recovered : perform (recover 1) claimedTwice .answer ≡ 0
   pub both-old : locateWords claimedTwice ≡ 1 ∷ 1 ∷ []
@@ -107,20 +107,20 @@ other-geometry = record { history = format-follows 41 1 (format-answers .1); ans
 
 -- what a table says of it
 abbrev said : Table → ℕ
-said t = reply (has 7 12) nothing t .work .value
+said t = reply (query (has 7 12)) nothing t .work .handed .value
 
 -- whatever it is fed, and the same with every head idle
-said-fed : (x : Fed) (t : Table) → reply (has 7 12) x t .work .value ≡ said t
+said-fed : (x : Fed) (t : Table) → reply (query (has 7 12)) x t .work .handed .value ≡ said t
 unfolding reply tableRefusals
 said-fed x t = refl
 
 said-idle : (t : Table) → said (allIdle t) ≡ said t
 unfolding reply tableRefusals tableWork isPresent isHeld framesOf allIdle
-said-idle t = elim (test (eqb (refusal (tableRefusals (has 7 12) nothing t)) 0)) [ inl e ↦ rw (e, said) | inr e ↦ rw (e, said) ]
+said-idle t = elim (test (eqb (refusal (tableRefusals (query (has 7 12)) nothing t)) 0)) [ inl e ↦ rw (e, said) | inr e ↦ rw (e, said) ]
 
 -- a book that agrees with it says the same
-said-alike : {s : State} {t : Table} → Agrees s t → perform (has 7 12) s .work .value ≡ said t
-said-alike {s} {t} a = alike a (has 7 12) (words-fit (7 ∷ 12 ∷ []) (omega arith)) .value ∙ said-fed (fed (perform (has 7 12) s .answer)) t
+said-alike : {s : State} {t : Table} → Agrees s t → perform (query (has 7 12)) s .work .handed .value ≡ said t
+said-alike {s} {t} a = alike a (query (has 7 12)) (words-fit (7 ∷ 12 ∷ []) (omega arith)) .value ∙ said-fed (fed (perform (query (has 7 12)) s .answer)) t
 
 module _ (kept : Demand3) (t : Table) (f : Follows sample t) where
   abbrev then : Table

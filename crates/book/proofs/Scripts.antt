@@ -11,14 +11,14 @@ use Rattle.tree.specs.declared.layout.Geometry.{Geometry}
 use Rattle.tree.specs.Layout.{badImage, slotsAt, nodesAt, geometryOf}
 use Rattle.tree.specs.Fingerprint.{ruleOf}
 use Rattle.book.specs.Refusals.{refusal}
-use Rattle.book.specs.State.{State, Operation, format, recover, openReel, claim, fill, commit, abandon, remove, has, list, retire, arguments, Work}
+use Rattle.book.specs.State.{State, Operation, format, recover, openReel, claim, fill, commit, abandon, remove, retire, query, arguments, Work}
 use Rattle.book.specs.Checks.{refusals}
 use Rattle.book.specs.CarryOut.{carry, carried}
 use Rattle.tree.specs.Recovery.{recoverStores}
 use Rattle.book.specs.Perform.{formatStores, granted, perform}
 use Rattle.book.specs.Demands.{WritesImage, by-format, by-recover, GoodScript, Scripts}
 use Rattle.tree.proofs.Memory.{script-laws, apply-laws}
-use Rattle.book.proofs.Refusals.{Denies, denied, passes}
+use Rattle.book.proofs.Refusals.{Denies, denied, passes, first-passed}
 use Rattle.book.proofs.Performed.{answer-is, work-granted, work-refused}
 use Rattle.book.proofs.Done.{refused-image}
 use Rattle.book.proofs.Stored.{same-geometry}
@@ -46,8 +46,7 @@ writes-one-way (fill script h) s = inr refl
 writes-one-way (commit script h) s = inr refl
 writes-one-way (abandon script h) s = inr refl
 writes-one-way (remove script reel f) s = inr refl
-writes-one-way (has reel f) s = inr refl
-writes-one-way (list scratch room reel) s = inr refl
+writes-one-way (query q) s = inr refl
 writes-one-way (retire words scratch script reel) s = inr refl
 
 -- Format: words 1 and 2 are R and N
@@ -110,8 +109,7 @@ answered (remove script reel f) s a b c h =
     let m = reads (s .image) in
     let good = good-remove (sized _ _ (p .0)) m a _ (find-inside _ m (ruleOf m) _ f (p .1 .1 .1 .1 .1 .1 .0)) in
     record { script = good; words = refl; header = p .0 }
-answered (has reel f) s a b c h = let p = passes _ (omega arith) h in record { script = no-stores _; words = refl; header = p .0 }
-answered (list scratch room reel) s a b c h = let p = passes _ (omega arith) h in record { script = no-stores _; words = refl; header = p .0 }
+answered (query q) s a b c h = record { script = no-stores _; words = refl; header = first-passed _ _ (omega arith) h }
 answered (retire words scratch script reel) s a b c h =
     let p = passes _ (omega arith) h in
     record { script = good-retire (sized _ _ (p .0)) _ (p .1 .1 .1 .0); words = refl; header = p .0 }

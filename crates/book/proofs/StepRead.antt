@@ -1,9 +1,9 @@
--- The steps of Has and List: nothing is written.
+-- The step of an operation that only reads: nothing is written.
 use mathlib.Core.Path.{_≡_, refl}
 use mathlib.Core.Logic.{inl}
 use mathlib.Core.List.{[]}
 use Prim.Native.Nat.{ℕ}
-use Rattle.book.specs.State.{State, Operation, has, list}
+use Rattle.book.specs.State.{State, Operation, query, Query}
 use Rattle.book.specs.Perform.{granted}
 use Rattle.book.specs.Table.{Table, tableWork}
 use Rattle.book.specs.Agrees.{Agrees}
@@ -20,10 +20,6 @@ step-idle {op} {s} {t} p q r a = record {
   keeps = rw p (λ k im c. rw (crash-none (s .image) k im c) (keeps-itself (shows-view (a .shows))));
 }
 
-pub step-has : {s : State} {t : Table} → Agrees s t → (reel f : ℕ) → Step (has reel f) s t
+pub step-query : {s : State} {t : Table} → Agrees s t → (q : Query) → Step (query q) s t
 unfolding granted tableWork
-step-has a reel f = step-idle refl refl refl a
-
-pub step-list : {s : State} {t : Table} → Agrees s t → (scratch room reel : ℕ) → Step (list scratch room reel) s t
-unfolding granted tableWork
-step-list a scratch room reel = step-idle refl refl refl a
+step-query a q = step-idle refl refl refl a

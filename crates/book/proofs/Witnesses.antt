@@ -16,7 +16,7 @@ use Rattle.tree.specs.Slots.{emptySlot}
 use Rattle.tree.specs.Lookup.{freeRun}
 use Rattle.tree.proofs.Cases.{test}
 use Rattle.tree.proofs.Memory.{crash-laws}
-use Rattle.book.specs.State.{State, Operation, recover, openReel, commit, has, arguments}
+use Rattle.book.specs.State.{State, Operation, recover, openReel, commit, query, has, arguments}
 use Rattle.book.specs.Perform.{newNode, openScript, granted, perform}
 use Rattle.book.specs.Refusals.{refusal}
 use Rattle.book.specs.Table.{Table, Fed, tableRefusals, tableWork, reply, allIdle}
@@ -110,9 +110,9 @@ module _ (s : State) (script h : ℕ) (e : perform (commit script h) s .answer �
 -- ---- every history agrees with its table: what follows from demand 3
 
 -- Has changes no table
-has-after : (reel f : ℕ) (x : Fed) (t : Table) → reply (has reel f) x t .work .after ≡ t
+has-after : (reel f : ℕ) (x : Fed) (t : Table) → reply (query (has reel f)) x t .work .after ≡ t
 unfolding reply tableWork
-has-after reel f x t = elim (test (eqb (refusal (tableRefusals (has reel f) x t)) 0)) [ inl e ↦ rw e | inr e ↦ rw e ]
+has-after reel f x t = elim (test (eqb (refusal (tableRefusals (query (has reel f)) x t)) 0)) [ inl e ↦ rw e | inr e ↦ rw e ]
 
 module _ (kept : Demand3) where
   -- after any crash and any attempts there is a recovery that ends, and a history goes on from it
@@ -139,11 +139,11 @@ module _ (kept : Demand3) where
   recovery : {s : State} {t : Table} → Follows s t → (s' : State) × Recovered (s .image) s' × Agrees s' (allIdle t)
   recovery {s} {t} f =
       let fit = words-fit (0 ∷ 0 ∷ []) (omega arith) in
-      let c = cut-first {op = has 0 0} {s = s} (λ u. elim u [ ]) in
-      let r = goes-on s t f (has 0 0) fit 0 _ _ c none-yet in (
+      let c = cut-first {op = query (has 0 0)} {s = s} (λ u. elim u [ ]) in
+      let r = goes-on s t f (query (has 0 0)) fit 0 _ _ c none-yet in (
         r .state,
         r .recovered,
-        elim (kept s t f .survives (has 0 0) fit 0 _ _ c none-yet .whole _ (r .recovered)) [ inl p ↦ p .1 | inr a ↦ rw (has-after 0 0 _ t) at a ],
+        elim (kept s t f .survives (query (has 0 0)) fit 0 _ _ c none-yet .whole _ (r .recovered)) [ inl p ↦ p .1 | inr a ↦ rw (has-after 0 0 _ t) at a ],
       )
 
   commit-cut : (s : State) (t : Table) → Follows s t → (script h : ℕ) → h < 2 → perform (commit script h) s .answer ≡ 0 → CommitCut s t script h

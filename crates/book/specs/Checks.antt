@@ -4,7 +4,7 @@ use mathlib.Core.Option.{Option}
 use mathlib.Core.List.{List, [], _∷_}
 use Prim.Native.Nat.{ℕ}
 use lib.ListN.{length}
-use Rattle.tree.specs.Memory.{reads, isSome}
+use Rattle.tree.specs.Memory.{Memory, reads, isSome}
 use Rattle.tree.specs.Test.{Test, lt, le, ne, is, _and_, _or_}
 use Rattle.tree.specs.declared.layout.Geometry.{Geometry}
 use Rattle.tree.specs.Layout.{badImage, mapWords, editionAt, geometryOf}
@@ -17,7 +17,7 @@ use Rattle.book.specs.declared.Target.{Target}
 use Rattle.book.specs.Heads.{headCount, headAt, isIdle, isClaimed, isFilled, targetOf, busy}
 use Rattle.book.specs.Refusals.{Refusal, _gives_}
 use Rattle.tree.specs.Room.{roomOn, needs, atLevel31}
-use Rattle.book.specs.State.{State, Operation, format, recover, openReel, claim, fill, commit, abandon, remove, has, list, retire}
+use Rattle.book.specs.State.{State, Operation, format, recover, openReel, claim, fill, commit, abandon, remove, retire, query, Query, has, list}
 
 -- 3: a map, or a scratch map, is not of the map's length; a script is too short
 abbrev pub badMap : Geometry → ℕ → Test
@@ -39,6 +39,17 @@ outside g t = le (g .nodes) (t .node) or le 64 (t .place)
 -- 4 on a frame's path: a node of it is malformed
 abbrev pub noPath : Option (List ℕ) → Test
 noPath ns = is (not (isSome ns))
+
+-- the orders that only read: what they borrow, and their tests after 1, 2 and 3
+abbrev pub queryBuffers : Query → Geometry → Test
+queryBuffers (has reel f) g = is false
+queryBuffers (list scratch room reel) g = badMap g scratch
+
+abbrev pub queryTests : Query → Geometry → Memory → List Refusal
+queryTests (has reel f) g m = let slot = slotOf g m reel in (le (g .slots) slot gives 5) ∷ (noPath (pathFrom g m slot f) gives 4) ∷ []
+queryTests (list scratch room reel) g m =
+    let slot = slotOf g m reel in
+    (le (g .slots) slot gives 5) ∷ (is (not (isSoundTree g m slot)) gives 4) ∷ (lt room (length (listing g m slot)) gives 14) ∷ []
 
 unfoldable pub refusals : Operation → State → List Refusal
 refusals op s =
@@ -83,15 +94,9 @@ refusals op s =
           ∷ (noPath (pathFrom g m slot f) gives 4)
           ∷ (is (not (isSome (find (ruleOf m) g m slot f))) gives 10)
           ∷ [])
-      | has reel f ↦
-          let slot = slotOf g m reel in
-          checked (s .image) (is false) ((le (g .slots) slot gives 5) ∷ (noPath (pathFrom g m slot f) gives 4) ∷ [])
-      | list scratch room reel ↦
-          let slot = slotOf g m reel in
-          checked (s .image) (badMap g scratch)
-          ((le (g .slots) slot gives 5) ∷ (is (not (isSoundTree g m slot)) gives 4) ∷ (lt room (length (listing g m slot)) gives 14) ∷ [])
       | retire map scratch script reel ↦
           let slot = slotOf g m reel in
           checked (s .image) (badMap g map or badMap g scratch or badScript script)
           ((le (g .slots) slot gives 5) ∷ (is (busy (s .heads) slot) gives 13) ∷ (is (not (isSoundTree g m slot)) gives 4) ∷ [])
+      | query q ↦ checked (s .image) (queryBuffers q g) (queryTests q g m)
     ]

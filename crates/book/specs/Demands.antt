@@ -14,7 +14,7 @@ use Rattle.tree.specs.Reach.{Holds}
 use Rattle.book.specs.declared.Target.{Target}
 use Rattle.book.specs.declared.HeadState.the-variants.{Claimed, Filled}
 use Rattle.book.specs.Heads.{headCount, headAt}
-use Rattle.book.specs.State.{State, Operation, format, recover, openReel, claim, fill, commit, abandon, remove, has, list, retire, arguments}
+use Rattle.book.specs.State.{State, Operation, format, recover, openReel, claim, fill, commit, abandon, remove, retire, query, Query, has, list, arguments, nothingHanded}
 use Rattle.book.specs.Perform.{perform}
 use Rattle.book.specs.CarryOut.{carry, carried}
 use Rattle.book.specs.Table.{Table, noRun, reply, allIdle}
@@ -25,6 +25,10 @@ use Rattle.book.specs.Histories.{done, replied, Interrupted, Attempts, R
 -- ---- 1: over any state, an operation is answered or refused; a refusal hands out nothing and leaves everything
 
 -- the numbers that the paper gives an operation
+abbrev pub queryNumbers : Query → List ℕ
+queryNumbers (has reel f) = 1 ∷ 2 ∷ 5 ∷ 4 ∷ []
+queryNumbers (list scratch room reel) = 1 ∷ 2 ∷ 3 ∷ 5 ∷ 4 ∷ 14 ∷ []
+
 abbrev pub numbers : Operation → List ℕ
 numbers (format words slots nodes) = 1 ∷ 3 ∷ []
 numbers (recover words) = 1 ∷ 2 ∷ 3 ∷ 4 ∷ []
@@ -34,9 +38,8 @@ numbers (fill script h) = 1 ∷ 2 ∷ 3 ∷ 11 ∷ 12 ∷ 4 ∷ []
 numbers (commit script h) = 1 ∷ 2 ∷ 3 ∷ 11 ∷ 12 ∷ 4 ∷ []
 numbers (abandon script h) = 1 ∷ 2 ∷ 3 ∷ 11 ∷ 12 ∷ 4 ∷ []
 numbers (remove script reel f) = 1 ∷ 2 ∷ 3 ∷ 5 ∷ 13 ∷ 4 ∷ 10 ∷ []
-numbers (has reel f) = 1 ∷ 2 ∷ 5 ∷ 4 ∷ []
-numbers (list scratch room reel) = 1 ∷ 2 ∷ 3 ∷ 5 ∷ 4 ∷ 14 ∷ []
 numbers (retire words scratch script reel) = 1 ∷ 2 ∷ 3 ∷ 5 ∷ 13 ∷ 4 ∷ []
+numbers (query q) = queryNumbers q
 
 -- a recovery refused 4 clears the map
 pub data ClearsMap : Operation → ℕ → Type 0 where
@@ -44,7 +47,7 @@ pub data ClearsMap : Operation → ℕ → Type 0 where
 
 -- List and Retire borrow a scratch map
 pub data BorrowsScratch : Operation → Type 0 where
-  by-list : {scratch room reel : ℕ} → BorrowsScratch (list scratch room reel)
+  by-list : {scratch room reel : ℕ} → BorrowsScratch (query (list scratch room reel))
   by-retire : {words scratch script reel : ℕ} → BorrowsScratch (retire words scratch script reel)
 
 -- what a refusal leaves: everything, but for the map that a recovery refused 4 clears
@@ -56,8 +59,7 @@ pub data Leaves (s : State) : Operation → ℕ → State → Type 0 where
 pub record Refused (op : Operation) (s : State) : Type 0 where
   pub number : List·Memᴰ (perform op s .answer) (numbers op)
   pub no-store : perform op s .work .script ≡ []
-  pub no-value : perform op s .work .value ≡ 0
-  pub no-listing : perform op s .work .listing ≡ []
+  pub none-handed : perform op s .work .handed ≡ nothingHanded
   pub left : Leaves s op (perform op s .answer) (perform op s .work .after)
 
 pub record Demand1 : Type 0 where
@@ -73,8 +75,8 @@ pub data IsFormat : Operation → Type 0 where
 
 pub record Alike (op : Operation) (s : State) (t : Table) : Type 0 where
   pub answer : perform op s .answer ≡ replied op s t .answer
-  pub value : perform op s .work .value ≡ replied op s t .work .value
-  pub listing : EachOnce (perform op s .work .listing) (replied op s t .work .frames)
+  pub value : perform op s .work .handed .value ≡ replied op s t .work .handed .value
+  pub listing : EachOnce (perform op s .work .handed .listing) (replied op s t .work .handed .listing)
   pub not-edition : perform op s .answer ≢ 2
   pub not-malformed : perform op s .answer ≢ 4
   pub format-alone : perform op s .answer ≡ 1 → IsFormat op

@@ -11,7 +11,7 @@ use Rattle.tree.specs.Layout.{geometryOf, nextAt, locateAt, sizeAt, rootAt}
 use Rattle.tree.specs.Path.{fanout, wayOf}
 use Rattle.tree.specs.Reach.{Reaches}
 use Rattle.tree.specs.Changes.{NewRoot, NewChild}
-use Rattle.book.specs.State.{State, Operation, format, recover, openReel, claim, fill, commit, abandon, remove, has, list, retire, arguments}
+use Rattle.book.specs.State.{State, Operation, format, recover, openReel, claim, fill, commit, abandon, remove, retire, query, arguments}
 use Rattle.book.specs.Perform.{perform}
 use Rattle.book.specs.Table.{Table}
 use Rattle.book.specs.Agrees.{Reached}
@@ -87,8 +87,7 @@ Grows (fill script h) im im' = SameNodes im im'
 Grows (commit script h) im im' = SameNodes im im'
 Grows (abandon script h) im im' = SameNodes im im'
 Grows (remove script reel f) im im' = SameNodes im im'
-Grows (has reel f) im im' = SameNodes im im'
-Grows (list scratch room reel) im im' = SameNodes im im'
+Grows (query q) im im' = SameNodes im im'
 
 -- ---- in every history
 

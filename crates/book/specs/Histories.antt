@@ -58,12 +58,15 @@ pub data Next (s : State) : State → Type 0 where
   performed : (op : Operation) → Fit (arguments op) → Next s (done op s)
   crashed : {s' : State} {m : List ℕ} (op : Operation) → Fit (arguments op) → (k : ℕ) → Interrupted op s k m → Recovered m s' → Next s s'
 
--- a history so far, by the state and the table that it has come to. It starts with any memory, map and heads and a format that
--- is answered. At a crash the table becomes the one before, while a barrier was left to pass, or the one after: whichever the
+-- what a history starts with: a format that is answered, over any memory, map and heads
+pub data Starts : State → Table → Type 0 where
+  formatted : (words slots nodes : ℕ) (s : State) → Fit (s .image) → perform (format words slots nodes) s .answer ≡ 0
+      → Starts (done (format words slots nodes) s) (emptyTable slots nodes)
+
+-- a history so far, by the state and the table that it has come to. At a crash the table becomes the one before, while a barrier was left to pass, or the one after: whichever the
 -- recovered book shows then. The history goes on with that one, and no later event can change it.
 pub data Follows : State → Table → Type 0 where
-  formatted : (words slots nodes : ℕ) (s : State) → Fit (s .image) → perform (format words slots nodes) s .answer ≡ 0
-      → Follows (done (format words slots nodes) s) (emptyTable slots nodes)
+  started : {s : State} {t : Table} → Starts s t → Follows s t
   performed : {s : State} {t : Table} → Follows s t → (op : Operation) → Fit (arguments op)
       → Follows (done op s) (replied op s t .work .after)
   before : {s s' : State} {m : List ℕ} {t : Table} → Follows s t → (op : Operation) → Fit (arguments op) → (k : ℕ)

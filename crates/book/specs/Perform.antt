@@ -1,5 +1,5 @@
--- The eleven operations, over any contents, any numbers and any lengths.
-use mathlib.Core.Bool.{Bool, false, cond, not, _||_}
+-- The operations, over any contents, any numbers and any lengths.
+use mathlib.Core.Bool.{Bool, true, false, cond, not, _&&_, _||_}
 use mathlib.Core.Option.{Option, none, some}
 use mathlib.Core.List.{List, [], _∷_, _++_, map, flatMap}
 use Prim.Native.Nat.{ℕ, suc, _+_, _*_, _%_}
@@ -25,7 +25,7 @@ use Rattle.book.specs.Refusals.{refusal}
 use Rattle.tree.specs.declared.path.Room.{Room}
 use Rattle.tree.specs.declared.path.Room.the-variants.{Clear, ScaleUp, BranchOut}
 use Rattle.tree.specs.Room.{roomOn, needs}
-use Rattle.book.specs.State.{State, Operation, format, recover, openReel, claim, fill, commit, abandon, remove, has, list, retire, Work, leaving, Outcome}
+use Rattle.book.specs.State.{State, Operation, format, recover, openReel, claim, fill, commit, abandon, remove, retire, query, Query, has, list, Handed, handing, handingFrames, nothingHanded, Work, leaving, Outcome}
 use Rattle.book.specs.Checks.{refusals}
 
 -- ---- what is written
@@ -108,11 +108,16 @@ oneIf b = cond b 1 0
 
 -- a script, and the state as it is left
 abbrev pub writing : List (List Store) → State → Work
-writing script s = record { script = script; value = 0; listing = []; after = s }
+writing script s = record { script = script; handed = nothingHanded; after = s }
 
 -- the state with a head's record written
 abbrev pub putHead : State → ℕ → HeadState → State
 putHead s h x = record { image = s .image; pool = s .pool; heads = withHead (s .heads) h x }
+
+-- what an order that only reads hands back
+abbrev pub queried : Query → Geometry → Memory → Handed
+queried (has reel f) g m = handing (oneIf (isSome (find (ruleOf m) g m (slotOf g m reel) f)))
+queried (list scratch room reel) g m = handingFrames (listing g m (slotOf g m reel))
 
 unfoldable pub granted : Operation → State → Work
 granted op s =
@@ -147,14 +152,11 @@ granted op s =
       | commit script h ↦ writing (bitOn m (setAt g (target h .node)) (target h .place) ∷ []) (putHead s h Idle)
       | abandon script h ↦ writing (bitOff m (locateAt g (target h .node)) (target h .place) ∷ []) (putHead s h Idle)
       | remove script reel f ↦ writing (removeScript g m (foundSpot (find (ruleOf m) g m (slotOf g m reel) f))) s
-      | has reel f ↦ record { script = []; value = oneIf (isSome (find (ruleOf m) g m (slotOf g m reel) f)); listing = []; after = s }
-      | list scratch room reel ↦
-          let fs = listing g m (slotOf g m reel) in
-          record { script = []; value = length fs; listing = fs; after = s }
       | retire words scratch script reel ↦
           let slot = slotOf g m reel in
           writing (((rootAt slot, 0) ∷ []) ∷ [])
           (record { image = s .image; pool = unmarkAll (s .pool) (nodesOf (tree g m slot)); heads = s .heads })
+      | query q ↦ record { script = []; handed = queried q g m; after = s }
     ]
 
 -- ---- any operation
@@ -169,17 +171,20 @@ leaves (fill script h) s n = s
 leaves (commit script h) s n = s
 leaves (abandon script h) s n = s
 leaves (remove script reel f) s n = s
-leaves (has reel f) s n = s
-leaves (list scratch room reel) s n = s
 leaves (retire words scratch script reel) s n = s
+leaves (query q) s n = s
 
 -- an end that is none of 1, 2 and 3
 abbrev pub pastChecks : ℕ → Bool
 pastChecks n = eqb n 0 || ltb 3 n
 
+abbrev pub borrowsScratch : Query → Bool
+borrowsScratch (has reel f) = false
+borrowsScratch (list scratch room reel) = true
+
 -- List's and Retire's scratch map is all 0 after any end but 1, 2 or 3
 unfoldable pub clears : Operation → ℕ → Bool
-clears (list scratch room reel) n = pastChecks n
+clears (query q) n = borrowsScratch q && pastChecks n
 clears (retire words scratch script reel) n = pastChecks n
 clears (format words slots nodes) n = false
 clears (recover words) n = false
@@ -189,7 +194,6 @@ clears (fill script h) n = false
 clears (commit script h) n = false
 clears (abandon script h) n = false
 clears (remove script reel f) n = false
-clears (has reel f) n = false
 
 unfoldable pub perform : Operation → State → Outcome
 perform op s =

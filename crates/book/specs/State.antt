@@ -1,4 +1,4 @@
--- What the driver keeps, the eleven operations with their arguments, and what an operation answers.
+-- What the driver keeps, the operations with their arguments, and what an operation answers.
 use mathlib.Core.Bool.{Bool, cond}
 use mathlib.Core.List.{List, [], _∷_}
 use Prim.Native.Nat.{ℕ}
@@ -21,6 +21,11 @@ memory s = reads (s .image)
 abbrev pub shape : State → Geometry
 shape s = geometryOf (memory s)
 
+-- the orders that only read: they leave image, map and heads, and have no script
+pub data Query : Type 0 where
+  has : (reel frame : ℕ) → Query
+  list : (scratch room : ℕ) (reel : ℕ) → Query
+
 -- the paper's orders, each with the lengths of the buffers that it borrows beside image and heads, and its numbers
 pub data Operation : Type 0 where
   format : (map : ℕ) (slots nodes : ℕ) → Operation
@@ -31,11 +36,14 @@ pub data Operation : Type 0 where
   commit : (script : ℕ) (head : ℕ) → Operation
   abandon : (script : ℕ) (head : ℕ) → Operation
   remove : (script : ℕ) (reel frame : ℕ) → Operation
-  has : (reel frame : ℕ) → Operation
-  list : (scratch room : ℕ) (reel : ℕ) → Operation
   retire : (map scratch script : ℕ) (reel : ℕ) → Operation
+  query : Query → Operation
 
 -- an operation's numbers, without the lengths
+abbrev pub queryArguments : Query → List ℕ
+queryArguments (has reel frame) = reel ∷ frame ∷ []
+queryArguments (list scratch room reel) = reel ∷ []
+
 abbrev pub arguments : Operation → List ℕ
 arguments (format map slots nodes) = slots ∷ nodes ∷ []
 arguments (recover map) = []
@@ -45,21 +53,32 @@ arguments (fill script head) = head ∷ []
 arguments (commit script head) = head ∷ []
 arguments (abandon script head) = head ∷ []
 arguments (remove script reel frame) = reel ∷ frame ∷ []
-arguments (has reel frame) = reel ∷ frame ∷ []
-arguments (list scratch room reel) = reel ∷ []
 arguments (retire map scratch script reel) = reel ∷ []
+arguments (query q) = queryArguments q
 
--- what an operation does: a script in segments, Has's or List's value, List's frames, and the state as it leaves it, before
--- the script is carried out
-pub record Work : Type 0 where
-  pub script : List (List Store)
+-- what an operation hands back beside its script: Has's yes or no, List's count; List's frames
+pub record Handed : Type 0 where
   pub value : ℕ
   pub listing : List ℕ
+
+abbrev pub nothingHanded : Handed
+nothingHanded = record { value = 0; listing = [] }
+
+abbrev pub handing : (value : ℕ) → Handed
+handing n = record { value = n; listing = [] }
+
+abbrev pub handingFrames : List ℕ → Handed
+handingFrames fs = record { value = length fs; listing = fs }
+
+-- what an operation does: a script in segments, what it hands back, and the state as it leaves it, before the script is carried out
+pub record Work : Type 0 where
+  pub script : List (List Store)
+  pub handed : Handed
   pub after : State
 
 -- nothing but a state
 abbrev pub leaving : State → Work
-leaving s = record { script = []; value = 0; listing = []; after = s }
+leaving s = record { script = []; handed = nothingHanded; after = s }
 
 -- an answer, 0 or the refusal's number, with what was done; `cleared` says that the scratch map is all 0
 pub record Outcome : Type 0 where

@@ -13,7 +13,7 @@ use Rattle.tree.specs.declared.layout.Geometry.{Geometry}
 use Rattle.tree.specs.Layout.{badImage, imageWords}
 use Rattle.book.specs.Heads.{headCount}
 use Rattle.book.specs.Refusals.{Refusal, _gives_, refusal}
-use Rattle.book.specs.State.{Operation, format, recover, openReel, claim, fill, commit, abandon, remove, has, list, retire}
+use Rattle.book.specs.State.{Operation, format, recover, openReel, claim, fill, commit, abandon, remove, retire, query, Query, has, list, Handed, nothingHanded, handing, handingFrames}
 use Rattle.book.specs.Checks.{badMap, badScript}
 
 -- per head idle, or claimed or filled with reel and frame
@@ -107,6 +107,11 @@ isBusy t reel = not (every (λ x. not (isAbout reel x)) (t .heads))
 
 -- ---- its refusals: 2 and 4 never come, and 1 only from Format
 
+abbrev pub tableQueryRefusals : Query → Table → List Refusal
+tableQueryRefusals (has reel f) t = (is (not (isPresent t reel)) gives 5) ∷ []
+tableQueryRefusals (list scratch room reel) t =
+    (badMap (geometry t) scratch gives 3) ∷ (is (not (isPresent t reel)) gives 5) ∷ (lt room (length (framesOf t reel)) gives 14) ∷ []
+
 unfoldable pub tableRefusals : Operation → Fed → Table → List Refusal
 tableRefusals op fed t =
     let g = geometry t in
@@ -140,14 +145,12 @@ tableRefusals op fed t =
           ∷ (is (isBusy t reel) gives 13)
           ∷ (is (not (isHeld t reel f)) gives 10)
           ∷ []
-      | has reel f ↦ (is (not (isPresent t reel)) gives 5) ∷ []
-      | list scratch room reel ↦
-          (badMap g scratch gives 3) ∷ (is (not (isPresent t reel)) gives 5) ∷ (lt room (length (framesOf t reel)) gives 14) ∷ []
       | retire words scratch script reel ↦
           (badMap g words or badMap g scratch or badScript script gives 3)
           ∷ (is (not (isPresent t reel)) gives 5)
           ∷ (is (isBusy t reel) gives 13)
           ∷ []
+      | query q ↦ tableQueryRefusals q t
     ]
 
 -- ---- what it becomes
@@ -180,14 +183,18 @@ joined f fs = cond (hasKey (λ x. x) f fs) fs (f ∷ fs)
 unfoldable pub without : ℕ → List ℕ → List ℕ
 without f fs = keep (λ x. not (eqb x f)) fs
 
--- what Has or List hands back, and the table after
+-- what is handed back, and the table after
 pub record TableWork : Type 0 where
-  pub value : ℕ
-  pub frames : List ℕ
+  pub handed : Handed
   pub after : Table
 
 abbrev pub becoming : Table → TableWork
-becoming t = record { value = 0; frames = []; after = t }
+becoming t = record { handed = nothingHanded; after = t }
+
+-- the orders that only read
+abbrev pub tableQueried : Query → Table → Handed
+tableQueried (has reel f) t = handing (cond (isHeld t reel f) 1 0)
+tableQueried (list scratch room reel) t = handingFrames (framesOf t reel)
 
 unfoldable pub tableWork : Operation → Table → TableWork
 tableWork (format words slots nodes) t = becoming (emptyTable slots nodes)
@@ -200,9 +207,8 @@ tableWork (commit script h) t =
     becoming (withTableHead (withReels t (changeFrames (reelOf x) (joined (frameOf x)) (t .reels))) h idle)
 tableWork (abandon script h) t = becoming (withTableHead t h idle)
 tableWork (remove script reel f) t = becoming (withReels t (changeFrames reel (without f) (t .reels)))
-tableWork (has reel f) t = record { value = cond (isHeld t reel f) 1 0; frames = []; after = t }
-tableWork (list scratch room reel) t = record { value = length (framesOf t reel); frames = framesOf t reel; after = t }
 tableWork (retire words scratch script reel) t = becoming (withReels t (keep (λ r. not (eqb (r .number) reel)) (t .reels)))
+tableWork (query q) t = record { handed = tableQueried q t; after = t }
 
 -- ---- any operation
 

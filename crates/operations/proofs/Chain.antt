@@ -17,13 +17,13 @@ use Rattle.tree.specs.Subtree.{listed}
 use Rattle.tree.proofs.Memory.{script-laws}
 use Rattle.tree.proofs.Cases.{test}
 use Rattle.book.specs.Refusals.{refusal}
-use Rattle.book.specs.State.{State, Operation, format, recover, openReel, claim, fill, commit, abandon, remove, has, list, retire, Work, scratchAfter}
+use Rattle.book.specs.State.{State, Operation, format, recover, openReel, claim, fill, commit, abandon, remove, retire, query, has, list, Work, scratchAfter}
 use Rattle.book.specs.Checks.{refusals}
 use Rattle.book.specs.Perform.{granted, leaves, clears, perform}
 use Rattle.book.specs.CarryOut.{carry}
 use Rattle.book.specs.Table.{Table, emptyTable, tableWork, reply}
 use Rattle.book.specs.Demands.{Leaves, as-before, map-cleared}
-use Rattle.book.specs.Histories.{done, replied, Follows, formatted, performed}
+use Rattle.book.specs.Histories.{done, replied, Follows, formatted, started, performed}
 use Rattle.book.proofs.Demands.{demand1, demand2, scripts}
 use Rattle.book.proofs.Done.{done-same}
 use Rattle.book.proofs.Performed.{answer-is, work-granted, work-refused}
@@ -48,7 +48,7 @@ answering op s b = found op (record { answer = 0; work = granted op s; cleared =
 -- words, value and frames of an operation's work are handed over
 abbrev HandsOver : Operation → Work → Ends → Type 0
 HandsOver op w e =
-    (wordsIn (counted op) e ≡ encode (segmented (w .script))) × (valueIn (counted op) e ≡ w .value) × (framesIn (counted op) e ≡ w .listing)
+    (wordsIn (counted op) e ≡ encode (segmented (w .script))) × (valueIn (counted op) e ≡ w .handed .value) × (framesIn (counted op) e ≡ w .handed .listing)
 
 granted-over : (op : Operation) (s : State) (b : Buffers) → HandsOver op (granted op s) (answering op s b)
 unfolding found granted listed
@@ -60,8 +60,8 @@ granted-over (fill script h) s b = (script-taken _ _, refl, refl)
 granted-over (commit script h) s b = (script-taken _ _, refl, refl)
 granted-over (abandon script h) s b = (script-taken _ _, refl, refl)
 granted-over (remove script reel f) s b = (script-taken _ _, refl, refl)
-granted-over (has reel f) s b = (no-words, refl, refl)
-granted-over (list scratch room reel) s b = (no-words, refl, take-append-seam _ _)
+granted-over (query (has reel f)) s b = (no-words, refl, refl)
+granted-over (query (list scratch room reel)) s b = (no-words, refl, take-append-seam _ _)
 granted-over (retire words scratch script reel) s b = (script-taken _ _, refl, refl)
 
 -- and nothing where the count is 0
@@ -116,7 +116,7 @@ module _ (op : Operation) (s : State) (b : Buffers) (h : perform op s .answer �
       record {
         count = refused-count s b (d .left) (ap (λ (w : Work). w .after) (work-refused op s h)) (sym (answer-is op s)) h;
         script = rw (d .no-store) refl;
-        list = rw (d .no-listing) refl;
+        list = rw (d .none-handed) refl;
         after = rw (d .no-store) refl;
         left = d .left;
       }
@@ -208,8 +208,8 @@ nothing-carried m = elim (test (holds (badImage (length m) (geometryOf (reads m)
 
 -- answered or refused, the driver is told the value and the frames of the operation's work, and comes to the state of the step
 record Told (op : Operation) (s : State) (e : Ends) : Type 0 where
-  value : valueIn (counted op) e ≡ perform op s .work .value
-  listing : framesIn (counted op) e ≡ perform op s .work .listing
+  value : valueIn (counted op) e ≡ perform op s .work .handed .value
+  listing : framesIn (counted op) e ≡ perform op s .work .handed .listing
   step : next op e ≡ done op s
 
 told : (op : Operation) (s : State) (b : Buffers) → Fits op s → Told op s (ends op s b)
@@ -228,8 +228,8 @@ told op s b fit = elim (test (eqb (perform op s .answer) 0)) [
       let r = refused op s b h in
       let n = nothing-over (counted op) (ends op s b) (r .count) in
       record {
-        value = n .1 ∙ sym (d .no-value);
-        listing = n .2 ∙ sym (d .no-listing);
+        value = n .1 ∙ sym (ap (λ x. x .value) (d .none-handed));
+        listing = n .2 ∙ sym (ap (λ x. x .listing) (d .none-handed));
         step = rw (n .0, nothing-carried (ends op s b .after .image)) (r .after);
       }
 ]
@@ -308,8 +308,8 @@ sent-back-goes-on {op} {s} {t} {map} {b} {e} f fit x z =
     let step : Follows (done op s) (replied op s t .work .after) = performed f op (fit .numbers) in
     record {
       answer = x .answer ∙ a .answer;
-      value = n .1 ∙ sym (d .no-value) ∙ a .value;
-      listing = rw (n .2, ← d .no-listing) (a .listing);
+      value = n .1 ∙ sym (ap (λ x. x .value) (d .none-handed)) ∙ a .value;
+      listing = rw (n .2) (rw (d .none-handed) at (a .listing));
       follows = rw (n .0, nothing-carried (e .after .image), image, heads) (rw (x .stays z) at step);
     }
 
@@ -329,7 +329,7 @@ format-goes-on words slots nodes s t map b {e} f fit q h =
       answer = answer;
       value = own .value;
       listing = own .listing;
-      follows = rw (format-table words slots nodes s t (sym answer ∙ h), q, told op s' b fit' .step) (formatted words slots nodes s' (fit .image) h');
+      follows = rw (format-table words slots nodes s t (sym answer ∙ h), q, told op s' b fit' .step) (started (formatted words slots nodes s' (fit .image) h'));
     }
 
 -- one that is lent a map of another length is never answered
@@ -355,6 +355,6 @@ chain = record {
   starts = λ words slots nodes s b e fit q h.
       let op = format words slots nodes in
       let h' : perform op s .answer ≡ 0 = sym (answer-ends op s b) ∙ sym (ap (λ (x : Ends). x .answer) q) ∙ h in
-      rw (q, told op s b fit .step) (formatted words slots nodes s (fit .image) h');
+      rw (q, told op s b fit .step) (started (formatted words slots nodes s (fit .image) h'));
   goes-on = called-goes-on;
 }

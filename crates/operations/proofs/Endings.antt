@@ -6,13 +6,13 @@ use borrow.Author.Tests.{ne-eqb}
 use Rattle.tree.specs.Memory.{encode, segmented, written}
 use Rattle.tree.specs.Subtree.{listed}
 use Rattle.book.specs.Refusals.{refusal}
-use Rattle.book.specs.State.{State, Operation, format, recover, openReel, claim, fill, commit, abandon, remove, has, list, retire, leaving, scratchAfter}
+use Rattle.book.specs.State.{State, Operation, format, recover, openReel, claim, fill, commit, abandon, remove, retire, query, leaving, scratchAfter}
 use Rattle.book.specs.Checks.{refusals}
 use Rattle.book.specs.Perform.{granted, leaves, clears, perform}
-use Rattle.operations.specs.Ends.{Buffers, buffers, ended, handed, found, ends}
+use Rattle.operations.specs.Ends.{Buffers, buffers, ended, countIn, found, ends}
 
 -- nothing is handed back where there is no script and no value
-none-handed : (op : Operation) (s : State) → handed op (leaving s) ≡ 0
+none-handed : (op : Operation) (s : State) → countIn op (leaving s) ≡ 0
 unfolding segmented
 none-handed (format map slots nodes) s = refl
 none-handed (recover map) s = refl
@@ -22,9 +22,8 @@ none-handed (fill script h) s = refl
 none-handed (commit script h) s = refl
 none-handed (abandon script h) s = refl
 none-handed (remove script reel f) s = refl
-none-handed (has reel f) s = refl
-none-handed (list scratch room reel) s = refl
 none-handed (retire map scratch script reel) s = refl
+none-handed (query q) s = refl
 
 module _ (op : Operation) (s : State) (b : Buffers) where
   pub refused-with : (n : ℕ) → refusal (refusals op s) ≡ n → n ≢ 0

@@ -20,7 +20,7 @@ use Rattle.walks.specs.Answers.{onPath, foundAs, foundFrom}
 use Rattle.walks.proofs.PathSteps.{spotIn, find-spot}
 use Rattle.book.specs.Heads.{busy}
 use Rattle.book.specs.Refusals.{Refusal, refusal, _gives_}
-use Rattle.book.specs.State.{State, Operation, remove, has, scratchAfter}
+use Rattle.book.specs.State.{State, Operation, remove, query, has, scratchAfter}
 use Rattle.book.specs.Checks.{checked, noPath, refusals}
 use Rattle.book.specs.Perform.{removeScript, foundSpot, oneIf, granted, leaves, clears}
 use Rattle.book.proofs.Refusals.{passed-all, refused-here, refused-later}
@@ -76,16 +76,16 @@ module _ (s : State) (reel f : ℕ) where
   abbrev hasRest : Geometry → (slot : ℕ) → List Refusal
   hasRest g slot = (noPath (pathFrom g (reads (s .image)) slot f) gives 4) ∷ []
 
-  pub on-has : OnReel (has reel f) s none none none false reel hasRest
+  pub on-has : OnReel (query (has reel f)) s none none none false reel hasRest
   unfolding refusals leaves clears
   on-has = record { tested = record { tests = same-checks (s .image) _ _ _ refl; leaves-all = λ n. refl; clears-past = λ n e. refl } }
 
   module _ {g : Geometry} {slot : ℕ} {x : Found} (p : Looked (s .image) none reel f g slot x) where
-    pub has-malformed : x ≡ Malformed → ended 4 0 s noBuffers ≡ ends (has reel f) s noBuffers
+    pub has-malformed : x ≡ Malformed → ended 4 0 s noBuffers ≡ ends (query (has reel f)) s noBuffers
     has-malformed q =
         rest-bad on-has noBuffers (p .slot-read) (p .present) 4 (refused-here _ _ (path-test g (reads (s .image)) slot f (p .answer) q)) (omega arith)
 
-    pub has-said : {y : Found} → x ≡ y → isMalformed y ≡ false → ended 0 (oneIf (isSome (spotIn y))) s noBuffers ≡ ends (has reel f) s noBuffers
+    pub has-said : {y : Found} → x ≡ y → isMalformed y ≡ false → ended 0 (oneIf (isSome (spotIn y))) s noBuffers ≡ ends (query (has reel f)) s noBuffers
     unfolding found granted encode segmented written listed scratchAfter
     has-said q w =
         let none = refused-later _ _ (path-test g (reads (s .image)) slot f (p .answer) q ∙ w) ∙ passed-all [] tt in

@@ -20,7 +20,7 @@ use Rattle.walks.specs.declared.trees.Listing.{Listing}
 use Rattle.walks.specs.declared.trees.Listing.the-variants.{Malformed, Short, Listed}
 use Rattle.walks.specs.Answers.{listingFrom, listAfter}
 use Rattle.book.specs.Refusals.{Refusal, _gives_}
-use Rattle.book.specs.State.{Operation, State, list, scratchAfter}
+use Rattle.book.specs.State.{Operation, State, query, list, scratchAfter}
 use Rattle.book.specs.Checks.{refusals}
 use Rattle.book.specs.Perform.{granted, leaves, clears}
 use Rattle.book.proofs.Refusals.{passed-all, refused-here, refused-later}
@@ -40,7 +40,7 @@ answered (Listed n) = Done n
 
 module _ (im pool ws scratch frames : List ℕ) (reel : ℕ) where
   abbrev op : Operation
-  op = list (length scratch) (length frames) reel
+  op = query (list (length scratch) (length frames) reel)
 
   abbrev start : State
   start = state im pool ws

@@ -15,7 +15,7 @@ use Rattle.tree.specs.declared.layout.Geometry.{Geometry}
 use Rattle.tree.specs.Layout.{Sized, badImage, editionAt, geometryOf}
 use Rattle.tree.proofs.Cases.{test}
 use Rattle.book.specs.Refusals.{Refusal, refusal}
-use Rattle.book.specs.State.{State, Operation, format, recover, openReel, claim, fill, commit, abandon, remove, has, list, retire, scratchAfter}
+use Rattle.book.specs.State.{State, Operation, format, recover, openReel, claim, fill, commit, abandon, remove, retire, query, has, list, scratchAfter}
 use Rattle.book.specs.Checks.{checked, refusals}
 use Rattle.book.specs.Perform.{leaves, clears}
 use Rattle.book.proofs.Refusals.{Denies, Passes, passes, denies, denied}
@@ -174,13 +174,12 @@ early-leaves (fill script head) s n h = refl
 early-leaves (commit script head) s n h = refl
 early-leaves (abandon script head) s n h = refl
 early-leaves (remove script reel f) s n h = refl
-early-leaves (has reel f) s n h = refl
-early-leaves (list scratch room reel) s n h = refl
 early-leaves (retire map scratch script reel) s n h = refl
+early-leaves (query q) s n h = refl
 
 early-keeps : (op : Operation) (n : ℕ) → n ≢ 0 → n ≤ 3 → clears op n ≡ false
 unfolding clears
-early-keeps (list scratch room reel) n z h = rw (ne-eqb n 0 z, le-ltb 3 n h) refl
+early-keeps (query (list scratch room reel)) n z h = rw (ne-eqb n 0 z, le-ltb 3 n h) refl
 early-keeps (retire map scratch script reel) n z h = rw (ne-eqb n 0 z, le-ltb 3 n h) refl
 early-keeps (recover map) n z h = refl
 early-keeps (format map slots nodes) n z h = refl
@@ -190,7 +189,7 @@ early-keeps (fill script head) n z h = refl
 early-keeps (commit script head) n z h = refl
 early-keeps (abandon script head) n z h = refl
 early-keeps (remove script reel f) n z h = refl
-early-keeps (has reel f) n z h = refl
+early-keeps (query (has reel f)) n z h = refl
 
 -- as the code ends there: n is what the checks answered, and r says that it refuses
 pub ended-early : (op : Operation) (s : State) (b : Buffers) (map scratch script : Buffer) (rest : List Refusal) (n : ℕ) (r : Bool)

@@ -27,7 +27,7 @@ use Rattle.book.specs.Checks.{outside, refusals}
 use Rattle.book.specs.Perform.{fillScript, bitOn, bitOff, writing, putHead, granted, leaves, clears}
 use Rattle.book.proofs.HeadState.{the-type}
 use Rattle.book.proofs.Refusals.{passed-all, refused-here, refused-later}
-use Rattle.operations.specs.Ends.{Buffers, buffers, ended, handed, found, ends}
+use Rattle.operations.specs.Ends.{Buffers, buffers, ended, countIn, found, ends}
 use Rattle.operations.proofs.Passed.{Checked, same-checks}
 use Rattle.operations.proofs.Tested.{Tested, refused-past, done-past}
 
@@ -41,7 +41,7 @@ pub record OnTarget (op : Operation) (s : State) (script : List ℕ) (h : ℕ) (
     : Type 0 where
   pub tested : Tested op s none none (some script) false (later h wrong t)
   pub work : granted op s ≡ writing (segs (geometryOf (reads (s .image)))) (putHead s h x)
-  pub hands : (w : Work) → handed op w ≡ 2 * length (segmented (w .script))
+  pub hands : (w : Work) → countIn op w ≡ 2 * length (segmented (w .script))
 
 -- the scripts, by the geometry
 abbrev pub fillSegs : Memory → Target → Geometry → List (List Store)

@@ -10,7 +10,7 @@ use lib.ListN.{length, take}
 use lib.Dec.{eqb}
 use Rattle.tree.specs.Memory.{reads, segmented, decode, Fit}
 use Rattle.tree.specs.Layout.{mapWords, geometryOf}
-use Rattle.book.specs.State.{State, Operation, format, recover, openReel, claim, fill, commit, abandon, remove, has, list, retire, arguments}
+use Rattle.book.specs.State.{State, Operation, format, recover, openReel, claim, fill, commit, abandon, remove, retire, query, Query, has, list, arguments}
 use Rattle.book.specs.Perform.{perform}
 use Rattle.book.specs.CarryOut.{carry, carried}
 use Rattle.book.specs.Table.{Table, emptyTable}
@@ -25,6 +25,10 @@ use Rattle.operations.specs.Ends.{Buffers, state, Ends, ended, ends}
 pub data Counted : Type 0 where
   nothing script-words yes-or-no frames : Counted
 
+abbrev pub queryCounted : Query → Counted
+queryCounted (has reel f) = yes-or-no
+queryCounted (list scratch room reel) = frames
+
 abbrev pub counted : Operation → Counted
 counted (format words slots nodes) = nothing
 counted (recover words) = nothing
@@ -34,9 +38,8 @@ counted (fill script h) = script-words
 counted (commit script h) = script-words
 counted (abandon script h) = script-words
 counted (remove script reel f) = script-words
-counted (has reel f) = yes-or-no
-counted (list scratch room reel) = frames
 counted (retire words scratch script reel) = script-words
+counted (query q) = queryCounted q
 
 -- the script's words
 abbrev pub wordsIn : Counted → Ends → List ℕ
@@ -123,8 +126,8 @@ afterCall {op} {s} {e = e} (with-another map o q) = state (next op e .image) (co
 -- the driver is told what the table replies, and with its next state the history goes on
 pub record GoesOn (op : Operation) (s : State) (t : Table) (e : Ends) (s' : State) : Type 0 where
   pub answer : e .answer ≡ replied op s t .answer
-  pub value : valueIn (counted op) e ≡ replied op s t .work .value
-  pub listing : EachOnce (framesIn (counted op) e) (replied op s t .work .frames)
+  pub value : valueIn (counted op) e ≡ replied op s t .work .handed .value
+  pub listing : EachOnce (framesIn (counted op) e) (replied op s t .work .handed .listing)
   pub follows : Follows s' (replied op s t .work .after)
 
 pub record Chain : Type 0 where

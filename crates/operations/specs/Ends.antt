@@ -4,7 +4,7 @@ use Prim.Native.Nat.{ℕ, _*_}
 use lib.ListN.{length}
 use Rattle.tree.specs.Memory.{segmented, written}
 use Rattle.tree.specs.Subtree.{listed}
-use Rattle.book.specs.State.{State, Operation, format, recover, openReel, claim, fill, commit, abandon, remove, has, list, retire, Work, Outcome, scratchAfter}
+use Rattle.book.specs.State.{State, Operation, format, recover, openReel, claim, fill, commit, abandon, remove, retire, query, Work, Outcome, scratchAfter}
 use Rattle.book.specs.Perform.{perform}
 
 -- what an operation may borrow beside the state
@@ -32,24 +32,23 @@ abbrev pub ended : (answer count : ℕ) → State → Buffers → Ends
 ended answer count after b = record { answer = answer; count = count; after = after; buffers = b }
 
 -- the count handed back: Has's yes or no, List's frames, else the script's words
-abbrev pub handed : Operation → Work → ℕ
-handed (has reel f) w = w .value
-handed (list scratch room reel) w = w .value
-handed (format map slots nodes) w = 0
-handed (recover map) w = 0
-handed (openReel map script reel) w = 2 * length (segmented (w .script))
-handed (claim map script h reel f) w = 2 * length (segmented (w .script))
-handed (fill script h) w = 2 * length (segmented (w .script))
-handed (commit script h) w = 2 * length (segmented (w .script))
-handed (abandon script h) w = 2 * length (segmented (w .script))
-handed (remove script reel f) w = 2 * length (segmented (w .script))
-handed (retire map scratch script reel) w = 2 * length (segmented (w .script))
+abbrev pub countIn : Operation → Work → ℕ
+countIn (query q) w = w .handed .value
+countIn (format map slots nodes) w = 0
+countIn (recover map) w = 0
+countIn (openReel map script reel) w = 2 * length (segmented (w .script))
+countIn (claim map script h reel f) w = 2 * length (segmented (w .script))
+countIn (fill script h) w = 2 * length (segmented (w .script))
+countIn (commit script h) w = 2 * length (segmented (w .script))
+countIn (abandon script h) w = 2 * length (segmented (w .script))
+countIn (remove script reel f) w = 2 * length (segmented (w .script))
+countIn (retire map scratch script reel) w = 2 * length (segmented (w .script))
 
 -- an outcome, as the driver finds it: the script written at its buffer's start, the frames at the list's
 unfoldable pub found : Operation → Outcome → Buffers → Ends
 found op o b =
-    ended (o .answer) (handed op (o .work)) (o .work .after)
-    (buffers (scratchAfter (o .cleared) (b .scratch)) (written (segmented (o .work .script)) (b .script)) (listed (o .work .listing) (b .list)))
+    ended (o .answer) (countIn op (o .work)) (o .work .after)
+    (buffers (scratchAfter (o .cleared) (b .scratch)) (written (segmented (o .work .script)) (b .script)) (listed (o .work .handed .listing) (b .list)))
 
 unfoldable pub ends : Operation → State → Buffers → Ends
 ends op s b = found op (perform op s) b

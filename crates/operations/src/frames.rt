@@ -6,7 +6,7 @@ ghost use lib.ListN.{length};
 ghost use Rattle.memory.specs.Script.{segmented, written};
 ghost use Rattle.tree.specs.Memory.{reads};
 ghost use Rattle.tree.specs.Layout.{Sized};
-ghost use Rattle.book.specs.State.{remove, has};
+ghost use Rattle.book.specs.State.{remove, query, has};
 ghost use Rattle.book.specs.Perform.{removeScript};
 ghost use Rattle.operations.specs.Answers.{answerOf, countOf};
 ghost use Rattle.operations.specs.HeadLists.{headsIn};
@@ -29,7 +29,7 @@ use walks::descent::find;
 
 // Does a reel hold a frame? The count is 1 or 0.
 pub fn has(image: &[u64], reel: u64, frame: u64) -> Answer
-    ensures { λ r. ⌜ ((pool ws : List ℕ) → ended (answerOf r) (countOf r) (state (now (image .entry)) pool ws) noBuffers ≡ ends (has reel frame) (state (now (image .entry)) pool ws) noBuffers) ⌝ }
+    ensures { λ r. ⌜ ((pool ws : List ℕ) → ended (answerOf r) (countOf r) (state (now (image .entry)) pool ws) noBuffers ≡ ends (query (has reel frame)) (state (now (image .entry)) pool ws) noBuffers) ⌝ }
 {
     let why = checks(image, Buffer::Absent, Buffer::Absent, Buffer::Absent);
     if refuses(why) {

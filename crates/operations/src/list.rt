@@ -3,7 +3,7 @@ ghost use mathlib.Core.Path.{_≡_};
 ghost use mathlib.Core.List.{List, []};
 ghost use Prim.Native.Nat.{ℕ};
 ghost use lib.ListN.{length};
-ghost use Rattle.book.specs.State.{list as list-reel};
+ghost use Rattle.book.specs.State.{query, list as list-reel};
 ghost use Rattle.operations.specs.Answers.{answerOf, countOf};
 ghost use Rattle.operations.specs.Ends.{buffers, state, ended, ends};
 use crate::answer::Answer;
@@ -19,7 +19,7 @@ use walks::trees::list_tree;
 
 // List a reel's frames: all of them, or the list stays as it is. Past the checks the scratch map is all 0 in the end.
 pub fn list(image: &[u64], scratch: &mut [u64], list: &mut [u64], reel: u64) -> Answer
-    ensures { λ r. ⌜ ((pool ws : List ℕ) → ended (answerOf r) (countOf r) (state (now (image .entry)) pool ws) (buffers (now (scratch .exit)) [] (now (list .exit))) ≡ ends (list-reel (length (now (scratch .entry))) (length (now (list .entry))) reel) (state (now (image .entry)) pool ws) (buffers (now (scratch .entry)) [] (now (list .entry)))) ⌝ }
+    ensures { λ r. ⌜ ((pool ws : List ℕ) → ended (answerOf r) (countOf r) (state (now (image .entry)) pool ws) (buffers (now (scratch .exit)) [] (now (list .exit))) ≡ ends (query (list-reel (length (now (scratch .entry))) (length (now (list .entry))) reel)) (state (now (image .entry)) pool ws) (buffers (now (scratch .entry)) [] (now (list .entry)))) ⌝ }
 {
     let why = checks(
         image,

@@ -10,11 +10,11 @@ use Rattle.memory.specs.Script.{encode}
 use Rattle.memory.proofs.Laws.{script-laws}
 use Rattle.tree.specs.Memory.{written, segmented}
 use Rattle.tree.specs.Subtree.{listed}
-use Rattle.book.specs.State.{State, Operation, list, Work, leaving}
+use Rattle.book.specs.State.{State, Operation, query, list, Work, leaving}
 use Rattle.book.specs.Refusals.{refusal}
 use Rattle.book.specs.Checks.{refusals}
 use Rattle.book.specs.Perform.{perform, granted}
-use Rattle.operations.specs.Ends.{Buffers, Ends, ended, handed, found, ends}
+use Rattle.operations.specs.Ends.{Buffers, Ends, ended, countIn, found, ends}
 use Rattle.reelbook.specs.Laws.{CountsScript, CountLaws}
 
 -- a buffer that is as long with other words at its start in place of its own has room for them
@@ -33,20 +33,20 @@ script-inside op s b counts e same =
     rw (ap (λ (x : Ends). x .count) e ∙ counts (perform op s .work), same) inside
 
 -- a refusal hands back nothing
-granted-or-left : (t : Bool) (w : Work) (s : State) → w .value ≡ length (w .listing) → cond t w (leaving s) .value ≡ length (cond t w (leaving s) .listing)
+granted-or-left : (t : Bool) (w : Work) (s : State) → w .handed .value ≡ length (w .handed .listing) → cond t w (leaving s) .handed .value ≡ length (cond t w (leaving s) .handed .listing)
 granted-or-left true w s e = e
 granted-or-left false w s e = refl
 
 -- List's count is that of its frames, or 0 of none where it is refused
-counts-frames : (scratch room reel : ℕ) (s : State) → let w = perform (list scratch room reel) s .work in w .value ≡ length (w .listing)
+counts-frames : (scratch room reel : ℕ) (s : State) → let w = perform (query (list scratch room reel)) s .work in w .handed .value ≡ length (w .handed .listing)
 unfolding perform granted
-counts-frames scratch room reel s = granted-or-left (eqb (refusal (refusals (list scratch room reel) s)) 0) (granted (list scratch room reel) s) _ refl
+counts-frames scratch room reel s = granted-or-left (eqb (refusal (refusals (query (list scratch room reel)) s)) 0) (granted (query (list scratch room reel)) s) _ refl
 
 list-inside : (scratch room reel : ℕ) (s : State) (b : Buffers) {n k : ℕ} {s' : State} {b' : Buffers}
-    → ended n k s' b' ≡ ends (list scratch room reel) s b → length (b' .list) ≡ length (b .list) → k ≤ length (b' .list)
+    → ended n k s' b' ≡ ends (query (list scratch room reel)) s b → length (b' .list) ≡ length (b .list) → k ≤ length (b' .list)
 unfolding ends found listed
 list-inside scratch room reel s b e same =
-    let fs = perform (list scratch room reel) s .work .listing in
+    let fs = perform (query (list scratch room reel)) s .work .handed .listing in
     let inside = at-start (length fs) fs (b .list) refl (sym (ap (λ (x : Ends). length (x .buffers .list)) e) ∙ same) in
     rw (ap (λ (x : Ends). x .count) e ∙ counts-frames scratch room reel s, same) inside
 

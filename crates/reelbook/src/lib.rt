@@ -7,7 +7,7 @@ ghost use mathlib.Core.Path.{_≡_};
 ghost use mathlib.Core.List.{List, []};
 ghost use Prim.Native.Nat.{ℕ};
 ghost use lib.ListN.{length};
-ghost use Rattle.book.specs.State.{format, recover, openReel, claim, fill, commit, abandon, remove, has, list as list-reel, retire};
+ghost use Rattle.book.specs.State.{format, recover, openReel, claim, fill, commit, abandon, remove, retire, query, has, list as list-reel};
 ghost use Rattle.book.specs.CarryOut.{carry, carried};
 ghost use Rattle.operations.specs.Ends.{buffers, noBuffers, state, ended, ends};
 use operations::apply;
@@ -145,7 +145,7 @@ pub extern "C" fn reelbook_remove(
 // Does a reel hold a frame? 1 or 0.
 #[no_mangle]
 pub extern "C" fn reelbook_has(image: &[u64], reel: u64, frame: u64, yes: &mut u64) -> u64
-    ensures { λ r. ⌜ ((pool heads : List ℕ) → ended r (now (yes .exit)) (state (now (image .entry)) pool heads) noBuffers ≡ ends (has reel frame) (state (now (image .entry)) pool heads) noBuffers) ⌝ }
+    ensures { λ r. ⌜ ((pool heads : List ℕ) → ended r (now (yes .exit)) (state (now (image .entry)) pool heads) noBuffers ≡ ends (query (has reel frame)) (state (now (image .entry)) pool heads) noBuffers) ⌝ }
 {
     hand_over(frames::has(image, reel, frame), yes)
 }
@@ -159,7 +159,7 @@ pub extern "C" fn reelbook_list(
     reel: u64,
     count: &mut u64,
 ) -> u64
-    ensures { λ r. ⌜ ((pool heads : List ℕ) → ended r (now (count .exit)) (state (now (image .entry)) pool heads) (buffers (now (scratch .exit)) [] (now (list .exit))) ≡ ends (list-reel (length (now (scratch .entry))) (length (now (list .entry))) reel) (state (now (image .entry)) pool heads) (buffers (now (scratch .entry)) [] (now (list .entry)))) ⌝ }
+    ensures { λ r. ⌜ ((pool heads : List ℕ) → ended r (now (count .exit)) (state (now (image .entry)) pool heads) (buffers (now (scratch .exit)) [] (now (list .exit))) ≡ ends (query (list-reel (length (now (scratch .entry))) (length (now (list .entry))) reel)) (state (now (image .entry)) pool heads) (buffers (now (scratch .entry)) [] (now (list .entry)))) ⌝ }
 {
     hand_over(list::list(image, scratch, list, reel), count)
 }

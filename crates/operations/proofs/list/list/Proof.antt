@@ -6,7 +6,7 @@ use lib.ListN.{length}
 use borrow.Author.Needs.{needs}
 use Rattle.walks.specs.declared.trees.Listing.{Listing}
 use Rattle.walks.specs.declared.trees.Listing.the-variants.{Malformed, Short, Listed}
-use Rattle.book.specs.State.{list}
+use Rattle.book.specs.State.{query, list}
 use Rattle.operations.specs.Answers.{numberOf, answerOf, countOf}
 use Rattle.operations.specs.Ends.{buffers, state, ended, ends}
 use Rattle.operations.proofs.Passed.{Checked, all-checked}
@@ -60,7 +60,7 @@ listed-as : (c : tie.After-list-tree) (pool ws : List ℕ) (r : Listing)
     → let a = c .before .before .before .before .before .before .before .before .before .before .before .before .before .args in
     c .list-tree .result ≡ r
     → ended (answerOf (answered r)) (countOf (answered r)) (state (a .image .now) pool ws) (buffers (c .list-tree .last .1 .0) [] (c .list-tree .last .1 .1 .0))
-    ≡ ends (list (length (a .scratch .now)) (length (a .list .now)) (a .reel)) (state (a .image .now) pool ws) (buffers (a .scratch .now) [] (a .list .now))
+    ≡ ends (query (list (length (a .scratch .now)) (length (a .list .now)) (a .reel))) (state (a .image .now) pool ws) (buffers (a .scratch .now) [] (a .list .now))
 listed-as c pool ws r is =
     let tested = c .before .before .before in
     let reel = tested .before .before in

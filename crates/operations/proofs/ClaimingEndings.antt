@@ -38,9 +38,13 @@ use Rattle.operations.specs.declared.answer.HeadAnswer.{HeadAnswer}
 use Rattle.operations.specs.declared.checks.Buffer.the-variants.{Absent, Words}
 use Rattle.operations.specs.Checked.{firstChecks}
 use Rattle.operations.specs.HeadLists.{headsIn, stateIn, busyIn, headAnswerOf, headCountOf, headsAfter}
+use Rattle.operations.specs.declared.checks.Verdict.{Verdict}
+use Rattle.operations.specs.declared.checks.Verdict.the-variants as verdict
+use Rattle.operations.specs.declared.answer.Refusal as enums
+use Rattle.operations.specs.Answers.{numberOf}
 use Rattle.operations.specs.Ends.{Buffers, buffers, state, ended, found, ends}
 use Rattle.operations.proofs.Endings.{refused, done}
-use Rattle.operations.proofs.Passed.{same-checks, buffersBad, headed, past-checks, ended-early, checks-hold}
+use Rattle.operations.proofs.Passed.{same-checks, buffersBad, past-checks, ended-early}
 use Rattle.operations.proofs.HeadRecords.{state-read, busy-read}
 use Rattle.operations.proofs.Opening.{OpenChecked}
 use Rattle.operations.proofs.Claiming.{placement-says, takes-nodes, targetIn, Taken}
@@ -73,9 +77,8 @@ headTestsIn heads h g slot =
     ∷ []
 
 -- past them the slot is one of the image's
-pub slot-below : (heads : List Head) (h : ℕ) (g : Geometry) (slot n : ℕ) (r : Bool) → n ≡ refusal (headTestsIn heads h g slot) → r ≡ not (eqb n 0)
-    → r ≡ false → slot < g .slots
-slot-below heads h g slot n r n-is told left = passes (headTestsIn heads h g slot) (omega arith) (checks-hold n _ r n-is told left) .1 .1 .0
+pub slot-below : (heads : List Head) (h : ℕ) (g : Geometry) (slot : ℕ) → 0 ≡ refusal (headTestsIn heads h g slot) → slot < g .slots
+slot-below heads h g slot e = passes (headTestsIn heads h g slot) (omega arith) (sym e) .1 .1 .0
 
 -- the run that the room takes is inside the pool, where it takes any
 pub run-fits : (g : Geometry) (pool : List ℕ) (room : Room) (start : ℕ) → start ≡ cond (ltb 0 (needs room)) (freeRun g (reads pool) (needs room)) 0
@@ -91,8 +94,7 @@ run-fits g pool room start e l = elim (test (ltb 0 (needs room))) [
 some-node : {im pool script : List ℕ} {g : Geometry} → OpenChecked im pool script g → 1 ≤ g .nodes
 unfolding badImage
 some-node {im} {pool} {script} {g} p =
-    let fine = headed im (Words (length pool)) Absent (Words (length script)) (p .none) .image-fine in
-    rw (p .geometry) (denies (badImage (length im) (geometryOf (reads im))) fine .0 .1 .1 .0)
+    rw (p .geometry) (denies (badImage (length im) (geometryOf (reads im))) (p .all .image-fine) .0 .1 .1 .0)
 
 module _ (im pool script ws : List ℕ) (h reel f : ℕ) where
   abbrev op : Operation
@@ -130,11 +132,12 @@ module _ (im pool script ws : List ℕ) (h reel f : ℕ) where
   allTests g slot = headTests g slot ++ roomTests g slot (roomIn g slot)
 
   -- 1, 2 or 3
-  pub claim-early : (n : ℕ) (r : Bool) → n ≡ firstChecks im (Words (length pool)) Absent (Words (length script)) → r ≡ not (eqb n 0) → r ≡ true → EndsWith n
+  pub claim-early : {v : Verdict} {why : enums.Refusal} → v ≡ firstChecks im (Words (length pool)) Absent (Words (length script)) → v ≡ verdict.Refused why
+      → EndsWith (numberOf why)
   unfolding refusals
-  claim-early n r =
+  claim-early =
       ended-early op begun borrowed (Words (length pool)) Absent (Words (length script))
-      (allTests (geometryOf (reads im)) (slotOf (geometryOf (reads im)) (reads im) reel)) n r (same-checks im _ _ _ refl)
+      (allTests (geometryOf (reads im)) (slotOf (geometryOf (reads im)) (reads im) reel)) (same-checks im _ _ _ refl)
 
   -- a refusal leaves everything as it was
   ends-with : (n : ℕ) → refusal (refusals op begun) ≡ n → n ≢ 0 → EndsWith n
@@ -147,15 +150,15 @@ module _ (im pool script ws : List ℕ) (h reel f : ℕ) where
     pub slot-is : slot ≡ slotOf g (reads im) reel
     pub later : refusal (refusals op begun) ≡ refusal (roomTests g slot (roomIn g slot))
 
-  -- in the code's own terms: n is what the four answered, and r says that it refuses
+  -- in the code's own terms: n is the number that the four came to
   module _ (heads : List Head) (read : headsIn ws ≡ heads) (g : Geometry) (p : OpenChecked im pool script g) (slot : ℕ)
-      (slot-is : slot ≡ slotOf g (reads im) reel) (n : ℕ) (n-is : n ≡ refusal (headTestsIn heads h g slot)) (r : Bool) (told : r ≡ not (eqb n 0)) where
+      (slot-is : slot ≡ slotOf g (reads im) reel) (n : ℕ) (n-is : n ≡ refusal (headTestsIn heads h g slot)) where
     after-checks : refusal (refusals op begun) ≡ refusal (allTests g slot)
     unfolding refusals
     after-checks =
         same-checks im _ (buffersBad im (Words (length pool)) Absent (Words (length script))) _ refl
-        ∙ past-checks im (Words (length pool)) Absent (Words (length script))
-        (allTests (geometryOf (reads im)) (slotOf (geometryOf (reads im)) (reads im) reel)) (p .none)
+        ∙ past-checks im (Words (length pool)) Absent (Words (length script)) (p .all)
+        (allTests (geometryOf (reads im)) (slotOf (geometryOf (reads im)) (reads im) reel))
         ∙ rw (slot-is, p .geometry) refl
 
     -- by the array of heads as by the words
@@ -166,16 +169,14 @@ module _ (im pool script ws : List ℕ) (h reel f : ℕ) where
       | inr e ↦ rw (state-read ws heads h read (leb-false headCount h e), busy-read ws heads slot read) refl
     ]
 
-    pub head-refused : r ≡ true → EndsWith n
-    head-refused taken =
-        let z : n ≢ 0 = eqb-false n 0 (not-true (eqb n 0) (sym told ∙ taken)) in
-        ends-with n (after-checks ∙ first-refused (headTests g slot) _ (λ q. z (same-tests ∙ q)) ∙ sym same-tests) z
+    pub head-refused : n ≢ 0 → EndsWith n
+    head-refused z = ends-with n (after-checks ∙ first-refused (headTests g slot) _ (λ q. z (same-tests ∙ q)) ∙ sym same-tests) z
 
-    pub head-passed : r ≡ false → HeadPassed g slot
-    head-passed left = record {
+    pub head-passed : n ≡ 0 → HeadPassed g slot
+    head-passed none = record {
       checked = p;
       slot-is = slot-is;
-      later = after-checks ∙ none-refused (headTests g slot) _ (omega arith) (checks-hold n _ r same-tests told left);
+      later = after-checks ∙ none-refused (headTests g slot) _ (omega arith) (sym same-tests ∙ none);
     }
 
   module _ {g : Geometry} {slot : ℕ} (p : HeadPassed g slot) {x : Placement} (e : x ≡ placementFrom g (reads im) slot f) where

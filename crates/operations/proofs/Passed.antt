@@ -22,15 +22,40 @@ use Rattle.book.proofs.Refusals.{Denies, Passes, passes, denies, denied}
 use Rattle.book.proofs.Inside.{sized}
 use Rattle.operations.specs.declared.checks.Buffer.{Buffer}
 use Rattle.operations.specs.declared.checks.Buffer.the-variants.{Absent, Words}
-use Rattle.operations.specs.Checked.{mapBad, scriptBad, firstChecks, Headed}
+use Rattle.operations.specs.declared.checks.Verdict.{Verdict}
+use Rattle.operations.specs.declared.checks.Verdict.the-variants.{Passed, Refused}
+use Rattle.operations.specs.declared.answer.Refusal as enums
+use Rattle.operations.specs.declared.answer.Refusal.the-variants as enum
+use Rattle.operations.specs.Answers.{numberOf}
+use Rattle.operations.specs.Checked.{mapBad, scriptBad, firstChecks}
 use Rattle.operations.specs.Ends.{Buffers, ended, ends}
 use Rattle.operations.proofs.Endings.{refused}
 
-three : (a b c : Bool) → cond a 1 (cond b 2 (cond c 3 0)) ≤ 3
-three true b c = omega arith
-three false true c = omega arith
-three false false true = omega arith
-three false false false = omega arith
+passed-refused : {X : Type 0} {g : Geometry} {why : enums.Refusal} → Passed g ≡ Refused why → X
+passed-refused q = let z : _≡_ {A = ℕ} 0 1 = cc in absurd (omega arith)
+
+passed-same : {g g' : Geometry} → Passed g ≡ Passed g' → g ≡ g'
+passed-same q = cc
+
+refused-same : {why why' : enums.Refusal} → Refused why ≡ Refused why' → why ≡ why'
+refused-same q = cc
+
+-- every refusal has a number of its own
+pub number-some : (why : enums.Refusal) → numberOf why ≢ 0
+number-some enum.Image = omega arith
+number-some enum.Edition = omega arith
+number-some enum.Buffer = omega arith
+number-some enum.Malformed = omega arith
+number-some enum.NoReel = omega arith
+number-some enum.AlreadyOpen = omega arith
+number-some enum.NoSlot = omega arith
+number-some enum.NoRun = omega arith
+number-some enum.FrameHeld = omega arith
+number-some enum.FrameNotHeld = omega arith
+number-some enum.HeadNumber = omega arith
+number-some enum.HeadState = omega arith
+number-some enum.Busy = omega arith
+number-some enum.ListShort = omega arith
 
 -- the checks go by what a test computes
 pub same-checks : (image : List ℕ) (bad bad' : Test) (rest : List Refusal) → holds bad ≡ holds bad'
@@ -52,52 +77,47 @@ module _ (image : List ℕ) (map scratch script : Buffer) where
   abbrev pub buffersBad : Test
   buffersBad = mapBad (shapeOf image) map or mapBad (shapeOf image) scratch or scriptBad script
 
-  none-holds : firstChecks image map scratch script ≡ 0 → Passes (checked image buffersBad [])
+  -- what the verdict says of an operation's tests, which begin with the three
+  pub record PassedAll (g : Geometry) : Type 0 where
+    pub geometry : g ≡ shapeOf image
+    pub image-fine : holds (badImage (length image) (shapeOf image)) ≡ false
+    pub edition-fine : holds (ne (reads image editionAt) 1) ≡ false
+    pub buffers-fine : holds buffersBad ≡ false
+
+  pub passed : {g : Geometry} → Passed g ≡ firstChecks image map scratch script → PassedAll g
   unfolding firstChecks
-  none-holds h = passes (checked image buffersBad []) (omega arith) h
-
-  pub headed : firstChecks image map scratch script ≡ 0 → Headed image (shapeOf image)
-  headed h =
-      let p = none-holds h in
-      let fine = denied (badImage (length image) (shapeOf image)) (p .0) in
-      record {
-        geometry = refl;
-        sized = sized-image image (shapeOf image) fine;
-        image-fine = fine;
-        edition-fine = denied (ne (reads image editionAt) 1) (p .1 .0);
-      }
-
-  -- what 3 leaves of each buffer that is borrowed
-  buffers-fine : firstChecks image map scratch script ≡ 0 → Denies buffersBad
-  buffers-fine h = none-holds h .1 .1 .0
-
-  pub checks-passed : firstChecks image map scratch script ≡ 0 → holds buffersBad ≡ false
-  checks-passed h = denied buffersBad (buffers-fine h)
-
-  pub past-checks : (rest : List Refusal) → firstChecks image map scratch script ≡ 0 → refusal (checked image buffersBad rest) ≡ refusal rest
-  unfolding refusal
-  past-checks rest h = rw (headed h .image-fine, headed h .edition-fine, checks-passed h) refl
-
-  pub refused-early : (rest : List Refusal) → firstChecks image map scratch script ≢ 0
-      → refusal (checked image buffersBad rest) ≡ firstChecks image map scratch script
-  unfolding firstChecks refusal
-  refused-early rest h =
-      elim (test (holds (badImage (length image) (shapeOf image)))) [
-        | inl a ↦ rw a refl
-        | inr a ↦ elim (test (holds (ne (reads image editionAt) 1))) [
-          | inl b ↦ rw (a, b) refl
-          | inr b ↦ elim (test (holds buffersBad)) [ inl c ↦ rw (a, b, c) refl | inr c ↦ absurd (h (rw (a, b, c) refl)) ]
-        ]
+  passed {g} q = elim (test (holds (badImage (length image) (shapeOf image)))) [
+    | inl a ↦ passed-refused (rw a at q)
+    | inr a ↦ elim (test (holds (ne (reads image editionAt) 1))) [
+      | inl b ↦ passed-refused (rw (a, b) at q)
+      | inr b ↦ elim (test (holds buffersBad)) [
+        | inl c ↦ passed-refused (rw (a, b, c) at q)
+        | inr c ↦ record { geometry = passed-same (rw (a, b, c) at q); image-fine = a; edition-fine = b; buffers-fine = c }
       ]
+    ]
+  ]
 
-  -- no more than three
-  checks-most : firstChecks image map scratch script ≤ 3
+  pub past-checks : {g : Geometry} → PassedAll g → (rest : List Refusal) → refusal (checked image buffersBad rest) ≡ refusal rest
+  unfolding refusal
+  past-checks p rest = rw (p .image-fine, p .edition-fine, p .buffers-fine) refl
+
+  -- refused: with one of the three numbers, which is the operation's
+  pub record RefusedFirst (why : enums.Refusal) : Type 0 where
+    pub number : (rest : List Refusal) → refusal (checked image buffersBad rest) ≡ numberOf why
+    pub most : numberOf why ≤ 3
+
+  pub refused-first : {why : enums.Refusal} → Refused why ≡ firstChecks image map scratch script → RefusedFirst why
   unfolding firstChecks refusal
-  checks-most = three (holds (badImage (length image) (shapeOf image))) (holds (ne (reads image editionAt) 1)) (holds buffersBad)
-
--- past an early return: n is what the tests answered, and r says that it refuses
-pub checks-hold : (n first : ℕ) (r : Bool) → n ≡ first → r ≡ not (eqb n 0) → r ≡ false → first ≡ 0
-checks-hold n first r is told left = sym is ∙ eqb-true n 0 (not-false (eqb n 0) (sym told ∙ left))
+  refused-first q = elim (test (holds (badImage (length image) (shapeOf image)))) [
+    | inl a ↦ rw (refused-same (rw a at q)) (record { number = λ rest. rw a refl; most = omega arith })
+    | inr a ↦ elim (test (holds (ne (reads image editionAt) 1))) [
+      | inl b ↦ rw (refused-same (rw (a, b) at q)) (record { number = λ rest. rw (a, b) refl; most = omega arith })
+      | inr b ↦ elim (test (holds buffersBad)) [
+        | inl c ↦ rw (refused-same (rw (a, b, c) at q)) (record { number = λ rest. rw (a, b, c) refl; most = omega arith })
+        | inr c ↦ passed-refused (sym (rw (a, b, c) at q))
+      ]
+    ]
+  ]
 
 -- ---- what the checks leave
 
@@ -106,31 +126,29 @@ abbrev pub byLength : Option (List ℕ) → Buffer
 byLength none = Absent
 byLength (some words) = Words (length words)
 
-abbrev pub checksOn : List ℕ → (map scratch script : Option (List ℕ)) → ℕ
+abbrev pub checksOn : List ℕ → (map scratch script : Option (List ℕ)) → Verdict
 checksOn im map scratch script = firstChecks im (byLength map) (byLength scratch) (byLength script)
 
--- with the geometry that was read: none of the three holds, and the image and what is borrowed have their lengths
+-- with the geometry that was handed on: none of the three holds, and the image and what is borrowed have their lengths
 pub record Checked (im : List ℕ) (map scratch script : Option (List ℕ)) (g : Geometry) : Type 0 where
-  pub none : checksOn im map scratch script ≡ 0
+  pub all : PassedAll im (byLength map) (byLength scratch) (byLength script) g
   pub geometry : g ≡ geometryOf (reads im)
   pub sized : Sized im g
   pub map-words : Denies (mapBad g (byLength map))
   pub scratch-words : Denies (mapBad g (byLength scratch))
   pub script-words : Denies (scriptBad (byLength script))
 
-module _ (im : List ℕ) (map scratch script : Option (List ℕ)) (g : Geometry) where
-  -- past the early return: n is what the checks answered, and r says that it refuses
-  pub all-checked : (n : ℕ) (r : Bool) → n ≡ checksOn im map scratch script → r ≡ not (eqb n 0) → r ≡ false → g ≡ geometryOf (reads im)
-      → Checked im map scratch script g
-  all-checked n r is told left geometry =
-      let passed = checks-hold n (checksOn im map scratch script) r is told left in
-      let fine = buffers-fine im (byLength map) (byLength scratch) (byLength script) passed in
+module _ (im : List ℕ) (map scratch script : Option (List ℕ)) {g : Geometry} where
+  pub all-checked : {v : Verdict} → v ≡ checksOn im map scratch script → v ≡ Passed g → Checked im map scratch script g
+  all-checked q told =
+      let p = passed im (byLength map) (byLength scratch) (byLength script) (sym told ∙ q) in
+      let fine = denies (buffersBad im (byLength map) (byLength scratch) (byLength script)) (p .buffers-fine) in
       record {
-        none = passed;
-        geometry = geometry;
-        sized = rw geometry (headed im (byLength map) (byLength scratch) (byLength script) passed .sized);
-        map-words = rw geometry (fine .0);
-        scratch-words = rw geometry (fine .1 .0);
+        all = p;
+        geometry = p .geometry;
+        sized = rw (p .geometry) (sized-image im (shapeOf im) (p .image-fine));
+        map-words = rw (p .geometry) (fine .0);
+        scratch-words = rw (p .geometry) (fine .1 .0);
         script-words = fine .1 .1;
       }
 
@@ -138,27 +156,28 @@ module _ (im : List ℕ) (map scratch script : Option (List ℕ)) (g : Geometry)
   pub tests-left : Checked im map scratch script g → (rest : Geometry → List Refusal)
       → refusal (checked im (buffersBad im (byLength map) (byLength scratch) (byLength script)) (rest (geometryOf (reads im)))) ≡ refusal (rest g)
   tests-left p rest =
-      past-checks im (byLength map) (byLength scratch) (byLength script) _ (p .none) ∙ ap (λ (g : Geometry). refusal (rest g)) (sym (p .geometry))
+      past-checks im (byLength map) (byLength scratch) (byLength script) (p .all) _ ∙ ap (λ (g : Geometry). refusal (rest g)) (sym (p .geometry))
 
 -- ---- the checks as the code makes them, with the geometry that it has read
 
 module _ (image : List ℕ) (map scratch script : Buffer) (g : Geometry) (is : g ≡ geometryOf (reads image)) where
-  pub image-bad : holds (badImage (length image) g) ≡ true → 1 ≡ firstChecks image map scratch script
-  unfolding firstChecks refusal
+  pub image-bad : holds (badImage (length image) g) ≡ true → Refused enum.Image ≡ firstChecks image map scratch script
+  unfolding firstChecks
   image-bad a = rw (← is, a) refl
 
-  pub edition-bad : holds (badImage (length image) g) ≡ false → holds (ne (reads image editionAt) 1) ≡ true → 2 ≡ firstChecks image map scratch script
-  unfolding firstChecks refusal
+  pub edition-bad : holds (badImage (length image) g) ≡ false → holds (ne (reads image editionAt) 1) ≡ true
+      → Refused enum.Edition ≡ firstChecks image map scratch script
+  unfolding firstChecks
   edition-bad a b = rw (← is, a, b) refl
 
   pub buffer-bad : holds (badImage (length image) g) ≡ false → holds (ne (reads image editionAt) 1) ≡ false
-      → holds (mapBad g map or mapBad g scratch or scriptBad script) ≡ true → 3 ≡ firstChecks image map scratch script
-  unfolding firstChecks refusal
+      → holds (mapBad g map or mapBad g scratch or scriptBad script) ≡ true → Refused enum.Buffer ≡ firstChecks image map scratch script
+  unfolding firstChecks
   buffer-bad a b c = rw (← is, a, b, c) refl
 
   pub none-bad : holds (badImage (length image) g) ≡ false → holds (ne (reads image editionAt) 1) ≡ false
-      → holds (mapBad g map or mapBad g scratch or scriptBad script) ≡ false → 0 ≡ firstChecks image map scratch script
-  unfolding firstChecks refusal
+      → holds (mapBad g map or mapBad g scratch or scriptBad script) ≡ false → Passed g ≡ firstChecks image map scratch script
+  unfolding firstChecks
   none-bad a b c = rw (← is, a, b, c) refl
 
 -- ---- an operation that ends with one of the three
@@ -191,13 +210,12 @@ early-keeps (abandon script head) n z h = refl
 early-keeps (remove script reel f) n z h = refl
 early-keeps (query (has reel f)) n z h = refl
 
--- as the code ends there: n is what the checks answered, and r says that it refuses
-pub ended-early : (op : Operation) (s : State) (b : Buffers) (map scratch script : Buffer) (rest : List Refusal) (n : ℕ) (r : Bool)
+-- as the code ends there: v is the checks' verdict, and it refuses
+pub ended-early : (op : Operation) (s : State) (b : Buffers) (map scratch script : Buffer) (rest : List Refusal) {v : Verdict} {why : enums.Refusal}
     → refusal (refusals op s) ≡ refusal (checked (s .image) (buffersBad (s .image) map scratch script) rest)
-    → n ≡ firstChecks (s .image) map scratch script → r ≡ not (eqb n 0) → r ≡ true → ended n 0 s b ≡ ends op s b
+    → v ≡ firstChecks (s .image) map scratch script → v ≡ Refused why → ended (numberOf why) 0 s b ≡ ends op s b
 unfolding scratchAfter
-ended-early op s b map scratch script rest n r same is told taken =
-    let z : n ≢ 0 = eqb-false n 0 (not-true (eqb n 0) (sym told ∙ taken)) in
-    let most : n ≤ 3 = rw is (checks-most (s .image) map scratch script) in
-    let why : refusal (refusals op s) ≡ n = same ∙ refused-early (s .image) map scratch script rest (λ q. z (is ∙ q)) ∙ sym is in
-    sym (refused op s b n why z (early-leaves op s n most) ∙ rw (early-keeps op n z most) refl)
+ended-early op s b map scratch script rest {why = why} same is told =
+    let r = refused-first (s .image) map scratch script (sym told ∙ is) in
+    sym (refused op s b (numberOf why) (same ∙ r .number rest) (number-some why) (early-leaves op s (numberOf why) (r .most))
+    ∙ rw (early-keeps op (numberOf why) (number-some why) (r .most)) refl)

@@ -24,6 +24,10 @@ use Rattle.book.specs.Checks.{checked, refusals}
 use Rattle.book.specs.Perform.{granted, leaves, clears}
 use Rattle.book.proofs.Refusals.{passed-all, refused-here}
 use Rattle.operations.specs.declared.checks.Buffer.the-variants.{Absent, Words}
+use Rattle.operations.specs.declared.checks.Verdict.{Verdict}
+use Rattle.operations.specs.declared.checks.Verdict.the-variants.{Refused}
+use Rattle.operations.specs.declared.answer.Refusal as enums
+use Rattle.operations.specs.Answers.{numberOf}
 use Rattle.operations.specs.Ends.{noBuffers, state, ended, found, ends}
 use Rattle.operations.proofs.Endings.{refused-with, done}
 use Rattle.operations.proofs.Passed.{buffersBad, checksOn, Checked, tests-left, same-checks, ended-early}
@@ -44,16 +48,16 @@ module _ (im pool heads : List ℕ) where
   unfolding refusals ruleOf
   tests = same-checks im _ _ _ (sym (or-false _))
 
-  pub recover-early : (n : ℕ) (r : Bool) → n ≡ checksOn im (some pool) none none
-      → r ≡ not (eqb n 0) → r ≡ true → ended n 0 start noBuffers ≡ ends op start noBuffers
-  recover-early n r = ended-early op start noBuffers (Words (length pool)) Absent Absent (laterTests (geometryOf (reads im))) n r tests
+  pub recover-early : {v : Verdict} {why : enums.Refusal} → v ≡ checksOn im (some pool) none none → v ≡ Refused why
+      → ended (numberOf why) 0 start noBuffers ≡ ends op start noBuffers
+  recover-early = ended-early op start noBuffers (Words (length pool)) Absent Absent (laterTests (geometryOf (reads im))) tests
 
   -- r says whether the image is sound; image and map are what recovering it left
   module _ (g : Geometry) (p : Checked im (some pool) none none g) (r : Bool) (r-is : r ≡ isSound editionOne g (reads im)) (im' pool' : List ℕ)
       (image-is : im' ≡ cond (isSound editionOne g (reads im)) (apply im (stores (recoverStores g (reads im)))) im)
       (pool-is : pool' ≡ cond (isSound editionOne g (reads im)) (mapOf g (nodesOf (allTrees g (reads im)))) (clearMap (mapWords g))) where
     later : refusal (refusals op start) ≡ refusal (laterTests g)
-    later = tests ∙ tests-left im (some pool) none none g p laterTests
+    later = tests ∙ tests-left im (some pool) none none p laterTests
 
     -- the map is cleared, and nothing else is changed
     pub unsound : not r ≡ true → ended 4 0 (state im' pool' heads) noBuffers ≡ ends op start noBuffers

@@ -1,6 +1,6 @@
 -- Fill, Commit and Abandon: their tests and their work in one form, and how each way through the code ends.
 use mathlib.Core.Path.{_≡_, refl, sym, _∙_}
-use mathlib.Core.Bool.{Bool, true, false, cond, not}
+use mathlib.Core.Bool.{Bool, true, false, not}
 use mathlib.Core.Logic.{⊎-elim}
 use mathlib.Core.Option.{none, some}
 use mathlib.Core.List.{List, [], _∷_}
@@ -47,8 +47,11 @@ pub record OnTarget (op : Operation) (s : State) (script : List ℕ) (h : ℕ) (
 abbrev pub fillSegs : Memory → Target → Geometry → List (List Store)
 fillSegs m t g = fillScript (ruleOf m) g m t
 
-abbrev pub settleSegs : Memory → (commits : Bool) → Target → Geometry → List (List Store)
-settleSegs m commits t g = cond commits (bitOn m (setAt g (t .node)) (t .place)) (bitOff m (locateAt g (t .node)) (t .place)) ∷ []
+abbrev pub commitSegs : Memory → Target → Geometry → List (List Store)
+commitSegs m t g = bitOn m (setAt g (t .node)) (t .place) ∷ []
+
+abbrev pub abandonSegs : Memory → Target → Geometry → List (List Store)
+abandonSegs m t g = bitOff m (locateAt g (t .node)) (t .place) ∷ []
 
 module _ (s : State) (script : List ℕ) (h : ℕ) (y : HeadState) (read : headAt (s .heads) h ≡ y) where
   pub on-fill : OnTarget (fill (length script) h) s script h (not (isClaimed y)) (targetOf y) (fillSegs (reads (s .image)) (targetOf y)) (Filled (targetOf y))
@@ -59,16 +62,17 @@ module _ (s : State) (script : List ℕ) (h : ℕ) (y : HeadState) (read : headA
     hands = λ w. refl;
   })
 
-  pub on-settle : (commits : Bool)
-      → OnTarget (cond commits (commit (length script) h) (abandon (length script) h)) s script h (cond commits (not (isFilled y)) (isIdle y)) (targetOf y)
-      (settleSegs (reads (s .image)) commits (targetOf y)) Idle
+  pub on-commit : OnTarget (commit (length script) h) s script h (not (isFilled y)) (targetOf y) (commitSegs (reads (s .image)) (targetOf y)) Idle
   unfolding refusals granted leaves clears
-  on-settle true = rw (← read) (record {
+  on-commit = rw (← read) (record {
     tested = record { tests = same-checks (s .image) _ _ _ refl; leaves-all = λ n. refl; clears-past = λ n e. refl };
     work = refl;
     hands = λ w. refl;
   })
-  on-settle false = rw (← read) (record {
+
+  pub on-abandon : OnTarget (abandon (length script) h) s script h (isIdle y) (targetOf y) (abandonSegs (reads (s .image)) (targetOf y)) Idle
+  unfolding refusals granted leaves clears
+  on-abandon = rw (← read) (record {
     tested = record { tests = same-checks (s .image) _ _ _ refl; leaves-all = λ n. refl; clears-past = λ n e. refl };
     work = refl;
     hands = λ w. refl;
@@ -103,18 +107,22 @@ module _ {op : Operation} {s : State} {script : List ℕ} {h : ℕ} {wrong : Boo
           let none = past-number ∙ refused-later _ _ w ∙ refused-later _ _ q ∙ passed-all [] tt in
           rw (c, e, p .geometry) (sym (done-past (o .tested) borrowed p none ∙ rw (o .work, o .hands) refl))
 
--- a state that the code did not take apart as claimed
+-- a state that the code did not take apart as claimed, or as filled
 pub not-claimed : (y : HeadState) → OneOf (0 ∷ 2 ∷ []) (tagOf the-type y) → not (isClaimed y) ≡ true
 not-claimed Idle k = refl
 not-claimed (Claimed t) k = absurd (⊎-elim (λ w. omega arith) (λ w. omega arith) k)
 not-claimed (Filled t) k = refl
+
+pub not-filled : (y : HeadState) → OneOf (0 ∷ 1 ∷ []) (tagOf the-type y) → not (isFilled y) ≡ true
+not-filled Idle k = refl
+not-filled (Claimed t) k = refl
+not-filled (Filled t) k = absurd (⊎-elim (λ w. omega arith) (λ w. omega arith) k)
 
 -- how many words the scripts have
 pub fill-words : (r : Rule) (g : Geometry) (m : Memory) (t : Target) → 8 ≡ 2 * length (segmented (fillScript r g m t))
 unfolding fillScript stores segmented
 fill-words r g m t = refl
 
-pub settle-words : (commits : Bool) (a b : Store) → 4 ≡ 2 * length (segmented (cond commits (a ∷ []) (b ∷ []) ∷ []))
+pub bit-words : (a : Store) → 4 ≡ 2 * length (segmented ((a ∷ []) ∷ []))
 unfolding stores segmented
-settle-words true a b = refl
-settle-words false a b = refl
+bit-words a = refl

@@ -20,6 +20,10 @@ use Rattle.book.specs.State.{Operation, State, scratchAfter}
 use Rattle.book.specs.Checks.{checked, refusals}
 use Rattle.book.specs.Perform.{granted, leaves, pastChecks, clears}
 use Rattle.book.proofs.Refusals.{refused-here, refused-later}
+use Rattle.operations.specs.declared.checks.Verdict.{Verdict}
+use Rattle.operations.specs.declared.checks.Verdict.the-variants.{Refused}
+use Rattle.operations.specs.declared.answer.Refusal as enums
+use Rattle.operations.specs.Answers.{numberOf}
 use Rattle.operations.specs.Ends.{Buffers, buffers, ended, found, ends}
 use Rattle.operations.proofs.Endings.{refused, done}
 use Rattle.operations.proofs.Passed.{buffersBad, byLength, checksOn, Checked, tests-left, ended-early}
@@ -38,12 +42,12 @@ leftAs cleared b = buffers (cond cleared (clearMap (length (b .scratch))) (b .sc
 module _ {op : Operation} {s : State} {map scratch script : Option (List ℕ)} {cleared : Bool} {rest : Geometry → List Refusal}
     (o : Tested op s map scratch script cleared rest) (b : Buffers) where
   -- 1, 2 or 3
-  pub check-bad : (n : ℕ) (r : Bool) → n ≡ checksOn (s .image) map scratch script → r ≡ not (eqb n 0) → r ≡ true → ended n 0 s b ≡ ends op s b
-  check-bad n r = ended-early op s b (byLength map) (byLength scratch) (byLength script) _ n r (o .tests)
+  pub check-bad : {v : Verdict} {why : enums.Refusal} → v ≡ checksOn (s .image) map scratch script → v ≡ Refused why → ended (numberOf why) 0 s b ≡ ends op s b
+  check-bad = ended-early op s b (byLength map) (byLength scratch) (byLength script) _ (o .tests)
 
   module _ {g : Geometry} (p : Checked (s .image) map scratch script g) where
     later : refusal (refusals op s) ≡ refusal (rest g)
-    later = o .tests ∙ tests-left (s .image) map scratch script g p rest
+    later = o .tests ∙ tests-left (s .image) map scratch script p rest
 
     pub refused-past : (n : ℕ) → refusal (rest g) ≡ n → 3 < n → ended n 0 s (leftAs cleared b) ≡ ends op s b
     unfolding scratchAfter

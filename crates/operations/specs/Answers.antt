@@ -1,13 +1,14 @@
 -- The paper's numbers for what an operation answers.
 use Prim.Native.Nat.{ℕ}
 use Rattle.operations.specs.declared.answer.Refusal.{Refusal}
-use Rattle.operations.specs.declared.answer.Refusal.the-variants.{None, Image, Edition, Buffer, Malformed, NoReel, AlreadyOpen, NoSlot, NoRun, FrameHeld, FrameNotHeld, HeadNumber, HeadState, Busy, ListShort}
+use Rattle.operations.specs.declared.answer.Refusal.the-variants.{Image, Edition, Buffer, Malformed, NoReel, AlreadyOpen, NoSlot, NoRun, FrameHeld, FrameNotHeld, HeadNumber, HeadState, Busy, ListShort}
+use Rattle.operations.specs.declared.claim.Admission.{Admission}
+use Rattle.operations.specs.declared.claim.Admission.the-variants as admission
 use Rattle.operations.specs.declared.answer.Answer.{Answer}
 use Rattle.operations.specs.declared.answer.Answer.the-variants.{Done, Refused}
 
 -- the paper's refusals
 abbrev pub numberOf : Refusal → ℕ
-numberOf None = 0
 numberOf Image = 1
 numberOf Edition = 2
 numberOf Buffer = 3
@@ -31,3 +32,8 @@ answerOf (Refused why) = numberOf why
 abbrev pub countOf : Answer → ℕ
 countOf (Done n) = n
 countOf (Refused why) = 0
+
+-- what Claim's tests of head and reel come to: 0, or their number
+abbrev pub admissionNumber : Admission → ℕ
+admissionNumber admission.Admitted = 0
+admissionNumber (admission.Refused why) = numberOf why

@@ -1,13 +1,8 @@
 // What an operation answers.
-ghost use mathlib.Core.Path.{_≡_};
-ghost use mathlib.Core.Bool.{not};
-ghost use lib.Dec.{eqb};
-ghost use Rattle.operations.specs.Answers.{numberOf};
 use book::HeadState;
 
 // Why an operation is refused; `numberOf` of specs/Answers.antt has the paper's number of each.
 pub enum Refusal {
-    None,
     Image,
     Edition,
     Buffer,
@@ -34,10 +29,4 @@ pub enum Answer {
 pub enum HeadAnswer {
     Done(u64, HeadState),
     Refused(Refusal),
-}
-
-pub fn refuses(why: Refusal) -> bool
-    ensures { λ r. ⌜ r ≡ not (eqb (numberOf why) 0) ⌝ }
-{
-    if let Refusal::None = why { false } else { true }
 }

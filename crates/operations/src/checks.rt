@@ -2,7 +2,6 @@
 ghost use mathlib.Core.Path.{_≡_};
 ghost use Prim.Native.Nat.{_≤_};
 ghost use Rattle.tree.specs.Test.{holds};
-ghost use Rattle.operations.specs.Answers.{numberOf};
 ghost use Rattle.operations.specs.Checked.{mapBad, scriptBad, firstChecks};
 use crate::answer::Refusal;
 use tree::layout::Geometry;
@@ -38,20 +37,26 @@ fn script_bad(b: Buffer) -> bool
     }
 }
 
+// What the checks come to: the geometry of an image that passes, or why it is refused.
+pub enum Verdict {
+    Passed(Geometry),
+    Refused(Refusal),
+}
+
 // 1, 2 and 3, in this sequence.
-pub fn checks(image: &[u64], map: Buffer, scratch: Buffer, script: Buffer) -> Refusal
-    ensures { λ r. ⌜ numberOf r ≡ firstChecks (now (image .entry)) map scratch script ⌝ }
+pub fn checks(image: &[u64], map: Buffer, scratch: Buffer, script: Buffer) -> Verdict
+    ensures { λ r. ⌜ r ≡ firstChecks (now (image .entry)) map scratch script ⌝ }
 {
     let g = geometry_in(image);
     if bad_image(image.len(), g) {
-        return Refusal::Image;
+        return Verdict::Refused(Refusal::Image);
     }
     if bad_edition(image) {
-        return Refusal::Edition;
+        return Verdict::Refused(Refusal::Edition);
     }
     let buffer_bad = map_bad(g, map) | (map_bad(g, scratch) | script_bad(script));
     if buffer_bad {
-        return Refusal::Buffer;
+        return Verdict::Refused(Refusal::Buffer);
     }
-    Refusal::None
+    Verdict::Passed(g)
 }

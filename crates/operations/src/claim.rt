@@ -18,14 +18,14 @@ ghost use Rattle.book.specs.Heads.{headCount, isIdle};
 ghost use Rattle.book.specs.Refusals.{refusal, _gives_};
 ghost use Rattle.book.specs.Perform.{placeIn, claimScript, taken};
 ghost use Rattle.book.specs.State.{claim};
-ghost use Rattle.operations.specs.Answers.{numberOf};
+ghost use Rattle.operations.specs.Answers.{admissionNumber};
 ghost use Rattle.operations.specs.declared.answer.HeadAnswer.the-variants.{Done};
 ghost use Rattle.operations.specs.HeadLists.{headsIn, stateIn, busyIn, headAnswerOf, headCountOf, headsAfter};
 ghost use Rattle.operations.specs.Ends.{buffers, state, ended, ends};
 use crate::answer::HeadAnswer;
 use crate::answer::Refusal;
-use crate::answer::refuses;
 use crate::checks::Buffer;
+use crate::checks::Verdict;
 use crate::checks::checks;
 use crate::heads::is_busy;
 use crate::heads::state_in;
@@ -37,7 +37,6 @@ use book::Head;
 use book::HeadState;
 use book::Target;
 use tree::layout::Geometry;
-use tree::layout::geometry_in;
 use tree::path::Room;
 use tree::path::Spot;
 use tree::path::child;
@@ -48,23 +47,29 @@ use tree::reels::slot_of;
 use walks::descent::Placement;
 use walks::descent::room_for;
 
+// Whether a claim may go on.
+pub enum Admission {
+    Admitted,
+    Refused(Refusal),
+}
+
 // 11 and 12 for the head, 5 and 13 for the reel's slot, in this sequence.
-fn head_refusal(heads: [Head; 2], head: u64, g: Geometry, slot: usize) -> Refusal
-    ensures { λ r. ⌜ numberOf r ≡ refusal ((le headCount head gives 11) ∷ (is (not (isIdle (stateIn heads head))) gives 12) ∷ (le (g .slots) slot gives 5) ∷ (is (busyIn heads slot) gives 13) ∷ []) ⌝ }
+fn admit(heads: [Head; 2], head: u64, g: Geometry, slot: usize) -> Admission
+    ensures { λ r. ⌜ admissionNumber r ≡ refusal ((le headCount head gives 11) ∷ (is (not (isIdle (stateIn heads head))) gives 12) ∷ (le (g .slots) slot gives 5) ∷ (is (busyIn heads slot) gives 13) ∷ []) ⌝ }
 {
     if 2 <= head {
-        return Refusal::HeadNumber;
+        return Admission::Refused(Refusal::HeadNumber);
     }
     let HeadState::Idle = state_in(heads, head as usize) else {
-        return Refusal::HeadState;
+        return Admission::Refused(Refusal::HeadState);
     };
     if g.slots <= slot {
-        return Refusal::NoReel;
+        return Admission::Refused(Refusal::NoReel);
     }
     if is_busy(heads, slot) {
-        return Refusal::Busy;
+        return Admission::Refused(Refusal::Busy);
     }
-    Refusal::None
+    Admission::Admitted
 }
 
 // How many nodes a room takes from the pool.
@@ -158,20 +163,18 @@ pub fn claim(
 ) -> HeadAnswer
     ensures { λ r. ⌜ ((ws : List ℕ) → headsIn ws ≡ heads → ended (headAnswerOf r) (headCountOf r) (state (now (image .entry)) (now (pool .exit)) (headsAfter ws head r)) (buffers [] (now (script .exit)) []) ≡ ends (claim (length (now (pool .entry))) (length (now (script .entry))) head reel frame) (state (now (image .entry)) (now (pool .entry)) ws) (buffers [] (now (script .entry)) [])) ⌝ }
 {
-    let why = checks(
+    let g = match checks(
         image,
         Buffer::Words(pool.len()),
         Buffer::Absent,
         Buffer::Words(script.len()),
-    );
-    if refuses(why) {
-        return HeadAnswer::Refused(why);
-    }
-    let g = geometry_in(image);
+    ) {
+        Verdict::Passed(g) => g,
+        Verdict::Refused(why) => return HeadAnswer::Refused(why),
+    };
     let slot = slot_of(image, g, reel);
-    let denied = head_refusal(heads, head, g, slot);
-    if refuses(denied) {
-        return HeadAnswer::Refused(denied);
+    if let Admission::Refused(why) = admit(heads, head, g, slot) {
+        return HeadAnswer::Refused(why);
     }
     let room = match room_for(image, g, slot, frame) {
         Placement::Malformed => return HeadAnswer::Refused(Refusal::Malformed),

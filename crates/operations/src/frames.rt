@@ -13,15 +13,14 @@ ghost use Rattle.operations.specs.HeadLists.{headsIn};
 ghost use Rattle.operations.specs.Ends.{buffers, noBuffers, state, ended, ends};
 use crate::answer::Answer;
 use crate::answer::Refusal;
-use crate::answer::refuses;
 use crate::checks::Buffer;
+use crate::checks::Verdict;
 use crate::checks::checks;
 use crate::heads::is_busy;
 use book::Head;
 use memory::script::put_fenced_pair;
 use memory::words::without_bit;
 use tree::layout::Geometry;
-use tree::layout::geometry_in;
 use tree::path::Spot;
 use tree::reels::slot_of;
 use walks::descent::Found;
@@ -31,11 +30,10 @@ use walks::descent::find;
 pub fn has(image: &[u64], reel: u64, frame: u64) -> Answer
     ensures { λ r. ⌜ ((pool ws : List ℕ) → ended (answerOf r) (countOf r) (state (now (image .entry)) pool ws) noBuffers ≡ ends (query (has reel frame)) (state (now (image .entry)) pool ws) noBuffers) ⌝ }
 {
-    let why = checks(image, Buffer::Absent, Buffer::Absent, Buffer::Absent);
-    if refuses(why) {
-        return Answer::Refused(why);
-    }
-    let g = geometry_in(image);
+    let g = match checks(image, Buffer::Absent, Buffer::Absent, Buffer::Absent) {
+        Verdict::Passed(g) => g,
+        Verdict::Refused(why) => return Answer::Refused(why),
+    };
     let slot = slot_of(image, g, reel);
     if g.slots <= slot {
         return Answer::Refused(Refusal::NoReel);
@@ -67,16 +65,15 @@ fn put_remove(image: &[u64], g: Geometry, script: &mut [u64], t: Spot)
 pub fn remove(image: &[u64], heads: [Head; 2], script: &mut [u64], reel: u64, frame: u64) -> Answer
     ensures { λ r. ⌜ ((pool ws : List ℕ) → headsIn ws ≡ heads → ended (answerOf r) (countOf r) (state (now (image .entry)) pool ws) (buffers [] (now (script .exit)) []) ≡ ends (remove (length (now (script .entry))) reel frame) (state (now (image .entry)) pool ws) (buffers [] (now (script .entry)) [])) ⌝ }
 {
-    let why = checks(
+    let g = match checks(
         image,
         Buffer::Absent,
         Buffer::Absent,
         Buffer::Words(script.len()),
-    );
-    if refuses(why) {
-        return Answer::Refused(why);
-    }
-    let g = geometry_in(image);
+    ) {
+        Verdict::Passed(g) => g,
+        Verdict::Refused(why) => return Answer::Refused(why),
+    };
     let slot = slot_of(image, g, reel);
     if g.slots <= slot {
         return Answer::Refused(Refusal::NoReel);

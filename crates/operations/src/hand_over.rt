@@ -15,7 +15,6 @@ pub fn number(why: Refusal) -> u64
     ensures { λ r. ⌜ r ≡ numberOf why ⌝ }
 {
     match why {
-        Refusal::None => 0,
         Refusal::Image => 1,
         Refusal::Edition => 2,
         Refusal::Buffer => 3,

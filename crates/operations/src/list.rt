@@ -8,10 +8,9 @@ ghost use Rattle.operations.specs.Answers.{answerOf, countOf};
 ghost use Rattle.operations.specs.Ends.{buffers, state, ended, ends};
 use crate::answer::Answer;
 use crate::answer::Refusal;
-use crate::answer::refuses;
 use crate::checks::Buffer;
+use crate::checks::Verdict;
 use crate::checks::checks;
-use tree::layout::geometry_in;
 use tree::pool_map::clear_map;
 use tree::reels::slot_of;
 use walks::trees::Listing;
@@ -21,16 +20,15 @@ use walks::trees::list_tree;
 pub fn list(image: &[u64], scratch: &mut [u64], list: &mut [u64], reel: u64) -> Answer
     ensures { λ r. ⌜ ((pool ws : List ℕ) → ended (answerOf r) (countOf r) (state (now (image .entry)) pool ws) (buffers (now (scratch .exit)) [] (now (list .exit))) ≡ ends (query (list-reel (length (now (scratch .entry))) (length (now (list .entry))) reel)) (state (now (image .entry)) pool ws) (buffers (now (scratch .entry)) [] (now (list .entry)))) ⌝ }
 {
-    let why = checks(
+    let g = match checks(
         image,
         Buffer::Absent,
         Buffer::Words(scratch.len()),
         Buffer::Absent,
-    );
-    if refuses(why) {
-        return Answer::Refused(why);
-    }
-    let g = geometry_in(image);
+    ) {
+        Verdict::Passed(g) => g,
+        Verdict::Refused(why) => return Answer::Refused(why),
+    };
     let slot = slot_of(image, g, reel);
     if g.slots <= slot {
         clear_map(scratch);

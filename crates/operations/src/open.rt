@@ -10,12 +10,11 @@ ghost use Rattle.operations.specs.Answers.{answerOf, countOf};
 ghost use Rattle.operations.specs.Ends.{buffers, state, ended, ends};
 use crate::answer::Answer;
 use crate::answer::Refusal;
-use crate::answer::refuses;
 use crate::checks::Buffer;
+use crate::checks::Verdict;
 use crate::checks::checks;
 use memory::script::put_fenced_pair;
 use tree::layout::Geometry;
-use tree::layout::geometry_in;
 use tree::pool_map::free_node;
 use tree::pool_map::mark;
 use tree::reels::empty_slot;
@@ -53,16 +52,15 @@ fn put_open(script: &mut [u64], g: Geometry, slot: usize, n: usize, reel: u64)
 pub fn open(image: &[u64], pool: &mut [u64], script: &mut [u64], reel: u64) -> Answer
     ensures { λ r. ⌜ ((heads : List ℕ) → ended (answerOf r) (countOf r) (state (now (image .entry)) (now (pool .exit)) heads) (buffers [] (now (script .exit)) []) ≡ ends (openReel (length (now (pool .entry))) (length (now (script .entry))) reel) (state (now (image .entry)) (now (pool .entry)) heads) (buffers [] (now (script .entry)) [])) ⌝ }
 {
-    let why = checks(
+    let g = match checks(
         image,
         Buffer::Words(pool.len()),
         Buffer::Absent,
         Buffer::Words(script.len()),
-    );
-    if refuses(why) {
-        return Answer::Refused(why);
-    }
-    let g = geometry_in(image);
+    ) {
+        Verdict::Passed(g) => g,
+        Verdict::Refused(why) => return Answer::Refused(why),
+    };
     if slot_of(image, g, reel) < g.slots {
         return Answer::Refused(Refusal::AlreadyOpen);
     }

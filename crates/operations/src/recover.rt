@@ -9,26 +9,24 @@ ghost use Rattle.operations.specs.HeadLists.{headsFresh};
 ghost use Rattle.operations.specs.Ends.{noBuffers, state, ended, ends};
 use crate::answer::Answer;
 use crate::answer::Refusal;
-use crate::answer::refuses;
 use crate::checks::Buffer;
+use crate::checks::Verdict;
 use crate::checks::checks;
-use tree::layout::geometry_in;
 use walks::recovery::recover_image;
 
 // Recover: an image that is not sound stays as it is, and its map is all 0.
 pub fn recover(image: &mut [u64], pool: &mut [u64]) -> Answer
     ensures { λ r. ⌜ ((heads : List ℕ) → ended (answerOf r) (countOf r) (state (now (image .exit)) (now (pool .exit)) (headsFresh heads r)) noBuffers ≡ ends (recover (length (now (pool .entry)))) (state (now (image .entry)) (now (pool .entry)) heads) noBuffers) ⌝ }
 {
-    let why = checks(
+    let g = match checks(
         image,
         Buffer::Words(pool.len()),
         Buffer::Absent,
         Buffer::Absent,
-    );
-    if refuses(why) {
-        return Answer::Refused(why);
-    }
-    let g = geometry_in(image);
+    ) {
+        Verdict::Passed(g) => g,
+        Verdict::Refused(why) => return Answer::Refused(why),
+    };
     if !recover_image(image, pool, g) {
         return Answer::Refused(Refusal::Malformed);
     }

@@ -9,13 +9,12 @@ ghost use Rattle.operations.specs.HeadLists.{headsIn};
 ghost use Rattle.operations.specs.Ends.{buffers, state, ended, ends};
 use crate::answer::Answer;
 use crate::answer::Refusal;
-use crate::answer::refuses;
 use crate::checks::Buffer;
+use crate::checks::Verdict;
 use crate::checks::checks;
 use crate::heads::is_busy;
 use book::Head;
 use memory::script::put_fenced;
-use tree::layout::geometry_in;
 use tree::pool_map::clear_map;
 use tree::reels::slot_of;
 use walks::trees::free_tree;
@@ -31,16 +30,15 @@ pub fn retire(
 ) -> Answer
     ensures { λ r. ⌜ ((ws : List ℕ) → headsIn ws ≡ heads → ended (answerOf r) (countOf r) (state (now (image .entry)) (now (pool .exit)) ws) (buffers (now (scratch .exit)) (now (script .exit)) []) ≡ ends (retire (length (now (pool .entry))) (length (now (scratch .entry))) (length (now (script .entry))) reel) (state (now (image .entry)) (now (pool .entry)) ws) (buffers (now (scratch .entry)) (now (script .entry)) [])) ⌝ }
 {
-    let why = checks(
+    let g = match checks(
         image,
         Buffer::Words(pool.len()),
         Buffer::Words(scratch.len()),
         Buffer::Words(script.len()),
-    );
-    if refuses(why) {
-        return Answer::Refused(why);
-    }
-    let g = geometry_in(image);
+    ) {
+        Verdict::Passed(g) => g,
+        Verdict::Refused(why) => return Answer::Refused(why),
+    };
     let slot = slot_of(image, g, reel);
     if g.slots <= slot {
         clear_map(scratch);

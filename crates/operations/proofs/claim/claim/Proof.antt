@@ -1,11 +1,12 @@
-use mathlib.Core.Path.{_≡_, sym, _∙_}
+use mathlib.Core.Path.{_≡_, sym, _∙_, ap}
 use mathlib.Core.List.{List}
 use Prim.Native.Nat.{ℕ, _<_}
 use Rattle.tree.specs.Memory.{reads as readsWords}
 use Rattle.tree.specs.Slots.{Filled}
 use Rattle.tree.proofs.Laws.{slot-laws}
-use Rattle.operations.specs.Answers.{numberOf}
+use Rattle.operations.specs.Answers.{numberOf, admissionNumber}
 use Rattle.operations.specs.HeadLists.{headsIn}
+use Rattle.operations.proofs.Passed.{number-some}
 use Rattle.operations.proofs.Opening.{OpenChecked, open-checked}
 use Rattle.operations.proofs.ClaimingEndings.{HeadPassed, slot-below, run-fits, claim-early, head-refused, head-passed, path-malformed, path-full, frame-held, no-run, claimed}
 use borrow.Author.Needs.{needs}
@@ -13,72 +14,70 @@ use Rattle.operations.proofs.claim.claim.Statement.{statement}
 use Rattle.operations.proofs.claim.claim.Tie as tie
 
 -- the checks are passed
-fine : (c : tie.After-geometry-in)
+fine : (c : tie.After-known-told)
     → let a = c .before .before .before .before .before .before .before .args in
-    OpenChecked (a .image .now) (a .pool .now) (a .script .now) (c .geometry-in .result)
+    OpenChecked (a .image .now) (a .pool .now) (a .script .now) (c .before .g .given .0 .0)
 fine c =
     let told = c .before .before .before in
     let a = told .before .before .before .before .args in
-    open-checked (a .image .now) (a .pool .now) (a .script .now) _ (numberOf (told .checks .result)) _
-    (told .checks .ensures) (c .before .before .refuses .ensures) (c .before .if1 .left) (c .geometry-in .ensures)
+    open-checked (a .image .now) (a .pool .now) (a .script .now) (told .checks .ensures) (c .before .g .given .1)
 
 -- so are the tests of the head and of the slot
-past : (c : tie.Else2) (ws : List ℕ)
+past : (c : tie.After-enum-told) (ws : List ℕ)
     → let read = c .before .before .before .before in
     let a = read .before .before .before .before .before .before .before .args in
     headsIn ws ≡ a .heads
-    → HeadPassed (a .image .now) (a .pool .now) (a .script .now) ws (a .head) (a .reel) (a .frame) (read .geometry-in .result) (c .before .before .before .slot-of .result)
+    → HeadPassed (a .image .now) (a .pool .now) (a .script .now) ws (a .head) (a .reel) (a .frame) (read .before .g .given .0 .0) (c .before .before .before .slot-of .result)
 past c ws e =
     let tests = c .before .before in
     let read = tests .before .before in
     let a = read .before .before .before .before .before .before .before .args in
     head-passed (a .image .now) (a .pool .now) (a .script .now) ws (a .head) (a .reel) (a .frame) (a .heads) e _ (fine read) _ (tests .before .slot-of .ensures)
-    (numberOf (tests .head-refusal .result)) (tests .head-refusal .ensures) _ (c .before .refuses2 .ensures) (c .if2 .left)
+    (admissionNumber (tests .admit .result)) (tests .admit .ensures) (ap admissionNumber (c .enum-told .given .1))
 
 -- and the slot is filled
-filled : (c : tie.Else2)
+filled : (c : tie.After-enum-told)
     → let read = c .before .before .before .before in
     let a = read .before .before .before .before .before .before .before .args in
-    Filled (read .geometry-in .result) (readsWords (a .image .now)) (c .before .before .before .slot-of .result)
+    Filled (read .before .g .given .0 .0) (readsWords (a .image .now)) (c .before .before .before .slot-of .result)
 filled c =
     let tests = c .before .before in
     let slot = tests .before .slot-of in
     let read = tests .before .before in
     let a = read .before .before .before .before .before .before .before .args in
-    let l : slot .result < read .geometry-in .result .slots =
-    slot-below (a .heads) (a .head) (read .geometry-in .result) (slot .result) (numberOf (tests .head-refusal .result)) _ (tests .head-refusal .ensures)
-    (c .before .refuses2 .ensures) (c .if2 .left) in
-    rw (slot .ensures) (slot-laws (read .geometry-in .result) (readsWords (a .image .now)) .reel (a .reel) (rw (← slot .ensures) l) .0)
+    let l : slot .result < read .before .g .given .0 .0 .slots =
+    slot-below (a .heads) (a .head) (read .before .g .given .0 .0) (slot .result) (sym (ap admissionNumber (c .enum-told .given .1)) ∙ tests .admit .ensures) in
+    rw (slot .ensures) (slot-laws (read .before .g .given .0 .0) (readsWords (a .image .now)) .reel (a .reel) (rw (← slot .ensures) l) .0)
 
 returns : tie.Need-returns
 returns c ws e =
-    let told = c .before .before in
+    let told = c .before .before .before in
     let a = told .before .before .before .before .args in
-    claim-early (a .image .now) (a .pool .now) (a .script .now) ws (a .head) (a .reel) (a .frame) (numberOf (told .checks .result)) _
-    (told .checks .ensures) (c .before .refuses .ensures) (c .if1 .taken)
+    claim-early (a .image .now) (a .pool .now) (a .script .now) ws (a .head) (a .reel) (a .frame) (told .checks .ensures) (c .before .why .given .1)
 
 returns-2 : tie.Need-returns-2
 returns-2 c ws e =
-    let tests = c .before .before in
+    let tests = c .before .before .before in
     let read = tests .before .before in
     let a = read .before .before .before .before .before .before .before .args in
     head-refused (a .image .now) (a .pool .now) (a .script .now) ws (a .head) (a .reel) (a .frame) (a .heads) e _ (fine read) _ (tests .before .slot-of .ensures)
-    (numberOf (tests .head-refusal .result)) (tests .head-refusal .ensures) _ (c .before .refuses2 .ensures) (c .if2 .taken)
+    (numberOf (c .before .why2 .given .0 .0)) (sym (ap admissionNumber (c .before .why2 .given .1)) ∙ tests .admit .ensures)
+    (number-some (c .before .why2 .given .0 .0))
 
 returns-3 : tie.Need-returns-3
 returns-3 c ws e =
     let walked = c .before .before in
-    path-malformed _ _ _ _ _ _ _ (past (walked .before) ws e) (walked .room-for .ensures) (c .enum-told .given .1)
+    path-malformed _ _ _ _ _ _ _ (past (walked .before) ws e) (walked .room-for .ensures) (c .enum-told2 .given .1)
 
 returns-4 : tie.Need-returns-4
 returns-4 c ws e =
     let walked = c .before .before in
-    path-full _ _ _ _ _ _ _ (past (walked .before) ws e) (walked .room-for .ensures) (c .enum-told2 .given .1)
+    path-full _ _ _ _ _ _ _ (past (walked .before) ws e) (walked .room-for .ensures) (c .enum-told3 .given .1)
 
 returns-5 : tie.Need-returns-5
 returns-5 c ws e =
     let walked = c .before .before in
-    frame-held _ _ _ _ _ _ _ (past (walked .before) ws e) (walked .room-for .ensures) (c .enum-told3 .given .1)
+    frame-held _ _ _ _ _ _ _ (past (walked .before) ws e) (walked .room-for .ensures) (c .enum-told4 .given .1)
 
 run-for-requires : tie.Need-run-for-requires
 run-for-requires c κs = let p = fine (c .before .before .before .before .before .before .before .before .before) in search needs
@@ -88,7 +87,7 @@ returns-6 c ws e =
     let run = c .before .before in
     let known = run .before .before .before in
     let walked = known .before .before in
-    no-run _ _ _ _ _ _ _ (past (walked .before) ws e) (walked .room-for .ensures) _ (known .room .given .1) _ (run .run-for .ensures) (c .if3 .taken)
+    no-run _ _ _ _ _ _ _ (past (walked .before) ws e) (walked .room-for .ensures) _ (known .room .given .1) _ (run .run-for .ensures) (c .if1 .taken)
 
 take-room-requires : tie.Need-take-room-requires
 take-room-requires c κs =
@@ -103,7 +102,7 @@ take-room-requires c κs =
       sym (known .room .given .1) ∙ walked .room-for .ensures,
       p .map-words,
       p .script-words,
-      run-fits (read .geometry-in .result) (a .pool .now) (known .room .given .0 .0) _ (run .run-for .ensures) (left .if3 .left),
+      run-fits (read .before .g .given .0 .0) (a .pool .now) (known .room .given .0 .0) _ (run .run-for .ensures) (left .if1 .left),
     )
 
 returns-7 : tie.Need-returns-7
@@ -113,7 +112,7 @@ returns-7 c ws e =
     let run = left .before .before in
     let known = run .before .before .before in
     let walked = known .before .before in
-    claimed _ _ _ _ _ _ _ (past (walked .before) ws e) (walked .room-for .ensures) _ (known .room .given .1) _ (run .run-for .ensures) (left .if3 .left)
+    claimed _ _ _ _ _ _ _ (past (walked .before) ws e) (walked .room-for .ensures) _ (known .room .given .1) _ (run .run-for .ensures) (left .if1 .left)
     (took .take-room .last .1 .0) (took .take-room .last .1 .1 .0) (took .take-room .result) (took .take-room .ensures)
 
 pub claim-spec : {M : Type 1} → statement M
@@ -121,13 +120,14 @@ claim-spec =
     tie.close
     (tie.spec
     (λ c κs. search needs)
-    (λ c κs. search needs)
+    (λ c. search needs)
+    (λ c. search needs)
     returns
-    (λ c κs. search needs)
     (λ c κs. fine c .sized)
     (λ c κs. search needs)
-    (λ c κs. search needs)
+    (λ c. search needs)
     returns-2
+    (λ c. search needs)
     (λ c κs. (fine (c .before .before .before .before) .sized, filled c))
     (λ c. search needs)
     returns-3

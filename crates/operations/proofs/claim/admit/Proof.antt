@@ -6,8 +6,8 @@ use Rattle.book.proofs.Refusals.{refused-here, refused-later, passed-all}
 use Rattle.operations.specs.HeadLists.{stateIn}
 use Rattle.operations.proofs.Claiming.{not-idle}
 use borrow.Author.Needs.{needs}
-use Rattle.operations.proofs.claim.head_refusal.Statement.{statement}
-use Rattle.operations.proofs.claim.head_refusal.Tie as tie
+use Rattle.operations.proofs.claim.admit.Statement.{statement}
+use Rattle.operations.proofs.claim.admit.Tie as tie
 
 -- past 12
 idle : (c : tie.After-struct-known)
@@ -51,8 +51,8 @@ returns-5 c =
     ∙ refused-later _ _ (sym (c .before .is-busy .ensures) ∙ c .if3 .left)
     ∙ passed-all _ tt)
 
-pub head-refusal-spec : {M : Type 1} → statement M
-head-refusal-spec =
+pub admit-spec : {M : Type 1} → statement M
+admit-spec =
     tie.close
     (tie.spec
     (λ c. sym (refused-here _ _ (le-leb headCount (c .before .args .head) (c .if1 .taken))))

@@ -1,0 +1,25 @@
+use Rattle.tree.specs.Memory.{stores, segmented}
+use borrow.Author.Needs.{needs}
+use Rattle.operations.proofs.targets.put_commit.Statement.{statement}
+use Rattle.operations.proofs.targets.put_commit.Tie as tie
+
+returns : tie.Need-returns
+unfolding stores segmented
+returns c = rw (← c .before .before .before .with-bit .ensures) (c .before .before .put-fenced .ensures)
+
+pub put-commit-spec : {M : Type 1} → statement M
+put-commit-spec =
+    tie.close
+    (tie.spec
+    (λ c. search needs)
+    (λ c. search needs)
+    (λ c. search needs)
+    (λ c. search needs)
+    (λ c. search needs)
+    (λ c. search needs)
+    (λ c. search needs)
+    (λ c. search needs)
+    (λ c κs. search needs)
+    (λ c κs. search needs)
+    (λ c. search needs)
+    returns)

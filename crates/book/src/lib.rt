@@ -1,5 +1,10 @@
 // The types that the operations' definitions and their code share: a head's record and its state.
 
+// How many heads there are, and how many words their records have. `headCount` of specs/Heads.antt is the same number.
+pub const HEADS: usize = 2;
+
+pub const HEAD_WORDS: usize = 5 * HEADS;
+
 // What a head is about: a place of a node in a slot's tree, for a frame.
 pub struct Target {
     pub slot: u64,

@@ -1,25 +1,63 @@
 -- The array of heads and the driver's words that it was read from.
-use mathlib.Core.Path.{_≡_, refl, sym, ap}
+use mathlib.Core.Path.{_≡_, refl, sym, _∙_, ap}
 use mathlib.Core.Bool.{true, false}
-use mathlib.Core.List.{List}
-use Prim.Native.Nat.{ℕ, zero, suc, _<_}
+use mathlib.Core.List.{List, map}
+use Prim.Native.Nat.{ℕ, zero, suc, _+_, _<_}
 use native.Mathlib.Omega.{arith}
+use native.Mathlib.Decide.{ℕ-discrete}
+use lib.ListN.{length, getD, set}
+use lib.Seq.{ext-getD, getD-set-same, getD-set-other}
 use lib.Dec.{ltb}
 use borrow.Author.Tests.{le-ltb}
 use Rattle.memory.specs.Laws.{NoneBelow}
 use Rattle.memory.proofs.Laws.{first-laws}
 use Rattle.tree.specs.Lists.{range, upTo}
+use Rattle.book.specs.declared.HeadState.{HeadState}
+use Rattle.book.specs.declared.HeadState.the-variants.{Idle}
 use Rattle.book.specs.declared.Head.{Head}
 use Rattle.book.specs.Heads.{headCount, headAt, names, busy}
 use Rattle.book.proofs.Heads.{found-below}
-use Rattle.operations.specs.HeadLists.{headsIn, stateIn, busyIn}
+use Rattle.operations.specs.HeadLists.{headOf, headsIn, stateIn, busyIn}
+
+-- ---- the array, record by record
+
+mapped : {A : Type 0} (f : ℕ → A) (d : A) (from n k : ℕ) → k < n → getD (map f (range from n)) k d ≡ f (from + k)
+unfolding range
+mapped f d from zero k l = absurd (omega arith)
+mapped f d from (suc n) zero l = let z : from ≡ from + 0 = omega arith in ap f z
+mapped f d from (suc n) (suc k) l = let z : suc from + k ≡ from + suc k = omega arith in mapped f d (suc from) n k (omega arith) ∙ ap f z
+
+length-mapped : {A : Type 0} (f : ℕ → A) (from n : ℕ) → length (map f (range from n)) ≡ n
+unfolding range
+length-mapped f from zero = refl
+length-mapped f from (suc n) = ap suc (length-mapped f (suc from) n)
+
+record-in : (ws : List ℕ) (h : ℕ) → h < headCount → getD (headsIn ws) h (headOf Idle) ≡ headOf (headAt ws h)
+unfolding headsIn upTo
+record-in ws h l = let z : 0 + h ≡ h = omega arith in mapped (λ k. headOf (headAt ws k)) (headOf Idle) 0 headCount h l ∙ ap (λ k. headOf (headAt ws k)) z
+
+records-count : (ws : List ℕ) → length (headsIn ws) ≡ headCount
+unfolding headsIn upTo
+records-count ws = length-mapped (λ k. headOf (headAt ws k)) 0 headCount
+
+-- all are read once those below the number of heads are
+pub all-read : (ws : List ℕ) (heads : List Head) → length heads ≡ headCount
+    → ((k : ℕ) → k < headCount → getD heads k (headOf Idle) ≡ headOf (headAt ws k)) → heads ≡ headsIn ws
+all-read ws heads e h = ext-getD (headOf Idle) heads (headsIn ws) (e ∙ sym (records-count ws)) (λ i l. h i (rw e at l) ∙ sym (record-in ws i (rw e at l)))
+
+-- and one more with each step
+pub one-more : (ws : List ℕ) (heads : List Head) (h : ℕ) (x : HeadState) → h < length heads → x ≡ headAt ws h
+    → ((k : ℕ) → k < h → getD heads k (headOf Idle) ≡ headOf (headAt ws k))
+    → (k : ℕ) → k < h + 1 → getD (set heads h (headOf x)) k (headOf Idle) ≡ headOf (headAt ws k)
+one-more ws heads h x low q below k l = elim (ℕ-discrete k h) [
+  | yes e ↦ rw (e, getD-set-same heads h (headOf x) (headOf Idle) low, q) refl
+  | no e ↦ getD-set-other heads h k (headOf x) (headOf Idle) e ∙ below k (omega arith)
+]
 
 -- a head's state in the array is the one that its words have
 pub state-read : (ws : List ℕ) (heads : List Head) (h : ℕ) → headsIn ws ≡ heads → h < headCount → stateIn heads h ≡ headAt ws h
-unfolding headsIn stateIn upTo range
-state-read ws heads zero e l = rw (← e) refl
-state-read ws heads (suc zero) e l = rw (← e) refl
-state-read ws heads (suc (suc h)) e l = absurd (omega arith)
+unfolding stateIn
+state-read ws heads h e l = rw (← e) (ap (λ (x : Head). x .state) (record-in ws h l))
 
 pub busy-read : (ws : List ℕ) (heads : List Head) (s : ℕ) → headsIn ws ≡ heads → busyIn heads s ≡ busy ws s
 unfolding busyIn busy

@@ -33,6 +33,7 @@ use crate::room_script::locate_word;
 use crate::room_script::put_branch_out;
 use crate::room_script::put_locate;
 use crate::room_script::put_scale_up;
+use book::HEADS;
 use book::Head;
 use book::HeadState;
 use book::Target;
@@ -54,10 +55,10 @@ pub enum Admission {
 }
 
 // 11 and 12 for the head, 5 and 13 for the reel's slot, in this sequence.
-fn admit(heads: [Head; 2], head: u64, g: Geometry, slot: usize) -> Admission
+fn admit(heads: [Head; HEADS], head: u64, g: Geometry, slot: usize) -> Admission
     ensures { λ r. ⌜ admissionNumber r ≡ refusal ((le headCount head gives 11) ∷ (is (not (isIdle (stateIn heads head))) gives 12) ∷ (le (g .slots) slot gives 5) ∷ (is (busyIn heads slot) gives 13) ∷ []) ⌝ }
 {
-    if 2 <= head {
+    if HEADS as u64 <= head {
         return Admission::Refused(Refusal::HeadNumber);
     }
     let HeadState::Idle = state_in(heads, head as usize) else {
@@ -155,7 +156,7 @@ fn take_room(
 pub fn claim(
     image: &[u64],
     pool: &mut [u64],
-    heads: [Head; 2],
+    heads: [Head; HEADS],
     script: &mut [u64],
     head: u64,
     reel: u64,

@@ -17,6 +17,7 @@ use crate::checks::Buffer;
 use crate::checks::Verdict;
 use crate::checks::checks;
 use crate::heads::is_busy;
+use book::HEADS;
 use book::Head;
 use memory::script::put_fenced_pair;
 use memory::words::without_bit;
@@ -62,7 +63,13 @@ fn put_remove(image: &[u64], g: Geometry, script: &mut [u64], t: Spot)
 }
 
 // Take a frame out of its reel, unless a head that is not idle works on the reel.
-pub fn remove(image: &[u64], heads: [Head; 2], script: &mut [u64], reel: u64, frame: u64) -> Answer
+pub fn remove(
+    image: &[u64],
+    heads: [Head; HEADS],
+    script: &mut [u64],
+    reel: u64,
+    frame: u64,
+) -> Answer
     ensures { λ r. ⌜ ((pool ws : List ℕ) → headsIn ws ≡ heads → ended (answerOf r) (countOf r) (state (now (image .entry)) pool ws) (buffers [] (now (script .exit)) []) ≡ ends (remove (length (now (script .entry))) reel frame) (state (now (image .entry)) pool ws) (buffers [] (now (script .entry)) [])) ⌝ }
 {
     let g = match checks(

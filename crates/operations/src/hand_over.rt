@@ -9,6 +9,7 @@ use crate::answer::HeadAnswer;
 use crate::answer::Refusal;
 use crate::head_words::clear_heads;
 use crate::head_words::write_head;
+use book::HEAD_WORDS;
 
 // The paper's number of a refusal.
 pub fn number(why: Refusal) -> u64
@@ -61,7 +62,12 @@ pub fn hand_over(answer: Answer, count: &mut u64) -> u64
 }
 
 // The same, with the record of the operation's head written.
-pub fn hand_over_head(answer: HeadAnswer, words: &mut [u64; 10], head: u64, count: &mut u64) -> u64
+pub fn hand_over_head(
+    answer: HeadAnswer,
+    words: &mut [u64; HEAD_WORDS],
+    head: u64,
+    count: &mut u64,
+) -> u64
     requires { ⌜ HeadInside head answer ⌝ }
     ensures { λ r. ⌜ (r ≡ headAnswerOf answer) × (now (count .exit) ≡ headCountOf answer) × (now (words .exit) ≡ headsAfter (now (words .entry)) head answer) ⌝ }
 {
@@ -79,7 +85,7 @@ pub fn hand_over_head(answer: HeadAnswer, words: &mut [u64; 10], head: u64, coun
 }
 
 // The same after a Format or Recover: every record is written idle.
-pub fn hand_over_fresh(answer: Answer, words: &mut [u64; 10]) -> u64
+pub fn hand_over_fresh(answer: Answer, words: &mut [u64; HEAD_WORDS]) -> u64
     ensures { λ r. ⌜ (r ≡ answerOf answer) × (now (words .exit) ≡ headsFresh (now (words .entry)) answer) ⌝ }
 {
     if let Answer::Done(_) = answer {

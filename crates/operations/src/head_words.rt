@@ -3,15 +3,17 @@ ghost use mathlib.Core.Path.{_≡_};
 ghost use mathlib.Core.List.{[], _∷_, _++_};
 ghost use Prim.Native.Nat.{_+_, _*_, _<_};
 ghost use lib.ListN.{length, take, drop};
-ghost use Rattle.book.specs.Heads.{headAt, withHead, idleHeads};
+ghost use Rattle.book.specs.Heads.{headCount, headAt, withHead, idleHeads};
 ghost use Rattle.operations.specs.HeadLists.{headsIn};
+use book::HEAD_WORDS;
+use book::HEADS;
 use book::Head;
 use book::HeadState;
 use book::Target;
 
 // Record h; any state word but 1 and 2 reads as idle.
-fn read_head(words: &[u64; 10], h: usize) -> HeadState
-    requires { ⌜ h < 2 ⌝ }
+fn read_head(words: &[u64; HEAD_WORDS], h: usize) -> HeadState
+    requires { ⌜ h < headCount ⌝ }
     ensures { λ r. ⌜ r ≡ headAt (now (words .entry)) h ⌝ }
 {
     let at = 5 * h;
@@ -32,22 +34,25 @@ fn read_head(words: &[u64; 10], h: usize) -> HeadState
 }
 
 // All records.
-pub fn read_heads(words: &[u64; 10]) -> [Head; 2]
+pub fn read_heads(words: &[u64; HEAD_WORDS]) -> [Head; HEADS]
     ensures { λ r. ⌜ r ≡ headsIn (now (words .entry)) ⌝ }
 {
-    [
-        Head {
-            state: read_head(words, 0),
-        },
-        Head {
-            state: read_head(words, 1),
-        },
-    ]
+    let mut heads = [Head {
+        state: HeadState::Idle,
+    }; HEADS];
+    let mut h = 0;
+    while h < HEADS {
+        heads[h] = Head {
+            state: read_head(words, h),
+        };
+        h += 1;
+    }
+    heads
 }
 
 // Writes the five words of record h. The words come as a slice, whose length a contract may speak of.
 fn write_words(words: &mut [u64], h: usize, state: u64, t: Target)
-    requires { ⌜ (h < 2) × (length (now words) ≡ 10) ⌝ }
+    requires { ⌜ (h < headCount) × (length (now words) ≡ 5 * headCount) ⌝ }
     ensures { λ _. ⌜ now (words .exit) ≡ take (5 * h) (now (words .entry)) ++ ((state ∷ t .slot ∷ t .node ∷ t .place ∷ t .frame ∷ []) ++ drop (5 * h + 5) (now (words .entry))) ⌝ }
 {
     let at = 5 * h;
@@ -59,8 +64,8 @@ fn write_words(words: &mut [u64], h: usize, state: u64, t: Target)
 }
 
 // Writes record h, and no word of another.
-pub fn write_head(words: &mut [u64; 10], h: usize, state: HeadState)
-    requires { ⌜ h < 2 ⌝ }
+pub fn write_head(words: &mut [u64; HEAD_WORDS], h: usize, state: HeadState)
+    requires { ⌜ h < headCount ⌝ }
     ensures { λ _. ⌜ now (words .exit) ≡ withHead (now (words .entry)) h state ⌝ }
 {
     match state {
@@ -81,8 +86,8 @@ pub fn write_head(words: &mut [u64; 10], h: usize, state: HeadState)
 }
 
 // Writes every record idle: all words 0.
-pub fn clear_heads(words: &mut [u64; 10])
+pub fn clear_heads(words: &mut [u64; HEAD_WORDS])
     ensures { λ _. ⌜ now (words .exit) ≡ idleHeads ⌝ }
 {
-    *words = [0; 10];
+    *words = [0; HEAD_WORDS];
 }

@@ -13,6 +13,7 @@ use crate::checks::Buffer;
 use crate::checks::Verdict;
 use crate::checks::checks;
 use crate::heads::is_busy;
+use book::HEADS;
 use book::Head;
 use memory::script::put_fenced;
 use tree::pool_map::clear_map;
@@ -23,7 +24,7 @@ use walks::trees::free_tree;
 pub fn retire(
     image: &[u64],
     pool: &mut [u64],
-    heads: [Head; 2],
+    heads: [Head; HEADS],
     scratch: &mut [u64],
     script: &mut [u64],
     reel: u64,

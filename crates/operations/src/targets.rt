@@ -9,7 +9,7 @@ ghost use Rattle.tree.specs.Memory.{reads};
 ghost use Rattle.tree.specs.Test.{holds};
 ghost use Rattle.tree.specs.Layout.{Sized, setAt, locateAt};
 ghost use Rattle.tree.specs.Fingerprint.{ruleOf};
-ghost use Rattle.book.specs.Heads.{isIdle, isFilled, targetOf};
+ghost use Rattle.book.specs.Heads.{headCount, isIdle, isFilled, targetOf};
 ghost use Rattle.book.specs.State.{fill, commit, abandon};
 ghost use Rattle.book.specs.Checks.{outside};
 ghost use Rattle.book.specs.Perform.{fillScript, bitOn, bitOff};
@@ -21,6 +21,7 @@ use crate::checks::Buffer;
 use crate::checks::Verdict;
 use crate::checks::checks;
 use crate::heads::state_in;
+use book::HEADS;
 use book::Head;
 use book::HeadState;
 use book::Target;
@@ -73,7 +74,7 @@ fn put_abandon(image: &[u64], g: Geometry, script: &mut [u64], t: Target)
     put_fenced(script, at as u64, without_bit(image[at], t.place as u32));
 }
 
-pub fn fill(image: &[u64], heads: [Head; 2], script: &mut [u64], head: u64) -> HeadAnswer
+pub fn fill(image: &[u64], heads: [Head; HEADS], script: &mut [u64], head: u64) -> HeadAnswer
     ensures { λ r. ⌜ ((pool ws : List ℕ) → headsIn ws ≡ heads → ended (headAnswerOf r) (headCountOf r) (state (now (image .entry)) pool (headsAfter ws head r)) (buffers [] (now (script .exit)) []) ≡ ends (fill (length (now (script .entry))) head) (state (now (image .entry)) pool ws) (buffers [] (now (script .entry)) [])) ⌝ }
 {
     let g = match checks(
@@ -85,7 +86,7 @@ pub fn fill(image: &[u64], heads: [Head; 2], script: &mut [u64], head: u64) -> H
         Verdict::Passed(g) => g,
         Verdict::Refused(why) => return HeadAnswer::Refused(why),
     };
-    if 2 <= head {
+    if HEADS as u64 <= head {
         return HeadAnswer::Refused(Refusal::HeadNumber);
     }
     let HeadState::Claimed(t) = state_in(heads, head as usize) else {
@@ -98,7 +99,7 @@ pub fn fill(image: &[u64], heads: [Head; 2], script: &mut [u64], head: u64) -> H
     HeadAnswer::Done(8, HeadState::Filled(t))
 }
 
-pub fn commit(image: &[u64], heads: [Head; 2], script: &mut [u64], head: u64) -> HeadAnswer
+pub fn commit(image: &[u64], heads: [Head; HEADS], script: &mut [u64], head: u64) -> HeadAnswer
     ensures { λ r. ⌜ ((pool ws : List ℕ) → headsIn ws ≡ heads → ended (headAnswerOf r) (headCountOf r) (state (now (image .entry)) pool (headsAfter ws head r)) (buffers [] (now (script .exit)) []) ≡ ends (commit (length (now (script .entry))) head) (state (now (image .entry)) pool ws) (buffers [] (now (script .entry)) [])) ⌝ }
 {
     let g = match checks(
@@ -110,7 +111,7 @@ pub fn commit(image: &[u64], heads: [Head; 2], script: &mut [u64], head: u64) ->
         Verdict::Passed(g) => g,
         Verdict::Refused(why) => return HeadAnswer::Refused(why),
     };
-    if 2 <= head {
+    if HEADS as u64 <= head {
         return HeadAnswer::Refused(Refusal::HeadNumber);
     }
     let HeadState::Filled(t) = state_in(heads, head as usize) else {
@@ -123,7 +124,7 @@ pub fn commit(image: &[u64], heads: [Head; 2], script: &mut [u64], head: u64) ->
     HeadAnswer::Done(4, HeadState::Idle)
 }
 
-pub fn abandon(image: &[u64], heads: [Head; 2], script: &mut [u64], head: u64) -> HeadAnswer
+pub fn abandon(image: &[u64], heads: [Head; HEADS], script: &mut [u64], head: u64) -> HeadAnswer
     ensures { λ r. ⌜ ((pool ws : List ℕ) → headsIn ws ≡ heads → ended (headAnswerOf r) (headCountOf r) (state (now (image .entry)) pool (headsAfter ws head r)) (buffers [] (now (script .exit)) []) ≡ ends (abandon (length (now (script .entry))) head) (state (now (image .entry)) pool ws) (buffers [] (now (script .entry)) [])) ⌝ }
 {
     let g = match checks(
@@ -135,7 +136,7 @@ pub fn abandon(image: &[u64], heads: [Head; 2], script: &mut [u64], head: u64) -
         Verdict::Passed(g) => g,
         Verdict::Refused(why) => return HeadAnswer::Refused(why),
     };
-    if 2 <= head {
+    if HEADS as u64 <= head {
         return HeadAnswer::Refused(Refusal::HeadNumber);
     }
     let t = match state_in(heads, head as usize) {

@@ -10,6 +10,7 @@ ghost use lib.ListN.{length};
 ghost use Rattle.book.specs.State.{format, recover, openReel, claim, fill, commit, abandon, remove, retire, query, has, list as list-reel};
 ghost use Rattle.book.specs.CarryOut.{carry, carried};
 ghost use Rattle.operations.specs.Ends.{buffers, noBuffers, state, ended, ends};
+use book::HEAD_WORDS;
 use operations::apply;
 use operations::claim;
 use operations::format;
@@ -30,7 +31,7 @@ use operations::targets;
 pub extern "C" fn reelbook_format(
     image: &mut [u64],
     map: &mut [u64],
-    heads: &mut [u64; 10],
+    heads: &mut [u64; HEAD_WORDS],
     slots: u64,
     nodes: u64,
 ) -> u64
@@ -41,7 +42,11 @@ pub extern "C" fn reelbook_format(
 
 // After power-up: checks the image, sets its locate words, builds the map, makes the heads idle.
 #[no_mangle]
-pub extern "C" fn reelbook_recover(image: &mut [u64], map: &mut [u64], heads: &mut [u64; 10]) -> u64
+pub extern "C" fn reelbook_recover(
+    image: &mut [u64],
+    map: &mut [u64],
+    heads: &mut [u64; HEAD_WORDS],
+) -> u64
     ensures { λ r. ⌜ ended r 0 (state (now (image .exit)) (now (map .exit)) (now (heads .exit))) noBuffers ≡ ends (recover (length (now (map .entry)))) (state (now (image .entry)) (now (map .entry)) (now (heads .entry))) noBuffers ⌝ }
 {
     hand_over_fresh(recover::recover(image, map), heads)
@@ -66,7 +71,7 @@ pub extern "C" fn reelbook_open(
 pub extern "C" fn reelbook_claim(
     image: &[u64],
     map: &mut [u64],
-    heads: &mut [u64; 10],
+    heads: &mut [u64; HEAD_WORDS],
     script: &mut [u64],
     head: u64,
     reel: u64,
@@ -83,7 +88,7 @@ pub extern "C" fn reelbook_claim(
 #[no_mangle]
 pub extern "C" fn reelbook_fill(
     image: &[u64],
-    heads: &mut [u64; 10],
+    heads: &mut [u64; HEAD_WORDS],
     script: &mut [u64],
     head: u64,
     used: &mut u64,
@@ -98,7 +103,7 @@ pub extern "C" fn reelbook_fill(
 #[no_mangle]
 pub extern "C" fn reelbook_commit(
     image: &[u64],
-    heads: &mut [u64; 10],
+    heads: &mut [u64; HEAD_WORDS],
     script: &mut [u64],
     head: u64,
     used: &mut u64,
@@ -113,7 +118,7 @@ pub extern "C" fn reelbook_commit(
 #[no_mangle]
 pub extern "C" fn reelbook_abandon(
     image: &[u64],
-    heads: &mut [u64; 10],
+    heads: &mut [u64; HEAD_WORDS],
     script: &mut [u64],
     head: u64,
     used: &mut u64,
@@ -128,7 +133,7 @@ pub extern "C" fn reelbook_abandon(
 #[no_mangle]
 pub extern "C" fn reelbook_remove(
     image: &[u64],
-    heads: &[u64; 10],
+    heads: &[u64; HEAD_WORDS],
     script: &mut [u64],
     reel: u64,
     frame: u64,
@@ -169,7 +174,7 @@ pub extern "C" fn reelbook_list(
 pub extern "C" fn reelbook_retire(
     image: &[u64],
     map: &mut [u64],
-    heads: &[u64; 10],
+    heads: &[u64; HEAD_WORDS],
     scratch: &mut [u64],
     script: &mut [u64],
     reel: u64,

@@ -31,6 +31,7 @@ use Rattle.book.specs.Fixed.{FormatWrites, RecoverWrites, Right, OpenTak
 use Rattle.book.proofs.Refusals.{Denies, denied, passes, refused-later}
 use Rattle.book.proofs.Performed.{answer-is, work-granted}
 use Rattle.book.proofs.Crashed.{torn-whole}
+use Rattle.book.proofs.Stores.{claims, fills, commits, abandons, removes, retires, asks}
 use Rattle.book.proofs.Formatted.{header-stored, root-stored, unread-stored, format-avoids, written, granted-format}
 use Rattle.book.proofs.Recovery.{nodes-reached, corrects-stored, stored-once, now-equal, granted-recover, recover-refusals}
 
@@ -79,6 +80,10 @@ unsound words s r =
       | inl e ↦ rw e (λ q. absurd (omega arith), λ n. absurd (n (l .0 e)))
       | inr e ↦ rw e (λ q a. true-not-false (l .1 a) e, λ n. refl)
     ])
+
+sound : (words : ℕ) (s : State) → Right words s → Sound (ruleOf (memory s)) (shape s) (memory s) → perform (recover words) s .answer ≡ 0
+unfolding refusal
+sound words s r a = rw (recover-answer words s r, sound-laws (ruleOf (memory s)) (shape s) (memory s) .image .1 a) refl
 
 -- what an answer says of the image
 record Accepted (s : State) : Type 0 where
@@ -165,4 +170,17 @@ opens words script reel s h =
     }
 
 pub fixed : Fixed
-fixed = record { formats = formats; unsound = unsound; recovers = recovers; opens = opens }
+fixed = record {
+  formats = formats;
+  unsound = unsound;
+  sound = sound;
+  recovers = recovers;
+  opens = opens;
+  claims = claims;
+  fills = fills;
+  commits = commits;
+  abandons = abandons;
+  removes = removes;
+  retires = retires;
+  asks = asks;
+}

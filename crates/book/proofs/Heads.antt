@@ -85,6 +85,13 @@ module _ (ws : List ℕ) (h : ℕ) (x : HeadState) (inside : 5 * h + 5 ≤ lengt
   pub length-with : length (withHead ws h x) ≡ length ws
   length-with = ap length (with-words ws h x) ∙ length-spliced ws (wordsOf x) (5 * h) fits-words
 
+  -- the record's words, and the others
+  pub word-written : (j : ℕ) → j < 5 → reads (withHead ws h x) (5 * h + j) ≡ getD (wordsOf x) j 0
+  word-written j l = ap (λ v. reads v (5 * h + j)) (with-words ws h x) ∙ spliced-in ws (wordsOf x) (5 * h) fits-words j (rw length-words l)
+
+  pub word-stays : (i : ℕ) → (i < 5 * h) ⊎ (5 * h + 5 ≤ i) → reads (withHead ws h x) i ≡ reads ws i
+  word-stays i o = ap (λ v. reads v i) (with-words ws h x) ∙ spliced-out ws (wordsOf x) (5 * h) fits-words i (rw length-words o)
+
   -- a record is read as written, and the others stay
   pub head-written : headAt (withHead ws h x) h ≡ x
   head-written =

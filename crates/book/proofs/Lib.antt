@@ -57,4 +57,5 @@ pub mod Growth
 pub mod Demands
 pub mod Sample
 pub mod Witnesses
+pub mod Stores
 pub mod Fixed

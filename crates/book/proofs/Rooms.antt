@@ -30,16 +30,16 @@ use Rattle.book.specs.Ways.{Full, FullAbove, FullPath}
 
 -- ---- elements of a list by their numbers
 
-of-index : (ns : List ℕ) (i : ℕ) {n : ℕ} → getElem? ns i ≡ some n → List·Memᴰ n ns
+pub of-index : (ns : List ℕ) (i : ℕ) {n : ℕ} → getElem? ns i ≡ some n → List·Memᴰ n ns
 of-index [] i h = none-some h
 of-index (x ∷ ns) zero h = List·Memᴰ·head (sym (some-inj h))
 of-index (x ∷ ns) (suc i) h = List·Memᴰ·tail (of-index ns i h)
 
-at-split : (xs ys : List ℕ) (n : ℕ) → getElem? (xs ++ n ∷ ys) (length xs) ≡ some n
+pub at-split : (xs ys : List ℕ) (n : ℕ) → getElem? (xs ++ n ∷ ys) (length xs) ≡ some n
 at-split [] ys n = refl
 at-split (x ∷ xs) ys n = at-split xs ys n
 
-in-front : (xs ys : List ℕ) (i : ℕ) {n : ℕ} → i < length xs → getElem? (xs ++ ys) i ≡ some n → List·Memᴰ n xs
+pub in-front : (xs ys : List ℕ) (i : ℕ) {n : ℕ} → i < length xs → getElem? (xs ++ ys) i ≡ some n → List·Memᴰ n xs
 in-front [] ys i l h = absurd (omega arith)
 in-front (x ∷ xs) ys zero l h = List·Memᴰ·head (sym (some-inj h))
 in-front (x ∷ xs) ys (suc i) l h = List·Memᴰ·tail (in-front xs ys i (omega arith) h)

@@ -71,7 +71,7 @@ retire-table : (t : Table) (words scratch script reel : ℕ)
 unfolding tableWork
 retire-table t words scratch script reel = refl
 
-tree-nodes : {g : Geometry} {m : Memory} {s : ℕ} → Filled g m s → (n : ℕ) → List·Memᴰ n (nodesOf (tree g m s)) ↔ ((w : List ℕ) × Reaches g m s w n)
+pub tree-nodes : {g : Geometry} {m : Memory} {s : ℕ} → Filled g m s → (n : ℕ) → List·Memᴰ n (nodesOf (tree g m s)) ↔ ((w : List ℕ) × Reaches g m s w n)
 unfolding nodesOf
 tree-nodes {g} {m} {s} b n = (
   λ x.

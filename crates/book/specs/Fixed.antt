@@ -14,10 +14,11 @@ use Rattle.tree.specs.Fingerprint.{ruleOf}
 use Rattle.tree.specs.Sound.{Sound}
 use Rattle.tree.specs.Pool.{used, mark, clearMap}
 use Rattle.book.specs.Heads.{headCount}
-use Rattle.book.specs.State.{State, format, recover, openReel, memory, shape}
+use Rattle.book.specs.State.{State, format, recover, openReel, claim, fill, commit, abandon, remove, retire, query, has, memory, shape}
 use Rattle.tree.specs.Recovery.{recoverStores}
 use Rattle.book.specs.Perform.{perform}
 use Rattle.book.specs.Agrees.{Reached}
+use Rattle.book.specs.Stores.{ClaimWrites, FillStores, CommitStores, AbandonStores, RemoveStores, RetireStores, HasSays}
 
 -- ---- Format
 
@@ -103,5 +104,20 @@ pub record Fixed : Type 0 where
   -- Recover is refused 4 exactly if the image is not sound
   pub unsound : (words : ℕ) (s : State) → Right words s
       → (perform (recover words) s .answer ≡ 4) ↔ (Sound (ruleOf (memory s)) (shape s) (memory s) → ⊥)
+  -- and answered where it is
+  pub sound : (words : ℕ) (s : State) → Right words s → Sound (ruleOf (memory s)) (shape s) (memory s) → perform (recover words) s .answer ≡ 0
   pub recovers : (words : ℕ) (s : State) → perform (recover words) s .answer ≡ 0 → RecoverWrites s (perform (recover words) s .work .after)
   pub opens : (words script reel : ℕ) (s : State) → perform (openReel words script reel) s .answer ≡ 0 → OpenTakes words script reel s
+  -- the other operations; the driver's heads are as many words as their records have
+  pub claims : (words script h reel f : ℕ) (s : State) → length (s .heads) ≡ 5 * headCount → perform (claim words script h reel f) s .answer ≡ 0
+      → ClaimWrites (claim words script h reel f) s h reel f
+  pub fills : (script h : ℕ) (s : State) → length (s .heads) ≡ 5 * headCount → perform (fill script h) s .answer ≡ 0 → FillStores (fill script h) s h
+  pub commits : (script h : ℕ) (s : State) → length (s .heads) ≡ 5 * headCount → perform (commit script h) s .answer ≡ 0
+      → CommitStores (commit script h) s h
+  pub abandons : (script h : ℕ) (s : State) → length (s .heads) ≡ 5 * headCount → perform (abandon script h) s .answer ≡ 0
+      → AbandonStores (abandon script h) s h
+  pub removes : (script reel f : ℕ) (s : State) → perform (remove script reel f) s .answer ≡ 0 → RemoveStores (remove script reel f) s reel f
+  pub retires : (words scratch script reel : ℕ) (s : State) → perform (retire words scratch script reel) s .answer ≡ 0
+      → RetireStores (retire words scratch script reel) s reel
+  pub asks : (reel f : ℕ) (s : State) → perform (query (has reel f)) s .answer ≡ 0
+      → HasSays s reel f (perform (query (has reel f)) s .work .handed .value)

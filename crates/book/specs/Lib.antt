@@ -10,6 +10,7 @@ pub mod Histories
 pub mod Ways
 pub mod Demands
 pub mod Growth
+pub mod Stores
 pub mod Starred
 pub mod Witnesses
 pub mod Fixed

@@ -6,19 +6,25 @@ use mathlib.Core.List.{List, []}
 use Prim.Native.Nat.{ℕ}
 use native.Mathlib.Decide.{ℕ-discrete}
 use lib.ListN.{length}
+use lib.Dec.{eqb}
 use Rattle.tree.specs.Memory.{decode, segmented, apply}
-use Rattle.tree.proofs.Cases.{some-inj}
+use Rattle.tree.specs.Pool.{clearMap}
+use Rattle.tree.proofs.Cases.{some-inj, test}
+use Rattle.tree.proofs.Laws.{pool-laws}
+use Rattle.book.specs.Refusals.{refusal}
 use Rattle.book.specs.State.{State, Operation, format, recover}
-use Rattle.book.specs.Perform.{perform}
+use Rattle.book.specs.Checks.{refusals}
+use Rattle.book.specs.Perform.{granted, leaves, perform}
 use Rattle.book.specs.Table.{Table}
-use Rattle.book.specs.Histories.{done, replied, Steady, answered-format, Interrupted, Attempts, Recovered, Follows, before, after}
+use Rattle.book.specs.Histories.{carriedOut, done, replied, Steady, answered-format, Interrupted, Attempts, Recovered, Follows, before, after}
 use Rattle.book.specs.Histories.{none-yet as no-attempt, refused as refused-attempt, interrupted as interrupted-attempt}
-use Rattle.book.proofs.Demands.{demand1, demand3}
+use Rattle.book.proofs.Demands.{demand1, demand2, demand3, placed, growth}
+use Rattle.book.proofs.Performed.{work-granted}
 use Rattle.book.proofs.Done.{refused-image}
 use Rattle.book.proofs.Recovery.{recover-writes}
 use Rattle.operations.specs.Ends.{Buffers, noBuffers, state, Ends, ends}
 use Rattle.operations.specs.Chain.{counted, wordsIn, Fits, OtherBuffer, another-length, to-format, Called, with-its-map, with-another}
-use Rattle.operations.specs.Driver.{CutShort, Retries, none-yet, refused, cut-short, Recovers, Whole, as-before, as-after, Driven, formats, calls, loses-power, Survives, Stands, Driver}
+use Rattle.operations.specs.Driver.{CutShort, RecoverEnds, Retries, none-yet, refused, cut-short, Recovers, Whole, as-before, as-after, Driven, formats, calls, loses-power, Survives, Stands, Driver}
 use Rattle.operations.proofs.Chain.{nothing-over, answer-ends, after-ends, one-to-three, sent-back, chain}
 
 -- ---- power lost
@@ -157,10 +163,110 @@ follows (formats words slots nodes s b e fit q h) = chain .starts words slots no
 follows (calls {s} {t} d op b e fit c) = chain .goes-on op s t b e (follows d) fit c .follows
 follows (loses-power d op b e fit call k c r w) = whole-follows (follows d) fit call c r w
 
-pub driver : Driver
-driver s t d = let f = follows d in record {
+stands : (s : State) (t : Table) → Driven s t → Stands s t
+stands s t d = let f = follows d in record {
   follows = f;
   agrees = demand3 s t f .agrees;
   goes-on = λ op b e fit c. chain .goes-on op s t b e f fit c;
+  alike = λ op fit. demand2 .alike s t f op fit;
+  places = placed s t f;
+  growing = growth s t f;
   survives = λ op b e fit call k m c. survives f fit call c;
+}
+
+-- ---- not too small
+
+-- a history's crash is one of the driver's cuts
+interrupted-cut : {op : Operation} {s : State} {e : Ends} {k : ℕ} {m : List ℕ} → Performs op s e → Interrupted op s k m → CutShort op s e k m
+interrupted-cut {op} {s} p c = record {
+  unsteady = λ x. c .unsteady (rw (← p .answer) x);
+  itself = c .itself;
+  same-length = c .same-length;
+  old-or-new = rw (← p .image) at (c .old-or-new);
+  entries = segmented (perform op s .work .script);
+  decoded = p .entries;
+  cut = c .script;
+}
+
+-- a recovery reads no map: one of the length that it was lent does as well
+module _ (words : ℕ) (s : State) where
+  abbrev lent : State
+  lent = state (s .image) (clearMap words) (s .heads)
+
+  length-lent : length (lent .pool) ≡ words
+  length-lent = pool-laws .length-clear words
+
+  same-answer : perform (recover words) lent .answer ≡ perform (recover words) s .answer
+  unfolding perform refusals
+  same-answer = refl
+
+  same-image : perform (recover words) lent .work .after .image ≡ perform (recover words) s .work .after .image
+  unfolding perform refusals granted leaves
+  same-image = elim (test (eqb (refusal (refusals (recover words) s)) 0)) [
+    | inl a ↦ rw a refl
+    | inr a ↦ elim (test (eqb (refusal (refusals (recover words) s)) 4)) [ inl b ↦ rw (a, b) refl | inr b ↦ rw (a, b) refl ]
+  ]
+
+  same-granted : granted (recover words) lent ≡ granted (recover words) s
+  unfolding granted
+  same-granted = refl
+
+  same-done : perform (recover words) s .answer ≡ 0 → done (recover words) lent ≡ done (recover words) s
+  same-done h = ap carriedOut (work-granted (recover words) lent (same-answer ∙ h) ∙ same-granted ∙ sym (work-granted (recover words) s h))
+
+  -- the image that the call leaves is the one that the history goes on with
+  lent-image : ends (recover words) lent noBuffers .after .image ≡ done (recover words) s .image
+  unfolding segmented apply
+  lent-image =
+      ap (λ (x : State). x .image) (after-ends (recover words) lent noBuffers) ∙ same-image ∙ rw (recover-writes words s .script) refl
+
+  lent-interrupted : {k : ℕ} {m : List ℕ} → Interrupted (recover words) s k m → Interrupted (recover words) lent k m
+  lent-interrupted c = record {
+    unsteady = λ x. elim x [ ];
+    itself = c .itself;
+    same-length = c .same-length;
+    old-or-new = rw same-image (c .old-or-new);
+    script = rw (recover-writes words lent .script, ← recover-writes words s .script) (c .script);
+  }
+
+  -- what the contract says of that call
+  lent-contract : RecoverEnds (s .image) (clearMap words) (s .heads) (ends (recover words) lent noBuffers)
+  lent-contract = rw length-lent refl
+
+attempts-retries : {m m' : List ℕ} → Attempts m m' → Retries m m'
+attempts-retries no-attempt = none-yet
+attempts-retries (refused-attempt words s q z a) =
+    let e = ends (recover words) (lent words s) noBuffers in
+    let said = answer-ends (recover words) (lent words s) noBuffers ∙ same-answer words s in
+    rw (← q) (refused (clearMap words) (s .heads) e (lent-contract words s) (λ h. z (sym said ∙ h)) (rw (← lent-image words s) at (attempts-retries a)))
+attempts-retries (interrupted-attempt {m' = x} words s k q c a) =
+    let e = ends (recover words) (lent words s) noBuffers in
+    let cut : CutShort (recover (length (clearMap words))) (lent words s) e k x =
+    rw (length-lent words s) (interrupted-cut (recover-performs words (lent words s) noBuffers) (lent-interrupted words s c)) in
+    rw (← q) (cut-short (clearMap words) (s .heads) e (lent-contract words s) k cut (attempts-retries a))
+
+recovered-recovers : {m : List ℕ} {s' : State} → Recovered m s' → Recovers m s'
+recovered-recovers r =
+    let words = r .words in
+    let s = r .from in
+    let e = ends (recover words) (lent words s) noBuffers in
+    record {
+      image = s .image;
+      retries = rw (r .image) (attempts-retries (r .attempts));
+      map = clearMap words;
+      heads = s .heads;
+      e = e;
+      contract = lent-contract words s;
+      answered = answer-ends (recover words) (lent words s) noBuffers ∙ same-answer words s ∙ r .answered;
+      is = r .is ∙ sym (same-done words s (r .answered)) ∙ sym (recover-after words (lent words s) noBuffers);
+    }
+
+pub driver : Driver
+driver = record {
+  stands = stands;
+  all-met = record {
+    cuts = λ op s b e k m fit q c. interrupted-cut (rw q (performs op s b fit)) c;
+    retries = λ m m' a. attempts-retries a;
+    recovers = λ m s' r. recovered-recovers r;
+  };
 }

@@ -8,12 +8,14 @@ use mathlib.Core.List.{List}
 use Prim.Native.Nat.{ℕ}
 use lib.ListN.{length}
 use lib.Dec.{eqb}
-use Rattle.tree.specs.Memory.{reads, Entry, decode, CrashImage, passed}
+use Rattle.tree.specs.Memory.{reads, Entry, decode, CrashImage, passed, Fit}
 use Rattle.tree.specs.Layout.{mapWords, geometryOf}
-use Rattle.book.specs.State.{State, Operation, format, recover}
+use Rattle.book.specs.State.{State, Operation, format, recover, arguments}
 use Rattle.book.specs.Table.{Table, emptyTable, allIdle}
 use Rattle.book.specs.Agrees.{Agrees}
-use Rattle.book.specs.Histories.{replied, Steady, Follows}
+use Rattle.book.specs.Histories.{replied, Steady, Interrupted, Attempts, Recovered, Follows}
+use Rattle.book.specs.Demands.{Alike, Places}
+use Rattle.book.specs.Growth.{Growing}
 use Rattle.operations.specs.Ends.{Buffers, noBuffers, state, Ends, ends}
 use Rattle.operations.specs.Chain.{counted, wordsIn, next, Fits, Called, afterCall, GoesOn}
 
@@ -90,11 +92,26 @@ pub record Stands (s : State) (t : Table) : Type 0 where
   pub agrees : Agrees s t
   -- whatever it calls next, it is told what the table replies
   pub goes-on : (op : Operation) (b : Buffers) (e : Ends) → Fits op s → (c : Called op s b e) → GoesOn op s t e (afterCall c)
+  -- book and table answer every operation alike, an 8 exactly where nodes lack; frames sit where the tree's rule puts them; and nodes come
+  -- and go by that rule
+  pub alike : (op : Operation) → Fit (arguments op) → Alike op s t
+  pub places : Places s
+  pub growing : Growing s
   -- and if it loses power in that, anywhere, recover comes to answer 0
   pub survives : (op : Operation) (b : Buffers) (e : Ends) → Fits op s → Called op s b e → (k : ℕ) (m : List ℕ) (c : CutShort op s e k m)
       → Survives op s t e k m c
 
+-- ---- not too small
+
+-- whatever the histories of the demands have, a driver can meet: each crash, each recovery refused or cut short, each that ends
+pub record AllMet : Type 0 where
+  pub cuts : (op : Operation) (s : State) (b : Buffers) (e : Ends) (k : ℕ) (m : List ℕ) → Fits op s → e ≡ ends op s b → Interrupted op s k m
+      → CutShort op s e k m
+  pub retries : (m m' : List ℕ) → Attempts m m' → Retries m m'
+  pub recovers : (m : List ℕ) (s' : State) → Recovered m s' → Recovers m s'
+
 -- a driver that calls the exported functions, carries out the words that it was handed, loses power anywhere, and then calls recover
 -- until this answers 0, stands with its table, wherever it has come to
-abbrev pub Driver : Type 0
-Driver = (s : State) (t : Table) → Driven s t → Stands s t
+pub record Driver : Type 0 where
+  pub stands : (s : State) (t : Table) → Driven s t → Stands s t
+  pub all-met : AllMet

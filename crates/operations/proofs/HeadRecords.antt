@@ -6,8 +6,8 @@ use Prim.Native.Nat.{ℕ, zero, suc, _<_}
 use native.Mathlib.Omega.{arith}
 use lib.Dec.{ltb}
 use borrow.Author.Tests.{le-ltb}
-use Rattle.memory.specs.Laws.{NoneBelow}
-use Rattle.memory.proofs.Laws.{first-laws}
+use Rattle.tree.specs.Memory.{NoneBelow}
+use Rattle.tree.proofs.Memory.{first-laws}
 use Rattle.tree.specs.Lists.{range, upTo}
 use Rattle.book.specs.declared.Head.{Head}
 use Rattle.book.specs.Heads.{headCount, headAt, names, busy}

@@ -1,19 +1,17 @@
-use Rattle.memory.specs.Script.{stores, segmented}
+use Rattle.operations.proofs.ScriptWords.{fenced-written}
 use borrow.Author.Needs.{needs}
 use Rattle.operations.proofs.targets.put_bit.Statement.{statement}
 use Rattle.operations.proofs.targets.put_bit.Tie as tie
 
 returns : tie.Need-returns
-unfolding stores segmented
 returns c =
     let bit = c .before .before .before in
-    rw (bit .before .before .before .if1 .taken, ← bit .with-bit .ensures) (c .before .before .put-fenced .ensures)
+    rw (bit .before .before .before .if1 .taken, ← bit .with-bit .ensures) (fenced-written _ _ _ (c .before .before .put-fenced .ensures))
 
 returns-2 : tie.Need-returns-2
-unfolding stores segmented
 returns-2 c =
     let bit = c .before .before .before in
-    rw (bit .before .before .before .if1 .left, ← bit .without-bit .ensures) (c .before .before .put-fenced2 .ensures)
+    rw (bit .before .before .before .if1 .left, ← bit .without-bit .ensures) (fenced-written _ _ _ (c .before .before .put-fenced2 .ensures))
 
 pub put-bit-spec : {M : Type 1} → statement M
 put-bit-spec =

@@ -10,7 +10,7 @@ use lib.Dec.{eqb}
 use Rattle.tree.specs.Memory.{reads, segmented, apply, CrashImage, passed, Fit}
 use Rattle.tree.specs.declared.layout.Geometry.{Geometry}
 use Rattle.tree.specs.Layout.{mapWords, geometryOf}
-use Rattle.tree.proofs.Memory.{crash-laws}
+use Rattle.tree.proofs.Memory.{crash-laws, crash-none, passed-or}
 use Rattle.book.specs.State.{State, Operation, format, recover, openReel, claim, fill, commit, abandon, remove, retire, query, Query, arguments}
 use Rattle.book.specs.Perform.{granted, perform}
 use Rattle.book.specs.Table.{Table, Reel, geometry, fed, tableWork, emptyTable, allIdle}
@@ -18,7 +18,6 @@ use Rattle.book.specs.Agrees.{Shows, Agrees}
 use Rattle.book.specs.Histories.{carriedOut, done, replied, answered-format, Interrupted, Attempts, Recovered, Follows, formatted, started, performed, before, after}
 use Rattle.book.specs.Demands.{Demand2, Survives, Demand3}
 use Rattle.book.proofs.Performed.{work-granted, reply-granted, reply-refused}
-use Rattle.book.proofs.StoreLists.{crash-none, passed-or}
 use Rattle.book.proofs.Demand1.{demand1}
 use Rattle.book.proofs.Done.{done-granted, refused-image, done-same}
 use Rattle.book.proofs.View.{View}

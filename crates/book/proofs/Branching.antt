@@ -16,6 +16,7 @@ use Rattle.tree.specs.Same.{Same, SameWords, Stores}
 use Rattle.tree.specs.Changes.{Fresh, Links, NewChild, Grown}
 use Rattle.tree.proofs.Lists.{in-range, range-has}
 use Rattle.tree.proofs.Laws.{child-laws, node-laws, same-laws, change-laws}
+use Rattle.tree.proofs.Memory.{torn-whole}
 use Rattle.book.specs.Perform.{group}
 use Rattle.book.specs.Table.{Reel}
 use Rattle.book.specs.Agrees.{Reached}
@@ -26,7 +27,6 @@ use Rattle.book.proofs.Stored.{stores-set, header-set, few-nodes}
 use Rattle.book.proofs.Reels.{node-slots}
 use Rattle.book.proofs.Views.{view-linked}
 use Rattle.book.proofs.Sames.{reached-inside}
-use Rattle.book.proofs.Crashed.{torn-whole}
 use Rattle.book.proofs.Still.{Still, still-on}
 use Rattle.book.proofs.NewNodes.{newNodes, Made, made, either, words-torn, same-torn, still-torn}
 use Rattle.book.proofs.SameNodes.{links-nodes}

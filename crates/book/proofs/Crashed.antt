@@ -1,15 +1,16 @@
 -- Images that a crash leaves of a script's segments.
-use mathlib.Core.Path.{_≡_, refl, sym, _∙_, ap, ap₂}
+use mathlib.Core.Path.{_≡_, sym, _∙_, ap}
 use mathlib.Core.Logic.{_⊎_, inl, inr, _≢_}
-use mathlib.Core.List.{List, [], _∷_, map, List·Memᴰ, List·Memᴰ·head, List·Memᴰ·tail, List·Memᴰ·eq-of-singleton}
+use mathlib.Core.List.{List, [], _∷_, map, List·Memᴰ, List·Memᴰ·eq-of-singleton}
 use Prim.Native.Nat.{ℕ, _^_, _≤_, _<_}
 use native.Mathlib.Omega.{arith}
-use native.Mathlib.Decide.{ℕ-discrete, decLt}
-use lib.ListN.{length, set, length-set}
-use lib.Seq.{getD-set-same, getD-set-other, set-out, ext-getD}
+use native.Mathlib.Decide.{ℕ-discrete}
+use lib.ListN.{set, length-set}
+use lib.Seq.{getD-set-same, getD-set-other, ext-getD}
 use Rattle.tree.specs.Memory.{Memory, reads, Store, stores, apply, Torn, FallsIn, after-all, here, later}
 use Rattle.tree.specs.declared.layout.Geometry.{Geometry}
 use Rattle.tree.specs.Layout.{editionAt, slotsAt, nodesAt}
+use Rattle.tree.proofs.Memory.{segment-laws}
 use Rattle.book.specs.Table.{Reel}
 use Rattle.book.proofs.View.{Header, View}
 use Rattle.book.proofs.Stored.{header-same}
@@ -34,8 +35,7 @@ torn-one {im} {im'} {i} {v} t = elim (t .each i) [
     beside j e = elim (t .each j) [ inl q ↦ q | inr x ↦ absurd (e (this-store x .0)) ]
 
 pub apply-one : (im : List ℕ) (i v : ℕ) → apply im (stores ((i, v) ∷ [])) ≡ set im i v
-unfolding apply stores
-apply-one im i v = refl
+apply-one im i v = segment-laws .apply-stores im ((i, v) ∷ [])
 
 -- ---- scripts
 
@@ -62,24 +62,6 @@ through-each P im (s ∷ ss) h a = (
 )
 
 -- ---- a segment of any stores
-
--- carried out whole is one way to be torn
-pub torn-whole : (im : List ℕ) (seg : List Store) → Torn im seg (apply im (stores seg))
-unfolding apply stores
-torn-whole im [] = record { same-length = refl; each = λ j. inl refl }
-torn-whole im ((i, v) ∷ seg) = let t = torn-whole (set im i v) seg in record {
-  same-length = t .same-length ∙ length-set im i v;
-  each = λ j. elim (t .each j) [
-    | inr x ↦ inr (List·Memᴰ·tail x)
-    | inl q ↦ elim (ℕ-discrete j i) [
-      | no e ↦ inl (q ∙ getD-set-other im i j v 0 e)
-      | yes e ↦ elim (decLt i (length im)) [
-        | no l ↦ inl (q ∙ ap (λ m. reads m j) (set-out im i v (omega arith)))
-        | yes l ↦ inr (List·Memᴰ·head (ap₂ (λ a b. (a, b)) e (q ∙ ap (λ k. reads (set im i v) k) e ∙ getD-set-same im i v 0 l)))
-      ]
-    ]
-  ];
-}
 
 -- every store of a segment is past the header, and its value a word
 abbrev pub PastHeader : List Store → Type 0

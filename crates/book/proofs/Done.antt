@@ -3,13 +3,13 @@ use mathlib.Core.Path.{_≡_, refl, _∙_, ap}
 use mathlib.Core.Logic.{_≢_}
 use Prim.Native.Nat.{ℕ}
 use Rattle.tree.specs.Memory.{segmented, apply}
+use Rattle.tree.proofs.Memory.{apply-none}
 use Rattle.book.specs.State.{State, Operation, leaving}
 use Rattle.book.specs.Perform.{granted, perform}
 use Rattle.book.specs.Histories.{carriedOut, done}
 use Rattle.book.specs.Demands.{Leaves, as-before, map-cleared}
 use Rattle.book.proofs.Performed.{work-granted}
 use Rattle.book.proofs.Demand1.{demand1}
-use Rattle.book.proofs.StoreLists.{apply-none}
 
 -- work that only leaves a state
 pub carried-leaving : (s : State) → carriedOut (leaving s) ≡ s

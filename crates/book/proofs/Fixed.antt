@@ -20,6 +20,7 @@ use Rattle.tree.specs.Check.{isSound}
 use Rattle.tree.specs.Subtree.{allTrees}
 use Rattle.tree.proofs.Cases.{test, true-not-false}
 use Rattle.tree.proofs.Laws.{slot-laws, sound-laws, run-laws, node-laws, pool-laws}
+use Rattle.tree.proofs.Memory.{torn-whole}
 use Rattle.book.specs.Refusals.{_gives_, refusal}
 use Rattle.book.specs.State.{State, format, recover, openReel, memory, shape}
 use Rattle.book.specs.Checks.{badMap, refusals}
@@ -30,7 +31,6 @@ use Rattle.book.specs.Agrees.{Reached}
 use Rattle.book.specs.Fixed.{FormatWrites, RecoverWrites, Right, OpenTakes, Fixed}
 use Rattle.book.proofs.Refusals.{Denies, denied, passes, refused-later}
 use Rattle.book.proofs.Performed.{answer-is, work-granted}
-use Rattle.book.proofs.Crashed.{torn-whole}
 use Rattle.book.proofs.Stores.{claims, fills, commits, abandons, removes, retires, asks}
 use Rattle.book.proofs.Formatted.{header-stored, root-stored, unread-stored, format-avoids, written, granted-format}
 use Rattle.book.proofs.Recovery.{nodes-reached, corrects-stored, stored-once, now-equal, granted-recover, recover-refusals}

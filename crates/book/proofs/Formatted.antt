@@ -17,7 +17,7 @@ use Rattle.tree.specs.Reach.{Reaches}
 use Rattle.tree.specs.Pool.{clearMap}
 use Rattle.tree.proofs.Cases.{true-not-false}
 use Rattle.tree.proofs.Lists.{in-range, range-has, upTo-members}
-use Rattle.tree.proofs.Memory.{apply-laws, settles}
+use Rattle.tree.proofs.Memory.{apply-laws, settles, torn-whole}
 use Rattle.tree.proofs.Pool.{pool-laws}
 use Rattle.tree.proofs.Laws.{reach-laws, sound-laws}
 use Rattle.book.specs.Heads.{idleHeads}
@@ -32,7 +32,6 @@ use Rattle.book.proofs.Refusals.{passes, passed-all}
 use Rattle.book.proofs.Performed.{answer-is}
 use Rattle.book.proofs.Done.{carried-leaving, done-granted}
 use Rattle.book.proofs.View.{Header, View}
-use Rattle.book.proofs.Crashed.{torn-whole}
 use Rattle.book.proofs.Settled.{idleTable, Settled, agrees-settled}
 
 -- ---- its stores

@@ -12,7 +12,7 @@ use Rattle.tree.specs.Path.{wayOf}
 use Rattle.tree.specs.Fingerprint.{ruleOf}
 use Rattle.tree.specs.Slots.{slotOf}
 use Rattle.tree.specs.Lookup.{find}
-use Rattle.tree.proofs.Memory.{crash-laws}
+use Rattle.tree.proofs.Memory.{crash-laws, crash-none, passed-or}
 use Rattle.tree.proofs.Cases.{true-not-false}
 use Rattle.tree.proofs.Reach.{slot-filled, one-node}
 use Rattle.book.specs.Heads.{headAt, targetOf}
@@ -25,7 +25,6 @@ use Rattle.book.specs.Histories.{done, answered-format, Interrupted, Rec
 use Rattle.book.specs.Growth.{shapeIn, ReachesIn, sizeIn, SameNodes, ClaimGrows, finds-clear, scales-up, branches-out, Grows, Growth}
 use Rattle.book.proofs.Refusals.{passes}
 use Rattle.book.proofs.Performed.{answer-is, work-granted}
-use Rattle.book.proofs.StoreLists.{crash-none, passed-or}
 use Rattle.book.proofs.Demand1.{demand1}
 use Rattle.book.proofs.Done.{done-granted, refused-image, done-image}
 use Rattle.book.proofs.Rooms.{root-way, way-ends}

@@ -27,7 +27,6 @@ pub mod Writes
 pub mod Scripts
 pub mod Paired
 pub mod Alike
-pub mod StoreLists
 pub mod Done
 pub mod Settled
 pub mod Mended

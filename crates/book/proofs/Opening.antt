@@ -6,13 +6,13 @@ use Prim.Native.Nat.{ℕ, _+_, _^_, _≤_, _<_}
 use native.Mathlib.Omega.{arith}
 use lib.ListN.{length, set, length-set}
 use lib.Seq.{getD-set-same, getD-set-other}
-use Rattle.tree.specs.Memory.{reads, Store, stores, segmented, apply}
+use Rattle.tree.specs.Memory.{reads, Store, stores, segmented, apply, setAll}
 use Rattle.tree.specs.declared.layout.Geometry.{Geometry}
 use Rattle.tree.specs.Layout.{reelAt, rootAt, nodeAt}
 use Rattle.tree.specs.Slots.{Filled, slotOf, emptySlot}
 use Rattle.tree.specs.Lookup.{freeRun}
 use Rattle.tree.specs.Pool.{mark}
-use Rattle.tree.proofs.Memory.{apply-laws}
+use Rattle.tree.proofs.Memory.{segment-laws, apply-first, apply-single}
 use Rattle.tree.proofs.Laws.{slot-laws}
 use Rattle.book.specs.State.{State, openReel}
 use Rattle.book.specs.Checks.{refusals}
@@ -46,24 +46,25 @@ abbrev pub Apart : List Store → Type 0
 Apart [] = Unit {0}
 Apart (x ∷ seg) = Each (λ y. y .0 ≢ x .0) seg × Apart seg
 
-not-stored : (seg : List Store) (im : List ℕ) (i : ℕ) → Each (λ y. y .0 ≢ i) seg → reads (apply im (stores seg)) i ≡ reads im i
-unfolding apply stores
+not-stored : (seg : List Store) (im : List ℕ) (i : ℕ) → Each (λ y. y .0 ≢ i) seg → reads (setAll im seg) i ≡ reads im i
 not-stored [] im i h = refl
 not-stored ((j, v) ∷ seg) im i h = not-stored seg (set im j v) i (h .1) ∙ getD-set-other im j i v 0 (λ q. h .0 (sym q))
+
+set-each : (seg : List Store) (im : List ℕ) (k : ℕ) → length im ≡ k → Each (λ y. y .0 < k) seg → Apart seg
+    → Each (λ y. reads (setAll im seg) (y .0) ≡ y .1) seg
+set-each [] im k e h a = tt
+set-each ((j, v) ∷ seg) im k e h a = (
+  not-stored seg (set im j v) j (a .0) ∙ getD-set-same im j v 0 (rw e (h .0)),
+  set-each seg (set im j v) k (length-set im j v ∙ e) (h .1) (a .1),
+)
 
 -- carried out, each word has its value
 pub stored-each : (seg : List Store) (im : List ℕ) (k : ℕ) → length im ≡ k → Each (λ y. y .0 < k) seg → Apart seg
     → Each (λ y. reads (apply im (stores seg)) (y .0) ≡ y .1) seg
-unfolding apply stores
-stored-each [] im k e h a = tt
-stored-each ((j, v) ∷ seg) im k e h a = (
-  not-stored seg (set im j v) j (a .0) ∙ getD-set-same im j v 0 (rw e (h .0)),
-  stored-each seg (set im j v) k (length-set im j v ∙ e) (h .1) (a .1),
-)
+stored-each seg im k e h a = subst (λ im'. Each (λ y. reads im' (y .0) ≡ y .1) seg) (sym (segment-laws .apply-stores im seg)) (set-each seg im k e h a)
 
 pub two-segments : (im : List ℕ) (seg : List Store) (i v : ℕ) → apply im (segmented (seg ∷ ((i, v) ∷ []) ∷ [])) ≡ set (apply im (stores seg)) i v
-unfolding apply segmented stores
-two-segments im seg i v = apply-laws .in-turn im (stores seg) _
+two-segments im seg i v = apply-first im seg (((i, v) ∷ []) ∷ []) ∙ apply-single (apply im (stores seg)) ((i, v) ∷ [])
 
 -- ---- what an opening does
 

@@ -9,7 +9,7 @@ use lib.Seq.{take-length}
 use Rattle.tree.specs.Memory.{reads, segmented, apply, CrashImage, Fit}
 use Rattle.tree.specs.Layout.{slotsAt, nodesAt, geometryOf, reelAt}
 use Rattle.tree.specs.Reach.{Reaches, Holds}
-use Rattle.tree.proofs.Memory.{crash-laws}
+use Rattle.tree.proofs.Memory.{crash-laws, apply-none, crash-none}
 use Rattle.tree.proofs.Reach.{slot-filled}
 use Rattle.tree.proofs.Laws.{same-laws}
 use Rattle.book.specs.State.{State, Operation, recover, claim, arguments}
@@ -19,7 +19,6 @@ use Rattle.book.specs.Agrees.{Agrees}
 use Rattle.book.specs.Histories.{done, answered-format, Interrupted, Attempts, none-yet, refused, interrupted, Recovered, Next, performed, crashed}
 use Rattle.book.specs.Demands.{ClaimPlaced, Placed}
 use Rattle.book.proofs.Performed.{work-granted}
-use Rattle.book.proofs.StoreLists.{apply-none, crash-none}
 use Rattle.book.proofs.Demand1.{demand1}
 use Rattle.book.proofs.Done.{done-granted, refused-image, done-image}
 use Rattle.book.proofs.View.{View}

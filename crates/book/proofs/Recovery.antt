@@ -27,7 +27,7 @@ use Rattle.tree.proofs.Lists.{within, together, keeps}
 use Rattle.tree.proofs.Lists as Lists
 use Rattle.tree.proofs.Distinct.{distinct-by, distinct-keep, distinct-made}
 use Rattle.tree.proofs.Trees.{distinct-trees}
-use Rattle.tree.proofs.Memory.{apply-laws, settles}
+use Rattle.tree.proofs.Memory.{apply-laws, settles, torn-whole, crash-none}
 use Rattle.tree.proofs.Pool.{pool-laws}
 use Rattle.tree.proofs.Laws.{slot-laws, tree-laws, reach-laws, sound-laws, node-laws}
 use Rattle.book.specs.Heads.{idleHeads}
@@ -46,8 +46,6 @@ use Rattle.book.proofs.Performed.{answer-is, work-granted}
 use Rattle.book.proofs.Demand1.{demand1}
 use Rattle.book.proofs.Done.{carried-leaving, done-granted, refused-image, done-image}
 use Rattle.book.proofs.View.{Header, View}
-use Rattle.book.proofs.Crashed.{torn-whole}
-use Rattle.book.proofs.StoreLists.{crash-none}
 use Rattle.book.proofs.Mended.{Mends, Mended, kept, mended-reached, mended-view}
 use Rattle.book.proofs.Settled.{idleTable, Settled, agrees-settled}
 

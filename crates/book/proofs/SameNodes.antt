@@ -6,22 +6,20 @@ use Prim.Native.Nat.{ℕ, _+_, _*_, _<_}
 use native.Mathlib.Omega.{arith}
 use lib.ListN.{length, set}
 use lib.Seq.{take-length}
-use Rattle.tree.specs.Memory.{Memory, reads, Store, stores, segmented, apply, CrashImage, Torn}
+use Rattle.tree.specs.Memory.{Memory, reads, Store, stores, segmented, apply, CrashImage, Torn, single}
 use Rattle.tree.specs.declared.layout.Geometry.{Geometry}
 use Rattle.tree.specs.Layout.{slotsAt, nodesAt, geometryOf, rootAt, nodeAt, nextAt, sizeAt}
 use Rattle.tree.specs.Reach.{Reaches}
 use Rattle.tree.specs.Same.{SameLinks}
-use Rattle.tree.proofs.Memory.{crash-laws}
+use Rattle.tree.proofs.Memory.{crash-laws, apply-none, torn-whole, apply-single}
 use Rattle.tree.proofs.Same.{reaches-on, reaches-back}
 use Rattle.book.specs.State.{State, recover}
 use Rattle.book.specs.Perform.{perform}
 use Rattle.book.specs.Histories.{done, Interrupted, Attempts, none-yet, refused, interrupted, Recovered}
 use Rattle.book.specs.Growth.{ReachesIn, SameNodes, Adds, Doubles}
-use Rattle.book.proofs.StoreLists.{apply-none}
 use Rattle.book.proofs.Stored.{same-geometry}
-use Rattle.book.proofs.Crashed.{Through, falls-through, torn-whole}
+use Rattle.book.proofs.Crashed.{Through, falls-through}
 use Rattle.book.proofs.Entries.{Each, each-at}
-use Rattle.book.proofs.Single.{single, apply-single}
 use Rattle.book.proofs.Mended.{Mended, kept, mended-same}
 use Rattle.book.proofs.Recovery.{recover-writes, interrupted-mended}
 

@@ -6,7 +6,8 @@ use Prim.Native.Nat.{ℕ, zero, suc, _+_, _*_, _^_, _<_}
 use native.Mathlib.Omega.{arith}
 use lib.ListN.{replicate}
 use lib.Dec.{eqb}
-use Rattle.tree.specs.Memory.{field, withField, bit, isSet, withBit, byte, withByte, marked, first, stores, segmented, apply, Fit}
+use Rattle.tree.specs.MemoryComputed.{field, withField, bit, isSet, withBit, byte, withByte, marked, first, stores, segmented, apply}
+use Rattle.tree.specs.Memory.{Fit}
 use Rattle.tree.specs.Layout.{badImage, geometryOf}
 use Rattle.tree.specs.Lists.{upTo, range, keep, every, hasKey, distinct}
 use Rattle.tree.specs.Fingerprint.{fingerprint, editionOne, folded, tableEntry, ruleOf}

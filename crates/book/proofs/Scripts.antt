@@ -17,7 +17,7 @@ use Rattle.book.specs.CarryOut.{carry, carried}
 use Rattle.tree.specs.Recovery.{recoverStores}
 use Rattle.book.specs.Perform.{formatStores, granted, perform}
 use Rattle.book.specs.Demands.{WritesImage, by-format, by-recover, GoodScript, Scripts}
-use Rattle.tree.proofs.Memory.{script-laws, apply-laws}
+use Rattle.tree.proofs.Memory.{script-laws, apply-laws, segment-laws, ends-in-barrier, length-segmented}
 use Rattle.book.proofs.Refusals.{Denies, denied, passes, first-passed}
 use Rattle.book.proofs.Performed.{answer-is, work-granted, work-refused}
 use Rattle.book.proofs.Done.{refused-image}
@@ -25,7 +25,7 @@ use Rattle.book.proofs.Stored.{same-geometry}
 use Rattle.book.proofs.Mended.{kept}
 use Rattle.book.proofs.Formatted.{header-stored, geometry-is, blank, written}
 use Rattle.book.proofs.Recovery.{mendedImage, mended-words}
-use Rattle.book.proofs.Entries.{each-entry, ends-in-barrier, length-segmented}
+use Rattle.book.proofs.Entries.{each-entry}
 use Rattle.book.proofs.Inside.{sized, find-inside, path-room, run-inside, target-fits}
 use Rattle.book.proofs.Writes.{Writes, Good, no-stores, good-open, good-retire, good-claim, good-fill, good-commit, good-abandon, good-remove}
 
@@ -123,13 +123,12 @@ unfolding carry
 carries m es d i = rw (denied (badImage (length m) (geometryOf (reads m))) d, script-laws .carried-out m es i)
 
 good-refused : (op : Operation) (s : State) → perform op s .answer ≢ 0 → GoodScript op s
-unfolding segmented
 good-refused op s h = let w = work-refused op s h in record {
   one-way = inr (refused-image op s h);
-  short = rw w (omega arith);
+  short = rw w (omega (arith, length-segmented []));
   ends-in-barrier = ends-in-barrier (perform op s .work .script);
-  inside = λ i v x. absurd (List·Memᴰ·not-nil (rw w at x));
-  fits = λ i v x. absurd (List·Memᴰ·not-nil (rw w at x));
+  inside = λ i v x. absurd (List·Memᴰ·not-nil (rw (w, segment-laws .no-segment) at x));
+  fits = λ i v x. absurd (List·Memᴰ·not-nil (rw (w, segment-laws .no-segment) at x));
   carried-out = λ z. absurd (h z);
 }
 

@@ -1,12 +1,11 @@
 -- Steps whose script stores one word at a time.
-use mathlib.Core.Path.{_≡_, refl, _∙_}
+use mathlib.Core.Path.{_≡_, _∙_}
 use mathlib.Core.Logic.{_⊎_, inl, inr}
-use mathlib.Core.List.{List, [], _∷_, map}
+use mathlib.Core.List.{List}
 use Prim.Native.Nat.{ℕ}
-use lib.ListN.{set}
-use Rattle.tree.specs.Memory.{reads, Store, stores, segmented, apply, CrashImage}
+use Rattle.tree.specs.Memory.{reads, Store, segmented, single, setAll, CrashImage}
 use Rattle.tree.specs.Layout.{geometryOf}
-use Rattle.tree.proofs.Memory.{apply-laws, crash-laws}
+use Rattle.tree.proofs.Memory.{crash-laws, apply-single}
 use Rattle.book.specs.State.{State, Operation}
 use Rattle.book.specs.Perform.{granted, writing}
 use Rattle.book.specs.Table.{Table, tableWork}
@@ -17,24 +16,6 @@ use Rattle.book.proofs.Keeps.{Keeping, keeps-of, keeps-itself}
 use Rattle.book.proofs.Claims.{AgreesBy, agrees-of}
 use Rattle.book.proofs.Showing.{shows-view, view-shows}
 use Rattle.book.proofs.Crashed.{falls-through, AfterEach, through-each}
-
--- segments of one store each, and the image after them
-abbrev pub single : List Store → List (List Store)
-single ss = map (λ s. s ∷ []) ss
-
-abbrev pub setAll : List ℕ → List Store → List ℕ
-setAll im [] = im
-setAll im (s ∷ ss) = setAll (set im (s .0) (s .1)) ss
-
-pub apply-single : (im : List ℕ) (ss : List Store) → apply im (segmented (single ss)) ≡ setAll im ss
-unfolding apply segmented stores
-apply-single im [] = refl
-apply-single im (s ∷ ss) = apply-single (set im (s .0) (s .1)) ss
-
-pub apply-first : (im : List ℕ) (seg : List Store) (segs : List (List Store))
-    → apply im (segmented (seg ∷ segs)) ≡ apply (apply im (stores seg)) (segmented segs)
-unfolding apply segmented
-apply-first im seg segs = apply-laws .in-turn im (stores seg) _
 
 -- agreement in the image's own geometry
 pub agrees-by : {s : State} {t : Table} → Agrees s t → AgreesBy (geometryOf (reads (s .image))) s t

@@ -4,7 +4,7 @@ use mathlib.Core.Bool.{false}
 use mathlib.Core.List.{List, [], _∷_}
 use Prim.Native.Nat.{ℕ, _<_}
 use native.Mathlib.Omega.{arith}
-use Rattle.tree.specs.Memory.{Memory, reads, isSet, withoutBit, Store, Fit}
+use Rattle.tree.specs.Memory.{Memory, reads, isSet, withoutBit, Store, Fit, single, setAll}
 use Rattle.tree.specs.declared.layout.Geometry.{Geometry}
 use Rattle.tree.specs.Layout.{geometryOf, locateAt, setAt}
 use Rattle.tree.specs.Node.{held}
@@ -30,7 +30,7 @@ use Rattle.book.proofs.Showing.{shows-view}
 use Rattle.book.proofs.Keeps.{Within, within-frames, within-keeping}
 use Rattle.book.proofs.OnePlace.{OnePlace, locate-place, locate-within}
 use Rattle.book.proofs.Replaced.{claim-formed, retabled, idled}
-use Rattle.book.proofs.Single.{single, setAll, agrees-by, left-old, agrees-new, step-of}
+use Rattle.book.proofs.Single.{agrees-by, left-old, agrees-new, step-of}
 
 -- ---- what it does
 

@@ -6,7 +6,7 @@ use mathlib.Core.List.{List, [], _∷_, map, List·Memᴰ, Memᴰ·cast}
 use Prim.Native.Nat.{ℕ, suc, _+_, _*_, _%_, _<_}
 use native.Mathlib.Omega.{arith}
 use lib.ListN.{length, set}
-use Rattle.tree.specs.Memory.{Memory, reads, isSet, withBit, byte, Store}
+use Rattle.tree.specs.Memory.{Memory, reads, isSet, withBit, byte, Store, single}
 use Rattle.tree.specs.declared.layout.Geometry.{Geometry}
 use Rattle.tree.specs.Layout.{nextAt, locateAt, setAt, sizeAt, fingerprintsAt, frameAt}
 use Rattle.tree.specs.Path.{fanout, child, wayOf}
@@ -16,7 +16,7 @@ use Rattle.tree.specs.Pool.{used, markAll}
 use Rattle.tree.specs.Changes.{NewChild}
 use Rattle.tree.proofs.Cases.{true-not-false}
 use Rattle.tree.proofs.Lists.{range-has}
-use Rattle.tree.proofs.Memory.{no-bit}
+use Rattle.tree.proofs.Memory.{no-bit, torn-whole, apply-single, apply-first}
 use Rattle.tree.proofs.Laws.{child-laws, pool-laws}
 use Rattle.book.specs.declared.Target.{Target}
 use Rattle.book.specs.declared.HeadState.the-variants.{Claimed}
@@ -31,7 +31,7 @@ use Rattle.book.proofs.View.{View}
 use Rattle.book.proofs.Stored.{stores-set}
 use Rattle.book.proofs.Sames.{reached-inside}
 use Rattle.book.proofs.Showing.{shows-view}
-use Rattle.book.proofs.Crashed.{Through, through-each, torn-whole}
+use Rattle.book.proofs.Crashed.{Through, through-each}
 use Rattle.book.proofs.Reading.{sizesOf, claim-inside}
 use Rattle.book.proofs.Claims.{SameClaim, about-claim}
 use Rattle.book.proofs.Keeps.{within-frames}
@@ -42,7 +42,6 @@ use Rattle.book.proofs.StepClear.{Placed, placed}
 use Rattle.book.proofs.NewNodes.{newNodes}
 use Rattle.book.proofs.Branching.{in-group, madeImage, linkedImage, Branches, still-made, still1, still2, branches, beside-linked, nodes-made, adds}
 use Rattle.book.proofs.SameNodes.{Nodes, nodes-itself, nodes-back, nodes-through, adds-on, quiet-set}
-use Rattle.book.proofs.Single.{single, apply-single, apply-first}
 
 way-more : (d f : ℕ) → wayOf (suc d) f ≡ child d f ∷ wayOf d f
 unfolding wayOf

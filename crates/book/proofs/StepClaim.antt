@@ -7,7 +7,7 @@ use mathlib.Core.List.{List, [], _∷_}
 use Prim.Native.Nat.{ℕ, suc, _+_, _*_, _^_, _≤_, _<_}
 use native.Mathlib.Omega.{arith}
 use borrow.Author.Tests as tests
-use Rattle.tree.specs.Memory.{Memory, reads, withBit, Store, segmented, isSome, Fit, CrashImage}
+use Rattle.tree.specs.Memory.{Memory, reads, withBit, Store, segmented, isSome, Fit, CrashImage, single}
 use Rattle.tree.specs.declared.layout.Geometry.{Geometry}
 use Rattle.tree.specs.Layout.{nextAt, locateAt, sizeAt}
 use Rattle.tree.specs.Path.{fanout, child}
@@ -17,7 +17,7 @@ use Rattle.tree.specs.declared.path.Spot.{Spot}
 use Rattle.tree.specs.Lookup.{pathFrom, find, freeRun}
 use Rattle.tree.specs.Pool.{markAll}
 use Rattle.tree.proofs.Cases.{true-not-false}
-use Rattle.tree.proofs.Memory.{crash-laws}
+use Rattle.tree.proofs.Memory.{crash-laws, apply-single, apply-first}
 use Rattle.tree.proofs.Laws.{slot-laws, lookup-rule, child-laws}
 use Rattle.book.specs.declared.HeadState.the-variants.{Claimed}
 use Rattle.book.specs.Heads.{headCount, headAt, isIdle, busy, withHead}
@@ -42,7 +42,6 @@ use Rattle.book.proofs.Showing.{shows-view, view-shows}
 use Rattle.book.proofs.Crashed.{Through, AfterEach, through-each, falls-through}
 use Rattle.book.proofs.Still.{Still, still-self, still-keeps}
 use Rattle.book.proofs.Step.{Step}
-use Rattle.book.proofs.Single.{single, apply-single, apply-first}
 use Rattle.book.proofs.Claiming.{Asked, targetAt}
 use Rattle.book.proofs.NewNodes.{newNodes}
 use Rattle.book.proofs.StepClear.{agrees-clear, still-clear, beside-clear}

@@ -7,7 +7,7 @@ use Prim.Native.Nat.{ℕ, _<_}
 use native.Mathlib.Omega.{arith}
 use lib.ListN.{length, set}
 use borrow.Author.Tests.{not-false}
-use Rattle.tree.specs.Memory.{Memory, reads, isSet, withBit, Store, Fit}
+use Rattle.tree.specs.Memory.{Memory, reads, isSet, withBit, Store, Fit, single, setAll}
 use Rattle.tree.specs.declared.layout.Geometry.{Geometry}
 use Rattle.tree.specs.Layout.{geometryOf, locateAt, setAt}
 use Rattle.tree.specs.Path.{wayOf}
@@ -40,7 +40,7 @@ use Rattle.book.proofs.Views.{view-committed}
 use Rattle.book.proofs.Showing.{shows-view}
 use Rattle.book.proofs.OnePlace.{OnePlace, set-place}
 use Rattle.book.proofs.Replaced.{claim-formed, claim-low, retabled, idled}
-use Rattle.book.proofs.Single.{single, setAll, agrees-by, left-new, agrees-new, step-of}
+use Rattle.book.proofs.Single.{agrees-by, left-new, agrees-new, step-of}
 
 -- ---- what it does
 

@@ -6,7 +6,7 @@ use Prim.Native.Nat.{ℕ, _+_, _/_, _%_, _<_}
 use native.Mathlib.Omega.{arith}
 use lib.ListN.{set}
 use borrow.Author.Tests.{not-false}
-use Rattle.tree.specs.Memory.{Memory, reads, isSet, byte, withByte, Store, Fit}
+use Rattle.tree.specs.Memory.{Memory, reads, isSet, byte, withByte, Store, Fit, single}
 use Rattle.tree.specs.declared.layout.Geometry.{Geometry}
 use Rattle.tree.specs.Layout.{geometryOf, locateAt, setAt, fingerprintsAt, frameAt}
 use Rattle.tree.specs.Fingerprint.{fingerprint, ruleOf}
@@ -35,7 +35,7 @@ use Rattle.book.proofs.Inside.{fingerprint-lt}
 use Rattle.book.proofs.Keeps.{Within, within-on, within-frames, within-keeping}
 use Rattle.book.proofs.OnePlace.{OnePlace, one-after-other, frame-place, frame-within, fingerprint-place, fingerprint-within}
 use Rattle.book.proofs.Replaced.{claim-formed, claim-low, retabled, filled-in}
-use Rattle.book.proofs.Single.{single, agrees-by, left-old, agrees-new, step-of}
+use Rattle.book.proofs.Single.{agrees-by, left-old, agrees-new, step-of}
 
 -- ---- what it does
 

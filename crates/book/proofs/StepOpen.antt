@@ -19,7 +19,7 @@ use Rattle.tree.specs.Laws.{SameLaws}
 use Rattle.tree.specs.Pool.{used, mark}
 use Rattle.tree.proofs.Cases.{true-not-false}
 use Rattle.tree.proofs.Words.{beside-nodes}
-use Rattle.tree.proofs.Memory.{no-bit}
+use Rattle.tree.proofs.Memory.{no-bit, torn-whole}
 use Rattle.tree.proofs.Same.{filled-back}
 use Rattle.tree.proofs.Laws.{node-laws, same-laws, change-laws, pool-laws}
 use Rattle.book.specs.declared.Target.{Target}
@@ -36,7 +36,7 @@ use Rattle.book.proofs.Reels.{frames-to}
 use Rattle.book.proofs.Views.{view-opened}
 use Rattle.book.proofs.Sames.{Unread, of-node, of-slot, read-reel, read-node, same-read}
 use Rattle.book.proofs.Showing.{shows-view, view-shows}
-use Rattle.book.proofs.Crashed.{Through, torn-one, apply-one, torn-whole, view-torn}
+use Rattle.book.proofs.Crashed.{Through, torn-one, apply-one, view-torn}
 use Rattle.book.proofs.Reading.{sizesOf, claim-inside}
 use Rattle.book.proofs.Keeps.{keeps-of, step-of}
 use Rattle.book.proofs.Claims.{SameClaim, untouched, head-on, about-claim, locates-on, agrees-of}

@@ -3,12 +3,12 @@ use mathlib.Core.Path.{_≡_, refl}
 use mathlib.Core.Logic.{inl}
 use mathlib.Core.List.{[]}
 use Prim.Native.Nat.{ℕ}
+use Rattle.tree.proofs.Memory.{apply-none, crash-none}
 use Rattle.book.specs.State.{State, Operation, query, Query}
 use Rattle.book.specs.Perform.{granted}
 use Rattle.book.specs.Table.{Table, tableWork}
 use Rattle.book.specs.Agrees.{Agrees}
 use Rattle.book.proofs.Showing.{shows-view}
-use Rattle.book.proofs.StoreLists.{apply-none, crash-none}
 use Rattle.book.proofs.Keeps.{keeps-itself}
 use Rattle.book.proofs.Step.{Step}
 

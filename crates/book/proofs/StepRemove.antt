@@ -9,7 +9,7 @@ use native.Mathlib.Omega.{arith}
 use native.Mathlib.Decide.{decLt}
 use lib.ListN.{length, set}
 use borrow.Author.Tests.{not-false}
-use Rattle.tree.specs.Memory.{Memory, reads, isSet, withoutBit, Store, isSome, Fit}
+use Rattle.tree.specs.Memory.{Memory, reads, isSet, withoutBit, Store, isSome, Fit, single}
 use Rattle.tree.specs.declared.layout.Geometry.{Geometry}
 use Rattle.tree.specs.Layout.{geometryOf, reelAt, locateAt, setAt, sizeAt}
 use Rattle.tree.specs.Fingerprint.{ruleOf}
@@ -45,7 +45,7 @@ use Rattle.book.proofs.Claims.{head-on, about-claim, AgreesBy}
 use Rattle.book.proofs.Keeps.{Within, within-on, within-frames, within-keeping}
 use Rattle.book.proofs.OnePlace.{OnePlace, place-within, one-after-other, set-place, locate-place, locate-within}
 use Rattle.book.proofs.Replaced.{beside-claim, Located, located-on, same-place?}
-use Rattle.book.proofs.Single.{single, agrees-by, left-new, agrees-new, step-of}
+use Rattle.book.proofs.Single.{agrees-by, left-new, agrees-new, step-of}
 
 -- ---- what it does
 

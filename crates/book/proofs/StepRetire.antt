@@ -21,6 +21,7 @@ use Rattle.tree.specs.Pool.{used, unmarkAll}
 use Rattle.tree.proofs.Cases.{true-not-false}
 use Rattle.tree.proofs.Words.{beside-nodes}
 use Rattle.tree.proofs.Laws.{slot-laws, tree-laws, change-laws, pool-laws}
+use Rattle.tree.proofs.Memory.{apply-single}
 use Rattle.book.specs.declared.Target.{Target}
 use Rattle.book.specs.Heads.{headCount, headAt, busy}
 use Rattle.book.specs.State.{State, retire, arguments}
@@ -39,7 +40,6 @@ use Rattle.book.proofs.Reels.{frames-to}
 use Rattle.book.proofs.Views.{view-retired}
 use Rattle.book.proofs.Showing.{shows-view, view-shows}
 use Rattle.book.proofs.Crashed.{through-each}
-use Rattle.book.proofs.Single.{apply-single}
 use Rattle.book.proofs.Heads.{names-about, busy-names}
 use Rattle.book.proofs.Reading.{sizesOf, claim-inside}
 use Rattle.book.proofs.Keeps.{keeps-of, keeps-itself, step-of}

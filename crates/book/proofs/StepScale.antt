@@ -6,13 +6,13 @@ use Prim.Native.Nat.{ℕ, _*_, _≤_, _<_}
 use native.Mathlib.Omega.{arith}
 use native.Mathlib.Decide.{ℕ-discrete}
 use lib.ListN.{length, set}
-use Rattle.tree.specs.Memory.{Memory, reads, isSet, withBit, Store}
+use Rattle.tree.specs.Memory.{Memory, reads, isSet, withBit, Store, single}
 use Rattle.tree.specs.declared.layout.Geometry.{Geometry}
 use Rattle.tree.specs.Layout.{nextAt, locateAt, setAt, sizeAt}
 use Rattle.tree.specs.Reach.{Reaches}
 use Rattle.tree.specs.Same.{Same, Stores}
 use Rattle.tree.specs.Laws.{WellFormed}
-use Rattle.tree.proofs.Memory.{bit-laws}
+use Rattle.tree.proofs.Memory.{bit-laws, apply-single}
 use Rattle.tree.proofs.Laws.{same-laws}
 use Rattle.book.specs.declared.Target.{Target}
 use Rattle.book.specs.declared.HeadState.the-variants.{Claimed}
@@ -37,7 +37,6 @@ use Rattle.book.proofs.Claiming.{Asked, targetAt}
 use Rattle.book.proofs.Making.{Makes, asked-made}
 use Rattle.book.proofs.StepClear.{Placed, placed}
 use Rattle.book.proofs.SameNodes.{Nodes, nodes-itself, nodes-back, nodes-through, doubles-on, quiet-set}
-use Rattle.book.proofs.Single.{single, apply-single}
 
 module _ {s : State} {t : Table} {h reel f slot n : ℕ} (a : Asked s t h reel f slot) (x : Reaches (sizesOf (s .image)) (reads (s .image)) slot [] n)
     (ends : reads (s .image) (nextAt (sizesOf (s .image)) n) ≡ 0) (some : 0 < reads (s .image) (sizeAt (sizesOf (s .image)) n))

@@ -9,13 +9,13 @@ use lib.ListN.{length, set, length-set}
 use lib.Seq.{getD-set-same, getD-set-other, set-out}
 use lib.Dec.{eqb}
 use borrow.Author.Tests.{eq-eqb}
-use Rattle.tree.specs.Memory.{reads, Store, store, stores, segmented, apply, CrashImage, Torn, passed, Fit}
+use Rattle.tree.specs.Memory.{reads, Store, store, segmented, apply, CrashImage, Torn, passed, Fit}
 use Rattle.tree.specs.declared.layout.Geometry.{Geometry}
 use Rattle.tree.specs.Layout.{mapWords, reelAt, geometryOf}
 use Rattle.tree.specs.Slots.{emptySlot}
 use Rattle.tree.specs.Lookup.{freeRun}
 use Rattle.tree.proofs.Cases.{test}
-use Rattle.tree.proofs.Memory.{crash-laws}
+use Rattle.tree.proofs.Memory.{segment-laws, crash-laws}
 use Rattle.book.specs.State.{State, Operation, recover, openReel, commit, query, has, arguments}
 use Rattle.book.specs.Perform.{newNode, openScript, granted, perform}
 use Rattle.book.specs.Refusals.{refusal}
@@ -91,8 +91,7 @@ unfolding granted
 commit-store s script h e = let w = work-granted (commit script h) s e in (_, ap (λ w. w .script) w, ap (λ w. w .after .image) w)
 
 cut-last : (m : List ℕ) (w : Store) → CrashImage m (segmented ((w ∷ []) ∷ [])) 2 (apply m (segmented ((w ∷ []) ∷ [])))
-unfolding segmented stores
-cut-last m w = crash-laws .all-done m (store (w .0) (w .1) ∷ []) _ .1 refl
+cut-last m w = rw (segment-laws .fenced-one w) (crash-laws .all-done m (store (w .0) (w .1) ∷ []) _ .1 refl)
 
 module _ (s : State) (script h : ℕ) (e : perform (commit script h) s .answer ≡ 0) where
   commit-done : Interrupted (commit script h) s 2 (done (commit script h) s .image)

@@ -6,7 +6,7 @@ use Prim.Native.Nat.{ℕ, zero, suc, _+_, _*_, _%_, _^_, _≤_, _<_}
 use native.Mathlib.Omega.{arith}
 use lib.ListN.{length}
 use borrow.Author.Tests.{eqb-false}
-use Rattle.tree.specs.Memory.{Memory, Store}
+use Rattle.tree.specs.Memory.{Memory, Store, entries}
 use Rattle.tree.specs.declared.layout.Geometry.{Geometry}
 use Rattle.tree.specs.Layout.{rootAt, locateAt, setAt, fingerprintsAt}
 use Rattle.tree.specs.Lists.{range}
@@ -21,7 +21,7 @@ use Rattle.book.specs.Perform.{newNode, openScript, roomScript, claimScr
 use Rattle.tree.proofs.Lists.{in-range}
 use Rattle.tree.proofs.Memory.{bit-laws, byte-laws}
 use Rattle.tree.proofs.Laws.{child-laws}
-use Rattle.book.proofs.Entries.{Each, each-flatMap, entries}
+use Rattle.book.proofs.Entries.{Each, each-flatMap}
 use Rattle.book.proofs.Inside.{Sized, SpotInside, RoomInside, fanout-few, fingerprint-lt}
 
 -- a store to one of some words, of a value below 2^64

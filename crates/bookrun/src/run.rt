@@ -4,7 +4,7 @@ ghost use lib.ListN.{length};
 use crate::answer;
 use lines::line::Line;
 use lines::line::read_line;
-use memory::script::count_stores;
+use reelbook::count_stores;
 use reelbook::reelbook_abandon;
 use reelbook::reelbook_apply;
 use reelbook::reelbook_claim;

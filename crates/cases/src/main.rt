@@ -1,22 +1,14 @@
-// Executes vectors of the layers and prints what came out, one line each. The file stdout beside
+// Executes vectors over the C interface and prints what came out, one line each. The file stdout beside
 // src/ has what they should be.
 mod book;
 mod book_refusals;
 mod head_refusals;
-mod memory_cases;
 mod place_cases;
 mod print;
 mod reel_refusals;
 mod turn_cases;
 
 fn main() {
-    memory_cases::bits();
-    memory_cases::bytes();
-    memory_cases::searches();
-    memory_cases::bitmap_searches();
-    memory_cases::writers();
-    memory_cases::carried_out();
-    memory_cases::refusals();
     places();
     turns();
     refusals();

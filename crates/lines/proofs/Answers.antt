@@ -7,7 +7,7 @@ use native.Mathlib.Numerals.{add-one}
 use lib.ListN.{length, getD, take, drop, set, length-append}
 use lib.Seq.{length-take-le, take-suc, drop-cons, drop-drop, append-snoc, set-at, set-split}
 use borrow.Rule.Slice.PartMut.{midOf, putMid}
-use Rattle.memory.proofs.Laws.{rest-lent, rest-back}
+use Rattle.slices.proofs.Rest.{rest-lent, rest-back}
 use Rattle.lines.specs.Decimal.{decimal}
 use Rattle.lines.specs.Line.{bytes}
 use Rattle.lines.specs.Answer.{answerLine, frameLine}

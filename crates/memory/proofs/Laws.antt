@@ -1,8 +1,9 @@
 -- What crates above cite: a proof for each record of specs/Laws.antt, and the lemmas that proofs of code ask for.
 pub use Rattle.memory.proofs.Fields.{bit-laws, byte-laws, no-bit}
 pub use Rattle.memory.proofs.First.{first-laws}
-pub use Rattle.memory.proofs.Written.{script-laws, rest-lent, rest-back, written-rest}
+pub use Rattle.memory.proofs.Written.{script-laws, written-rest}
 pub use Rattle.memory.proofs.Stores.{apply-laws, OldOrStored, content, unstored, settles}
+pub use Rattle.memory.proofs.StoreLists.{segment-laws, apply-none, apply-first, apply-single, length-segmented, ends-in-barrier, crash-none, passed-or, torn-whole}
 pub use Rattle.memory.proofs.Bitmap.{clearIn, unmarked, full-word, Passed, pass-word}
 pub use Rattle.memory.proofs.Trailing.{trailing-first, lowest-in, lowest-set, lowest-taken, not-bits}
 pub use Rattle.memory.proofs.Bytes.{equal-bit, equal-beside, set-ahead, half-bits, or-bits, and-bits}
@@ -26,8 +27,11 @@ crash-laws = record {
   all-passed = all-passed;
   passed-means = passed-means;
   passed-at-end = passed-at-end;
+  passed-or = passed-or;
   outside = outside;
   falls-in = falls-in;
+  crash-none = crash-none;
+  torn-whole = torn-whole;
   torn-possible = torn-possible;
   left-to-pass = left-to-pass;
   fits = fits;

@@ -12,5 +12,6 @@ mod Stores
 mod Fences
 mod Possible
 mod Crash
+mod StoreLists
 mod Segments
 pub mod Laws

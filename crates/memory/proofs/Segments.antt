@@ -2,10 +2,10 @@
 use mathlib.Core.Path.{_≡_, refl, sym, _∙_, ap}
 use mathlib.Core.Bool.{or-true}
 use mathlib.Core.Logic.{inl, inr}
-use mathlib.Core.List.{List, [], _∷_, List·Memᴰ, Memᴰ·cast, Memᴰ·map, Memᴰ·of-map, append-eq-nil-iff}
+use mathlib.Core.List.{List, [], _∷_, List·Memᴰ, Memᴰ·map, Memᴰ·of-map, append-eq-nil-iff}
 use Prim.Native.Nat.{ℕ, _≤_}
 use native.Mathlib.Omega.{arith}
-use lib.ListN.{length, take, drop, take-append-drop, length-map}
+use lib.ListN.{length, take, drop, take-append-drop}
 use lib.Seq.{take-all, drop-append-le}
 use Rattle.memory.specs.Words.{reads}
 use Rattle.memory.specs.Script.{store, barrier, Store, stores, segmented}
@@ -14,18 +14,15 @@ use Rattle.memory.specs.Laws.{Torn, FallsIn, after-all, here, later}
 use Rattle.memory.proofs.Cases.{clash}
 use Rattle.memory.proofs.Lists.{mem-take}
 use Rattle.memory.proofs.Fences.{Fenced, barrier-append, no-barrier, barrier-later, none-later}
-use Rattle.memory.proofs.Crash.{none-yet, settled, unreached, crash-split}
+use Rattle.memory.proofs.StoreLists.{length-stores, store-of, crash-none}
+use Rattle.memory.proofs.Crash.{settled, unreached, crash-split}
 
 -- ---- stores alone
 
--- they have no barrier, and are the pairs that they were made of
+-- they have no barrier
 pub no-barrier-stores : (seg : List Store) → List·Memᴰ barrier (stores seg) → ⊥
 unfolding stores
 no-barrier-stores seg x = let z : _≡_ {A = ℕ} 0 1 = cc (Memᴰ·of-map _ seg x .2) in omega arith
-
-pub store-of : (seg : List Store) (i v : ℕ) → List·Memᴰ (store i v) (stores seg) → List·Memᴰ (i, v) seg
-unfolding stores
-store-of seg i v x = let r = Memᴰ·of-map _ seg x in let q : _≡_ {A = Store} (i, v) (r .0 .0, r .0 .1) = cc (r .2) in Memᴰ·cast q (r .1)
 
 -- a crash among them leaves each word as it was or as one of them has it
 pub torn : (m : List ℕ) (seg : List Store) (k : ℕ) (m' : List ℕ) → CrashImage m (stores seg) k m' → Torn m seg m'
@@ -39,7 +36,7 @@ torn m seg k m' c = let f = none-later [] _ (no-barrier (take k (stores seg)) (�
 
 pub falls-in : (m : List ℕ) (segs : List (List Store)) (k : ℕ) (m' : List ℕ) → CrashImage m (segmented segs) k m' → FallsIn m' m segs
 unfolding segmented
-falls-in m [] k m' c = let z : k ≡ 0 = omega (arith, c .within) in after-all (none-yet m [] m' .0 (rw z at c))
+falls-in m [] k m' c = after-all (crash-none m k m' c)
 falls-in m (seg ∷ segs) k m' c = elim (crash-split m (stores seg) (segmented segs) k m' c) [
   | inl x ↦ here (torn m seg k m' x)
   | inr t ↦ later (falls-in (apply m (stores seg)) segs (t .0) m' (t .1))
@@ -60,10 +57,6 @@ all-passed m segs k m' h c =
     settled m es k m' (record { up-to = sym (f .up-to) ∙ a .up-to; after = append-eq-nil-iff .0 (sym (f .after) ∙ a .after) .0 }) (c .within) .0 c
 
 -- ---- the first segment
-
-length-stores : (seg : List Store) → length (stores seg) ≡ length seg
-unfolding stores
-length-stores seg = length-map seg _
 
 stored-as : (seg : List Store) (i : ℕ) {v : ℕ} → List·Memᴰ (i, v) seg → List·Memᴰ (store i v) (stores seg)
 unfolding stores

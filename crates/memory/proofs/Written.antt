@@ -2,16 +2,17 @@
 use mathlib.Core.Path.{_≡_, refl, ap}
 use mathlib.Core.Logic.{inl, inr, _≢_}
 use mathlib.Core.Option.{Option, none, some}
-use mathlib.Core.List.{List, [], _∷_, _++_, append-assoc, append-nil, List·Memᴰ·head, List·Memᴰ·tail, List·Memᴰ·not-nil, List·Memᴰ·cases-cons}
+use mathlib.Core.List.{List, [], _∷_, _++_, append-assoc, List·Memᴰ·head, List·Memᴰ·tail, List·Memᴰ·not-nil, List·Memᴰ·cases-cons}
 use Prim.Native.Nat.{ℕ, _+_, _-_, _*_, _≤_, _<_}
 use native.Mathlib.Omega.{arith}
-use native.Mathlib.Nat.{le-of-eq}
 use native.Mathlib.Decide.{decLt, ℕ-discrete}
-use lib.ListN.{length, take, drop, set, length-append, length-drop, drop-of-length-le}
-use lib.Seq.{take-all, take-at, drop-at, drop-drop}
+use lib.ListN.{length, take, drop, set, length-append, length-drop}
+use lib.Seq.{take-at, drop-at, drop-drop}
 use borrow.Author.Tests.{eq-eqb, ne-eqb, lt-ltb, le-ltb}
-use borrow.Rule.Slice.PartMut.{midOf, postOf, putMid}
+use borrow.Rule.Slice.PartMut.{midOf, putMid}
+use Rattle.slices.proofs.Rest.{rest-lent, rest-back}
 use Rattle.memory.specs.Script.{Entry, store, barrier, barrierWord, encode, written, entryOf, onto, decode, storeCount, storesIn}
+use Rattle.memory.specs.Crash.{apply}
 use Rattle.memory.specs.Apply.{outcome, applied, carryOut}
 use Rattle.memory.specs.Laws.{Inside, ScriptLaws}
 
@@ -33,6 +34,10 @@ length-written : (es : List Entry) (buffer : List ℕ) → 2 * length es ≤ len
 unfolding written
 length-written es buffer h = simp (length-append, length-drop) (omega (arith, length-encode es))
 
+room-written : (es : List Entry) (buffer : List ℕ) → length (written es buffer) ≡ length buffer → 2 * length es ≤ length buffer
+unfolding written
+room-written es buffer h = omega (arith, length-encode es, length-append (encode es) (drop (2 * length es) buffer), length-drop (2 * length es) buffer)
+
 -- the words written, and the rest of the buffer
 take-written : (es : List Entry) (buffer : List ℕ) → take (2 * length es) (written es buffer) ≡ encode es
 unfolding written
@@ -48,15 +53,6 @@ unfolding written
 written-append es fs buffer =
     let two : 2 * length (es ++ fs) ≡ 2 * length es + 2 * length fs = simp length-append (omega arith) in
     rw (take-written es buffer, drop-written es buffer, two, encode-append es fs, ← drop-drop (2 * length fs) (2 * length es) buffer, append-assoc) refl
-
--- `&mut buffer[n..]` lends what is left of a buffer, and puts it back behind what stands before it
-pub rest-lent : (n : ℕ) (xs : List ℕ) → midOf n (length xs - n) xs ≡ drop n xs
-rest-lent n xs = take-all (length xs - n) (drop n xs) (le-of-eq (length-drop n xs))
-
-pub rest-back : (n : ℕ) (xs ys : List ℕ) → putMid n (length xs - n) xs ys ≡ take n xs ++ ys
-rest-back n xs ys =
-    let none : postOf n (length xs - n) xs ≡ [] = drop-of-length-le (drop n xs) (le-of-eq (length-drop n xs)) in
-    rw (none, append-nil) refl
 
 -- the rest of the buffer is lent on, and more is written there
 pub written-rest : (es fs : List Entry) (n : ℕ) (buffer xs ys : List ℕ) → 2 * length es ≡ n → xs ≡ written es buffer
@@ -159,14 +155,18 @@ stores-counted n (store i v ∷ es) h =
 stores-counted n (barrier ∷ es) h = stores-counted n es (λ j u x. h j u (List·Memᴰ·tail x))
 
 pub script-laws : ScriptLaws
-unfolding carryOut
+unfolding apply decode carryOut
 script-laws = record {
   length-encode = length-encode;
   read-back = read-back;
   was-encoded = was-encoded;
+  no-words = λ n. refl;
   carried-out = λ m es h. ap (applied m) (read-back (length m) es h);
+  none-carried-out = λ m. refl;
   refused = refused;
   written-append = written-append;
   length-written = length-written;
+  room-written = room-written;
+  take-written = take-written;
   stores-counted = stores-counted;
 }

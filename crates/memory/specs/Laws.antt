@@ -3,9 +3,9 @@ use mathlib.Core.Path.{_≡_}
 use mathlib.Core.Bool.{Bool, true, false}
 use mathlib.Core.Logic.{_⊎_, _↔_, _≢_}
 use mathlib.Core.Option.{some}
-use mathlib.Core.List.{List, [], _∷_, _++_, List·Memᴰ}
+use mathlib.Core.List.{List, [], _∷_, _++_, map, List·Memᴰ}
 use Prim.Native.Nat.{ℕ, zero, suc, _+_, _*_, _^_, _≤_, _<_}
-use lib.ListN.{length, take, drop, getElem?}
+use lib.ListN.{length, set, take, drop, getElem?}
 use Rattle.memory.specs.Words.{reads, isSet, withBit, withoutBit, byte, withByte}
 use Rattle.memory.specs.Search.{first}
 use Rattle.memory.specs.Script.{Entry, store, barrier, barrierWord, encode, written, decode, Store, stores, segmented, storeCount, storesIn}
@@ -69,13 +69,18 @@ pub record ScriptLaws : Type 0 where
   -- what is encoded is read back, and what is read back was encoded
   pub read-back : (n : ℕ) (es : List Entry) → Inside n es → decode n (encode es) ≡ some es
   pub was-encoded : (n : ℕ) (ws : List ℕ) (es : List Entry) → decode n ws ≡ some es → (encode es ≡ ws) × Inside n es
+  pub no-words : (n : ℕ) → decode n [] ≡ some []
   pub carried-out : (m : List ℕ) (es : List Entry) → Inside (length m) es → carryOut m (encode es) ≡ outcome 0 (apply m es)
+  pub none-carried-out : (m : List ℕ) → carryOut m [] ≡ outcome 0 m
   -- words that no entries inside the image are written as are refused, and the image stays
   pub refused : (m ws : List ℕ) → ((es : List Entry) → Inside (length m) es → encode es ≡ ws → ⊥) → carryOut m ws ≡ outcome 3 m
   -- entries, then others written to the rest of the buffer, are all of them written
   pub written-append : (es fs : List Entry) (buffer : List ℕ)
       → take (2 * length es) (written es buffer) ++ written fs (drop (2 * length es) (written es buffer)) ≡ written (es ++ fs) buffer
   pub length-written : (es : List Entry) (buffer : List ℕ) → 2 * length es ≤ length buffer → length (written es buffer) ≡ length buffer
+  -- a buffer that keeps its length has room for them, and its first words are theirs
+  pub room-written : (es : List Entry) (buffer : List ℕ) → length (written es buffer) ≡ length buffer → 2 * length es ≤ length buffer
+  pub take-written : (es : List Entry) (buffer : List ℕ) → take (2 * length es) (written es buffer) ≡ encode es
   -- the stores counted in words are those of the entries
   pub stores-counted : (n : ℕ) (es : List Entry) → Inside n es → storesIn (encode es) ≡ storeCount es
 
@@ -86,6 +91,54 @@ pub record ApplyLaws : Type 0 where
   pub last-store : (m : List ℕ) (es fs : List Entry) (i v : ℕ) → i < length m → Avoids i fs → reads (apply m (es ++ store i v ∷ fs)) i ≡ v
   pub avoided : (m : List ℕ) (es : List Entry) (i : ℕ) → Avoids i es → reads (apply m es) i ≡ reads m i
   pub fits : (m : List ℕ) (es : List Entry) → Fit m → FitStores es → Fit (apply m es)
+
+-- ---- scripts in segments
+
+-- how many entries segments have
+abbrev pub entries : List (List Store) → ℕ
+entries [] = 0
+entries (seg ∷ segs) = length seg + suc (entries segs)
+
+-- segments of one store each
+abbrev pub single : List Store → List (List Store)
+single ss = map (λ s. s ∷ []) ss
+
+-- stores made one after the other, and their words
+abbrev pub setAll : List ℕ → List Store → List ℕ
+setAll m [] = m
+setAll m (s ∷ ss) = setAll (set m (s .0) (s .1)) ss
+
+abbrev pub storeWords : List Store → List ℕ
+storeWords [] = []
+storeWords (s ∷ ss) = s .0 ∷ s .1 ∷ storeWords ss
+
+pub record SegmentLaws : Type 0 where
+  -- stores as entries
+  pub length-stores : (seg : List Store) → length (stores seg) ≡ length seg
+  pub stores-append : (seg seg' : List Store) → stores (seg ++ seg') ≡ stores seg ++ stores seg'
+  pub stored : (seg : List Store) (i v : ℕ) → List·Memᴰ (store i v) (stores seg) → List·Memᴰ (i, v) seg
+  pub stores-written : (seg : List Store) (buffer : List ℕ) → written (stores seg) buffer ≡ storeWords seg ++ drop (2 * length seg) buffer
+  pub apply-stores : (m : List ℕ) (seg : List Store) → apply m (stores seg) ≡ setAll m seg
+  -- segments as entries: none, the first and the others, and what the writers of one and of two fenced stores write
+  pub no-segment : segmented [] ≡ []
+  pub first-segment : (seg : List Store) (segs : List (List Store)) → segmented (seg ∷ segs) ≡ stores seg ++ barrier ∷ segmented segs
+  pub fenced-one : (s : Store) → segmented ((s ∷ []) ∷ []) ≡ store (s .0) (s .1) ∷ barrier ∷ []
+  pub fenced-pair : (s t : Store)
+      → segmented ((s ∷ []) ∷ (t ∷ []) ∷ []) ≡ store (s .0) (s .1) ∷ barrier ∷ store (t .0) (t .1) ∷ barrier ∷ []
+  pub segmented-append : (segs segs' : List (List Store)) → segmented segs ++ segmented segs' ≡ segmented (segs ++ segs')
+  pub length-segmented : (segs : List (List Store)) → length (segmented segs) ≡ entries segs
+  -- a store of a script in segments is one of a segment; the script ends in a barrier, if there is anything in it
+  pub stored-in : (segs : List (List Store)) (i v : ℕ) → List·Memᴰ (store i v) (segmented segs)
+      → (seg : List Store) × List·Memᴰ seg segs × List·Memᴰ (i, v) seg
+  pub ends-in-barrier : (segs : List (List Store)) → (segmented segs ≡ []) ⊎ ((es : List Entry) × (segmented segs ≡ es ++ barrier ∷ []))
+  -- no segments are no words, and leave a buffer as it was
+  pub none-encoded : encode (segmented []) ≡ []
+  pub none-written : (buffer : List ℕ) → written (segmented []) buffer ≡ buffer
+  -- carried out: none, one segment after the other, and segments of one store each
+  pub apply-none : (m : List ℕ) → apply m (segmented []) ≡ m
+  pub apply-first : (m : List ℕ) (seg : List Store) (segs : List (List Store))
+      → apply m (segmented (seg ∷ segs)) ≡ apply (apply m (stores seg)) (segmented segs)
+  pub apply-single : (m : List ℕ) (ss : List Store) → apply m (segmented (single ss)) ≡ setAll m ss
 
 -- ---- crashes
 
@@ -146,11 +199,15 @@ pub record CrashLaws : Type 0 where
   -- what "no barrier left to pass" means, by the entries' numbers; after all entries there is none
   pub passed-means : (es : List Entry) (k : ℕ) → passed es k ↔ ((j : ℕ) → k ≤ j → getElem? es j ≢ some barrier)
   pub passed-at-end : (es : List Entry) → passed es (length es)
+  pub passed-or : (es : List Entry) (k : ℕ) → passed es k ⊎ (passed es k → ⊥)
   -- words not stored to since the last barrier passed are as they were then
   pub outside : (m : List ℕ) (es : List Entry) (k b : ℕ) (m' : List ℕ) (i : ℕ) → LastBarrier es k b → CrashImage m es k m'
       → Avoids i (drop b (take k es)) → reads m' i ≡ reads (apply m (take b es)) i
   -- the crash lemma
   pub falls-in : (m : List ℕ) (segs : List (List Store)) (k : ℕ) (m' : List ℕ) → CrashImage m (segmented segs) k m' → FallsIn m' m segs
+  pub crash-none : (m : List ℕ) (k : ℕ) (m' : List ℕ) → CrashImage m (segmented []) k m' → m' ≡ m
+  -- carried out whole is one way to be torn
+  pub torn-whole : (m : List ℕ) (seg : List Store) → Torn m seg (apply m (stores seg))
   -- in the first segment every mixture of its stores kept and lost is possible, and a barrier is left to pass
   pub torn-possible : (m : List ℕ) (seg : List Store) (segs : List (List Store)) (m' : List ℕ) → Torn m seg m'
       → CrashImage m (segmented (seg ∷ segs)) (length seg) m'

@@ -2,19 +2,20 @@
 use mathlib.Core.Path.{_≡_, refl, sym, _∙_, ap}
 use mathlib.Core.Bool.{Bool, true, false, cond}
 use mathlib.Core.Logic.{inl, inr, _≢_}
-use mathlib.Core.List.{List, [], _∷_, List·Memᴰ, List·Memᴰ·head, List·Memᴰ·tail}
-use Prim.Native.Nat.{ℕ, _*_, _≤_}
+use mathlib.Core.Option.{some}
+use mathlib.Core.List.{List, [], _∷_, List·Memᴰ, List·Memᴰ·head, List·Memᴰ·tail, List·Memᴰ·not-nil}
+use Prim.Native.Nat.{ℕ, _≤_}
 use native.Mathlib.Omega.{arith}
-use lib.ListN.{length, take}
+use lib.ListN.{length}
 use lib.Dec.{eqb}
-use lib.Seq.{take-append-seam, take-at}
+use lib.Seq.{take-append-seam}
 use borrow.Author.Tests.{eqb-true, eqb-false, ne-eqb}
-use Rattle.tree.specs.Memory.{reads, Entry, encode, written, decode, segmented, apply, carryOut}
+use Rattle.tree.specs.Memory.{reads, encode, decode, segmented, carryOut, Inside}
 use Rattle.tree.specs.Test.{ne, holds}
 use Rattle.tree.specs.declared.layout.Geometry.{Geometry}
 use Rattle.tree.specs.Layout.{badImage, mapWords, editionAt, geometryOf}
 use Rattle.tree.specs.Subtree.{listed}
-use Rattle.tree.proofs.Memory.{script-laws}
+use Rattle.tree.proofs.Memory.{script-laws, segment-laws}
 use Rattle.tree.proofs.Cases.{test}
 use Rattle.book.specs.Refusals.{refusal}
 use Rattle.book.specs.State.{State, Operation, format, recover, openReel, claim, fill, commit, abandon, remove, retire, query, has, list, Work, scratchAfter}
@@ -33,14 +34,19 @@ use Rattle.operations.proofs.Endings.{refused as ends-refused, done as 
 
 -- ---- what is handed back
 
--- the words at the start of a buffer that a script was written to
-script-taken : (es : List Entry) (buffer : List ℕ) → take (2 * length es) (written es buffer) ≡ encode es
-unfolding written
-script-taken es buffer = take-at (encode es) _ _ (script-laws .length-encode es)
-
+-- no words are those of no segments, and read back and carried out as none
 no-words : [] ≡ encode (segmented [])
-unfolding segmented encode
-no-words = refl
+no-words = sym (segment-laws .none-encoded)
+
+none-inside : (n : ℕ) → Inside n (segmented [])
+none-inside n i v x = absurd (List·Memᴰ·not-nil (rw (segment-laws .no-segment) at x))
+
+pub no-entries : (n : ℕ) → decode n [] ≡ some (segmented [])
+no-entries n = rw (segment-laws .none-encoded) at (script-laws .read-back n (segmented []) (none-inside n))
+
+none-carried : (m : List ℕ) → carryOut m [] .image ≡ m
+none-carried m =
+    ap (λ o. o .image) (rw (segment-laws .none-encoded) at (script-laws .carried-out m (segmented []) (none-inside (length m)))) ∙ segment-laws .apply-none m
 
 abbrev answering : Operation → State → Buffers → Ends
 answering op s b = found op (record { answer = 0; work = granted op s; cleared = clears op 0 }) b
@@ -54,15 +60,15 @@ granted-over : (op : Operation) (s : State) (b : Buffers) → HandsOver op (gran
 unfolding found granted listed
 granted-over (format words slots nodes) s b = (no-words, refl, refl)
 granted-over (recover words) s b = (no-words, refl, refl)
-granted-over (openReel words script reel) s b = (script-taken _ _, refl, refl)
-granted-over (claim words script h reel f) s b = (script-taken _ _, refl, refl)
-granted-over (fill script h) s b = (script-taken _ _, refl, refl)
-granted-over (commit script h) s b = (script-taken _ _, refl, refl)
-granted-over (abandon script h) s b = (script-taken _ _, refl, refl)
-granted-over (remove script reel f) s b = (script-taken _ _, refl, refl)
+granted-over (openReel words script reel) s b = (script-laws .take-written _ _, refl, refl)
+granted-over (claim words script h reel f) s b = (script-laws .take-written _ _, refl, refl)
+granted-over (fill script h) s b = (script-laws .take-written _ _, refl, refl)
+granted-over (commit script h) s b = (script-laws .take-written _ _, refl, refl)
+granted-over (abandon script h) s b = (script-laws .take-written _ _, refl, refl)
+granted-over (remove script reel f) s b = (script-laws .take-written _ _, refl, refl)
 granted-over (query (has reel f)) s b = (no-words, refl, refl)
 granted-over (query (list scratch room reel)) s b = (no-words, refl, take-append-seam _ _)
-granted-over (retire words scratch script reel) s b = (script-taken _ _, refl, refl)
+granted-over (retire words scratch script reel) s b = (script-laws .take-written _ _, refl, refl)
 
 -- and nothing where the count is 0
 pub nothing-over : (k : Counted) (e : Ends) → e .count ≡ 0 → (wordsIn k e ≡ []) × (valueIn k e ≡ 0) × (framesIn k e ≡ [])
@@ -110,14 +116,15 @@ refused-count s b (map-cleared im hs len zero) l e z = refl
 
 module _ (op : Operation) (s : State) (b : Buffers) (h : perform op s .answer ≢ 0) where
   refused : Refused op s b (ends op s b)
-  unfolding ends found segmented written encode listed apply
+  unfolding ends found listed
   refused =
       let d = demand1 .refused op s h in
       record {
         count = refused-count s b (d .left) (ap (λ (w : Work). w .after) (work-refused op s h)) (sym (answer-is op s)) h;
-        script = rw (d .no-store) refl;
+        script = rw (d .no-store) (segment-laws .none-written (b .script));
         list = rw (d .none-handed) refl;
-        after = rw (d .no-store) refl;
+        after = rw (d .no-store) (ap (λ (im : List ℕ). state im (perform op s .work .after .pool) (perform op s .work .after .heads))
+            (sym (segment-laws .apply-none (perform op s .work .after .image))));
         left = d .left;
       }
 
@@ -203,8 +210,8 @@ unread op image pool heads b o =
 
 -- nothing is carried out where there are no words
 nothing-carried : (m : List ℕ) → carry m [] .image ≡ m
-unfolding carry carryOut decode apply
-nothing-carried m = elim (test (holds (badImage (length m) (geometryOf (reads m))))) [ inl e ↦ rw e refl | inr e ↦ rw e refl ]
+unfolding carry
+nothing-carried m = elim (test (holds (badImage (length m) (geometryOf (reads m))))) [ inl e ↦ rw e refl | inr e ↦ rw e (none-carried m) ]
 
 -- answered or refused, the driver is told the value and the frames of the operation's work, and comes to the state of the step
 record Told (op : Operation) (s : State) (e : Ends) : Type 0 where

@@ -1,5 +1,5 @@
 -- Claim: the room for its frame, and how each way through the code ends.
-use mathlib.Core.Path.{_≡_, refl}
+use mathlib.Core.Path.{_≡_, refl, sym, _∙_, ap}
 use mathlib.Core.Bool.{Bool, true, false, cond, not}
 use mathlib.Core.Logic.{inl, inr, ⊎-elim}
 use mathlib.Core.Option.{Option, none, some}
@@ -12,7 +12,7 @@ use lib.ListN.{length}
 use lib.Dec.{ltb}
 use borrow.Author.Tests.{eqb-false}
 use borrow.Rule.Slice.PartMut.{midOf, putMid}
-use Rattle.tree.specs.Memory.{Memory, Store, isSome, withBit, stores, segmented, written}
+use Rattle.tree.specs.Memory.{Memory, Store, isSome, withBit, segmented, written}
 use Rattle.tree.specs.Test.{is, _and_, _or_, holds}
 use Rattle.tree.specs.declared.layout.Geometry.{Geometry}
 use Rattle.tree.specs.Layout.{nextAt, locateAt, sizeAt}
@@ -40,6 +40,7 @@ use Rattle.book.proofs.Refusals.{denies}
 use Rattle.book.proofs.Inside.{RoomInside, path-room, fanout-few}
 use Rattle.operations.specs.declared.answer.HeadAnswer.{HeadAnswer}
 use Rattle.operations.specs.declared.answer.HeadAnswer.the-variants.{Done}
+use Rattle.operations.proofs.ScriptWords.{words-of}
 use Rattle.operations.proofs.ClaimingScripts.{branched, branched-words, located-words, located-written}
 
 -- a state that the code did not take apart as idle
@@ -139,8 +140,8 @@ module _ (g : Geometry) (m : Memory) (slot f start : ℕ) where
         → x ≡ Done 4 (Claimed (record { slot = slot; node = t .node; place = t .place; frame = f })) → locate ≡ m (locateAt g (t .node))
         → script' ≡ written (segmented (((locateAt g (t .node), withBit locate (t .place)) ∷ []) ∷ [])) script
         → Taken r pool pool script script' x
-    unfolding claimScript roomScript segmented stores markAll
-    clear-taken t locate script' q e l w = rw q (e, refl, rw l at w)
+    unfolding claimScript roomScript markAll
+    clear-taken t locate script' q e l w = rw q (e ∙ ap (λ n. Done n (targetIn (Clear t))) (words-of (((locateAt g (t .node), _) ∷ []) ∷ [])), refl, rw l at w)
 
     -- in the other two, the room made, and the locate store written to the rest of the script
     pub scale-taken : (n size locate : ℕ) (xs ys : List ℕ) → r ≡ ScaleUp n size
@@ -148,10 +149,13 @@ module _ (g : Geometry) (m : Memory) (slot f start : ℕ) where
         → xs ≡ written (segmented (((sizeAt g n, 2 * size) ∷ []) ∷ [])) script
         → ys ≡ written (segmented (((locateAt g n, withBit locate size) ∷ []) ∷ [])) (midOf 4 (length xs - 4) xs)
         → Taken r pool pool script (putMid 4 (length xs - 4) xs ys) x
-    unfolding claimScript roomScript segmented stores markAll
+    unfolding claimScript roomScript markAll
     scale-taken n size locate xs ys q e l w v =
         let room : List (List Store) = ((sizeAt g n, 2 * size) ∷ []) ∷ [] in
-        rw q (e, refl, located-written room (locateAt g n) (withBit (m (locateAt g n)) size) 4 refl script xs ys w (rw l at v))
+        let long = sym (words-of room) in
+        let i = locateAt g n in
+        let word = withBit (m i) size in
+        rw q (rw (located-words room i word 4 long) e, refl, located-written room i word 4 long script xs ys w (rw l at v))
 
     pub branch-taken : (pool' : List ℕ) (parent d k c : ℕ) (xs ys : List ℕ) → r ≡ BranchOut parent d → k ≡ fanout d → c ≡ child d f
         → x ≡ Done (10 * k + 6 + 4) (Claimed (record { slot = slot; node = start + c; place = 0; frame = f }))

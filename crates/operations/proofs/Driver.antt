@@ -7,12 +7,13 @@ use Prim.Native.Nat.{ℕ}
 use native.Mathlib.Decide.{ℕ-discrete}
 use lib.ListN.{length}
 use lib.Dec.{eqb}
-use Rattle.tree.specs.Memory.{decode, segmented, apply}
+use Rattle.tree.specs.Memory.{decode, segmented}
 use Rattle.tree.specs.Pool.{clearMap}
+use Rattle.tree.proofs.Memory.{segment-laws}
 use Rattle.tree.proofs.Cases.{some-inj, test}
 use Rattle.tree.proofs.Laws.{pool-laws}
 use Rattle.book.specs.Refusals.{refusal}
-use Rattle.book.specs.State.{State, Operation, format, recover}
+use Rattle.book.specs.State.{State, Operation, format, recover, Work}
 use Rattle.book.specs.Checks.{refusals}
 use Rattle.book.specs.Perform.{granted, leaves, perform}
 use Rattle.book.specs.Table.{Table}
@@ -25,13 +26,9 @@ use Rattle.book.proofs.Recovery.{recover-writes}
 use Rattle.operations.specs.Ends.{Buffers, noBuffers, state, Ends, ends}
 use Rattle.operations.specs.Chain.{counted, wordsIn, Fits, OtherBuffer, another-length, to-format, Called, with-its-map, with-another}
 use Rattle.operations.specs.Driver.{CutShort, RecoverEnds, Retries, none-yet, refused, cut-short, Recovers, Whole, as-before, as-after, Driven, formats, calls, loses-power, Survives, Stands, Driver}
-use Rattle.operations.proofs.Chain.{nothing-over, answer-ends, after-ends, one-to-three, sent-back, chain}
+use Rattle.operations.proofs.Chain.{no-entries, nothing-over, answer-ends, after-ends, one-to-three, sent-back, chain}
 
 -- ---- power lost
-
-no-entries : (n : ℕ) → decode n [] ≡ some []
-unfolding decode
-no-entries n = refl
 
 -- a call as histories have it: its answer, the image that it left, and the entries that its words are read as
 record Performs (op : Operation) (s : State) (e : Ends) : Type 0 where
@@ -42,7 +39,6 @@ record Performs (op : Operation) (s : State) (e : Ends) : Type 0 where
 -- one that is refused hands out no words
 performs-refused : {op : Operation} {s : State} {e : Ends} → e .answer ≡ perform op s .answer → e .after .image ≡ perform op s .work .after .image
     → e .count ≡ 0 → perform op s .answer ≢ 0 → Performs op s e
-unfolding segmented
 performs-refused {op} {s} {e} q i c h = record {
   answer = q;
   image = i;
@@ -92,10 +88,13 @@ called-performs {op} {s} {b} {e} fit (with-another map o q) u =
 
 -- ---- recovery
 
+-- work without a script leaves what it left
+nothing-left : (w : Work) → w .script ≡ [] → carriedOut w ≡ w .after
+nothing-left w e = rw e (ap (λ (im : List ℕ). state im (w .after .pool) (w .after .heads)) (segment-laws .apply-none (w .after .image)))
+
 module _ (words : ℕ) (s : State) (b : Buffers) where
   -- it hands out no words, and leaves the image that the history goes on with
   recover-performs : Performs (recover words) s (ends (recover words) s b)
-  unfolding segmented
   recover-performs = record {
     answer = answer-ends (recover words) s b;
     image = ap (λ (x : State). x .image) (after-ends (recover words) s b);
@@ -103,8 +102,7 @@ module _ (words : ℕ) (s : State) (b : Buffers) where
   }
 
   recover-after : ends (recover words) s b .after ≡ done (recover words) s
-  unfolding segmented apply
-  recover-after = after-ends (recover words) s b ∙ rw (recover-writes words s .script) refl
+  recover-after = after-ends (recover words) s b ∙ sym (nothing-left (perform (recover words) s .work) (recover-writes words s .script))
 
 retries-attempts : {m m' : List ℕ} → Retries m m' → Attempts m m'
 retries-attempts none-yet = no-attempt
@@ -216,9 +214,9 @@ module _ (words : ℕ) (s : State) where
 
   -- the image that the call leaves is the one that the history goes on with
   lent-image : ends (recover words) lent noBuffers .after .image ≡ done (recover words) s .image
-  unfolding segmented apply
   lent-image =
-      ap (λ (x : State). x .image) (after-ends (recover words) lent noBuffers) ∙ same-image ∙ rw (recover-writes words s .script) refl
+      ap (λ (x : State). x .image) (after-ends (recover words) lent noBuffers) ∙ same-image
+      ∙ ap (λ (x : State). x .image) (sym (nothing-left (perform (recover words) s .work) (recover-writes words s .script)))
 
   lent-interrupted : {k : ℕ} {m : List ℕ} → Interrupted (recover words) s k m → Interrupted (recover words) lent k m
   lent-interrupted c = record {

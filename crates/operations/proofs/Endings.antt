@@ -1,29 +1,39 @@
 -- How an operation ends: refused, or done.
-use mathlib.Core.Path.{_≡_, refl, _∙_}
+use mathlib.Core.Path.{_≡_, refl, sym, _∙_, ap}
 use mathlib.Core.Logic.{_≢_}
+use mathlib.Core.List.{List, []}
 use Prim.Native.Nat.{ℕ}
 use borrow.Author.Tests.{ne-eqb}
-use Rattle.tree.specs.Memory.{encode, segmented, written}
+use Rattle.tree.specs.Memory.{Store, segmented, written}
 use Rattle.tree.specs.Subtree.{listed}
+use Rattle.tree.proofs.Memory.{segment-laws}
 use Rattle.book.specs.Refusals.{refusal}
-use Rattle.book.specs.State.{State, Operation, format, recover, openReel, claim, fill, commit, abandon, remove, retire, query, leaving, scratchAfter}
+use Rattle.book.specs.State.{State, Operation, format, recover, openReel, claim, fill, commit, abandon, remove, retire, query, leaving, Outcome, scratchAfter}
 use Rattle.book.specs.Checks.{refusals}
 use Rattle.book.specs.Perform.{granted, leaves, clears, perform}
 use Rattle.operations.specs.Ends.{Buffers, buffers, ended, countIn, found, ends}
+use Rattle.operations.proofs.ScriptWords.{words-of}
 
 -- nothing is handed back where there is no script and no value
 none-handed : (op : Operation) (s : State) → countIn op (leaving s) ≡ 0
-unfolding segmented
 none-handed (format map slots nodes) s = refl
 none-handed (recover map) s = refl
-none-handed (openReel map script reel) s = refl
-none-handed (claim map script h reel f) s = refl
-none-handed (fill script h) s = refl
-none-handed (commit script h) s = refl
-none-handed (abandon script h) s = refl
-none-handed (remove script reel f) s = refl
-none-handed (retire map scratch script reel) s = refl
+none-handed (openReel map script reel) s = sym (words-of [])
+none-handed (claim map script h reel f) s = sym (words-of [])
+none-handed (fill script h) s = sym (words-of [])
+none-handed (commit script h) s = sym (words-of [])
+none-handed (abandon script h) s = sym (words-of [])
+none-handed (remove script reel f) s = sym (words-of [])
+none-handed (retire map scratch script reel) s = sym (words-of [])
 none-handed (query q) s = refl
+
+-- where there is no script its buffer stays
+pub no-script : (op : Operation) (o : Outcome) (b : Buffers) → o .work .script ≡ []
+    → found op o b ≡ ended (o .answer) (countIn op (o .work)) (o .work .after) (buffers (scratchAfter (o .cleared) (b .scratch)) (b .script) (listed (o .work .handed .listing) (b .list)))
+unfolding found
+no-script op o b e =
+    ap (λ ws. ended (o .answer) (countIn op (o .work)) (o .work .after) (buffers (scratchAfter (o .cleared) (b .scratch)) ws (listed (o .work .handed .listing) (b .list))))
+    (ap (λ (segs : List (List Store)). written (segmented segs) (b .script)) e ∙ segment-laws .none-written (b .script))
 
 module _ (op : Operation) (s : State) (b : Buffers) where
   pub refused-with : (n : ℕ) → refusal (refusals op s) ≡ n → n ≢ 0
@@ -34,8 +44,8 @@ module _ (op : Operation) (s : State) (b : Buffers) where
   -- a refusal that leaves the state as it was hands back nothing; the scratch map is cleared or not
   pub refused : (n : ℕ) → refusal (refusals op s) ≡ n → n ≢ 0 → leaves op s n ≡ s
       → ends op s b ≡ ended n 0 s (buffers (scratchAfter (clears op n) (b .scratch)) (b .script) (b .list))
-  unfolding found segmented written encode listed
-  refused n e z l = refused-with n e z ∙ rw (l, none-handed op s) refl
+  unfolding listed
+  refused n e z l = refused-with n e z ∙ no-script op _ b refl ∙ rw (l, none-handed op s) refl
 
   pub done : refusal (refusals op s) ≡ 0 → ends op s b ≡ found op (record { answer = 0; work = granted op s; cleared = clears op 0 }) b
   unfolding ends perform

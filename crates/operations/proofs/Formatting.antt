@@ -2,12 +2,12 @@
 use mathlib.Core.Path.{_≡_, refl, sym, _∙_, ap}
 use mathlib.Core.Bool.{true, false}
 use mathlib.Core.Logic.{_≢_}
-use mathlib.Core.List.{List, _∷_, map, map-append}
+use mathlib.Core.List.{List, _∷_, map}
 use Prim.Native.Nat.{ℕ, zero, suc, _+_}
 use native.Mathlib.Omega.{arith}
 use native.Mathlib.Numerals.{add-one}
 use lib.ListN.{length, set}
-use Rattle.tree.specs.Memory.{Store, store, stores, encode, segmented, written, apply}
+use Rattle.tree.specs.Memory.{Store, stores, apply, setAll}
 use Rattle.tree.specs.Test.{holds}
 use Rattle.tree.specs.Lists.{range, upTo}
 use Rattle.tree.specs.declared.layout.Geometry.{Geometry}
@@ -15,14 +15,14 @@ use Rattle.tree.specs.Layout.{Sized, badImage, mapWords, rootAt}
 use Rattle.tree.specs.Subtree.{listed}
 use Rattle.tree.specs.Pool.{clearMap}
 use Rattle.tree.proofs.Tests.{said}
-use Rattle.tree.proofs.Memory.{apply-laws}
+use Rattle.tree.proofs.Memory.{apply-laws, segment-laws}
 use Rattle.book.specs.Heads.{idleHeads}
 use Rattle.book.specs.State.{format, scratchAfter}
 use Rattle.book.specs.Checks.{badMap, refusals}
 use Rattle.book.specs.Perform.{formatStores, granted, leaves, clears}
 use Rattle.book.proofs.Refusals.{denies, passed-all, refused-here, refused-later}
-use Rattle.operations.specs.Ends.{noBuffers, state, ended, found, ends}
-use Rattle.operations.proofs.Endings.{refused, done}
+use Rattle.operations.specs.Ends.{noBuffers, state, ended, ends}
+use Rattle.operations.proofs.Endings.{no-script, refused, done}
 
 -- ---- words made 0
 
@@ -32,16 +32,20 @@ zeros at is = map (λ i. (at i, 0)) is
 
 module _ (at : ℕ → ℕ) where
   pub zeroed-none : (im : List ℕ) (from : ℕ) → im ≡ apply im (stores (zeros at (range from 0)))
-  unfolding apply stores range
-  zeroed-none im from = refl
+  unfolding range
+  zeroed-none im from = sym (segment-laws .apply-stores im (zeros at (range from 0)))
+
+  set-suc : (im : List ℕ) (from k : ℕ) → set (setAll im (zeros at (range from k))) (at (from + k)) 0 ≡ setAll im (zeros at (range from (suc k)))
+  unfolding range
+  set-suc im from zero = ap (λ i. set im (at i) 0) (omega arith)
+  set-suc im from (suc k) =
+      ap (λ i. set (setAll (set im (at from) 0) (zeros at (range (suc from) k))) (at i) 0) (omega arith)
+      ∙ set-suc (set im (at from) 0) (suc from) k
 
   zeroed-suc : (im : List ℕ) (from k : ℕ)
       → set (apply im (stores (zeros at (range from k)))) (at (from + k)) 0 ≡ apply im (stores (zeros at (range from (suc k))))
-  unfolding apply stores range
-  zeroed-suc im from zero = ap (λ i. set im (at i) 0) (omega arith)
-  zeroed-suc im from (suc k) =
-      ap (λ i. set (apply (set im (at from) 0) (stores (zeros at (range (suc from) k)))) (at i) 0) (omega arith)
-      ∙ zeroed-suc (set im (at from) 0) (suc from) k
+  zeroed-suc im from k =
+      rw (segment-laws .apply-stores im (zeros at (range from k)), segment-laws .apply-stores im (zeros at (range from (suc k)))) (set-suc im from k)
 
   -- the loop's step: word i is the next of them
   pub zeroed-more : (im now : List ℕ) (from k n i : ℕ) → now ≡ apply im (stores (zeros at (range from k))) → n ≡ k + 1 → i ≡ at (from + k)
@@ -55,15 +59,16 @@ headerStores g = (0, 1) ∷ (1, g .slots) ∷ (2, g .nodes) ∷ zeros (λ i. i) 
 
 pub header-first : (g : Geometry) (im : List ℕ)
     → apply (set (set (set im 0 1) 1 (g .slots)) 2 (g .nodes)) (stores (zeros (λ i. i) (range 3 61))) ≡ apply im (stores (headerStores g))
-unfolding apply stores
-header-first g im = refl
+header-first g im =
+    segment-laws .apply-stores (set (set (set im 0 1) 1 (g .slots)) 2 (g .nodes)) (zeros (λ i. i) (range 3 61))
+    ∙ sym (segment-laws .apply-stores im (headerStores g))
 
 pub header-then-roots : (g : Geometry) (im : List ℕ)
     → apply (apply im (stores (headerStores g))) (stores (zeros rootAt (upTo (g .slots)))) ≡ apply im (stores (formatStores g))
-unfolding stores formatStores
+unfolding formatStores
 header-then-roots g im =
     sym (apply-laws .in-turn im (stores (headerStores g)) (stores (zeros rootAt (upTo (g .slots)))))
-    ∙ ap (apply im) (sym (map-append (λ (s : Store). store (s .0) (s .1)) (headerStores g) (zeros rootAt (upTo (g .slots)))))
+    ∙ ap (apply im) (sym (segment-laws .stores-append (headerStores g) (zeros rootAt (upTo (g .slots)))))
 
 -- ---- an image that is written to keeps its length
 
@@ -92,9 +97,9 @@ module _ (im pool heads : List ℕ) (slots nodes : ℕ) where
   pub formatted : (im' pool' : List ℕ) → holds (badImage (length im) (given slots nodes)) ≡ false → length pool ≡ mapWords (given slots nodes)
       → im' ≡ apply (apply im (stores (headerStores (given slots nodes)))) (stores (zeros rootAt (upTo slots))) → pool' ≡ clearMap (length pool)
       → ended 0 0 (state im' pool' idleHeads) noBuffers ≡ ends (format (length pool) slots nodes) (state im pool heads) noBuffers
-  unfolding refusals granted clears scratchAfter found segmented written encode listed
+  unfolding refusals granted clears scratchAfter listed
   formatted im' pool' fine words image-is pool-is =
       let op = format (length pool) slots nodes in
       let s = state im pool heads in
       let none = passed-all (refusals op s) (denies (badImage (length im) (given slots nodes)) fine, (words, tt)) in
-      rw (image-is ∙ header-then-roots (given slots nodes) im, pool-is ∙ ap clearMap words) (sym (done op s noBuffers none))
+      rw (image-is ∙ header-then-roots (given slots nodes) im, pool-is ∙ ap clearMap words) (sym (done op s noBuffers none ∙ no-script op _ noBuffers refl))

@@ -6,8 +6,7 @@ use mathlib.Core.List.{List, [], _∷_}
 use Prim.Native.Nat.{ℕ, _<_}
 use native.Mathlib.Omega.{arith}
 use lib.ListN.{length}
-use Rattle.memory.specs.Script.{encode, stores, segmented, written}
-use Rattle.tree.specs.Memory.{Memory, reads, isSome}
+use Rattle.tree.specs.Memory.{Memory, reads, isSome, segmented, written}
 use Rattle.tree.specs.Test.{is}
 use Rattle.tree.specs.declared.layout.Geometry.{Geometry}
 use Rattle.tree.specs.declared.path.Spot.{Spot}
@@ -26,6 +25,8 @@ use Rattle.book.specs.Perform.{removeScript, foundSpot, oneIf, granted, leaves,
 use Rattle.book.proofs.Refusals.{passed-all, refused-here, refused-later}
 use Rattle.book.proofs.Inside.{find-inside}
 use Rattle.operations.specs.Ends.{Buffers, buffers, noBuffers, ended, found, ends}
+use Rattle.operations.proofs.ScriptWords.{words-of}
+use Rattle.operations.proofs.Endings.{no-script}
 use Rattle.operations.proofs.Passed.{same-checks}
 use Rattle.operations.proofs.Tested.{OnReel, SlotRead, rest-bad, rest-done}
 
@@ -86,11 +87,11 @@ module _ (s : State) (reel f : ℕ) where
         rest-bad on-has noBuffers (p .slot-read) (p .present) 4 (refused-here _ _ (path-test g (reads (s .image)) slot f (p .answer) q)) (omega arith)
 
     pub has-said : {y : Found} → x ≡ y → isMalformed y ≡ false → ended 0 (oneIf (isSome (spotIn y))) s noBuffers ≡ ends (query (has reel f)) s noBuffers
-    unfolding found granted encode segmented written listed scratchAfter
+    unfolding granted listed scratchAfter
     has-said q w =
         let none = refused-later _ _ (path-test g (reads (s .image)) slot f (p .answer) q ∙ w) ∙ passed-all [] tt in
         rw (← found-spot g (reads (s .image)) slot f (p .answer) q, p .slot-read .slot-is, p .slot-read .checked .geometry)
-        (sym (rest-done on-has noBuffers (p .slot-read) (p .present) none))
+        (sym (rest-done on-has noBuffers (p .slot-read) (p .present) none ∙ no-script (query (has reel f)) _ noBuffers refl))
 
 -- ---- Remove
 
@@ -138,9 +139,10 @@ module _ (s : State) (script : List ℕ) (reel f : ℕ) where
 
       pub removed : {t : Spot} → x ≡ At t → (words : List ℕ) → words ≡ written (segmented (removeScript g (reads (s .image)) t)) script
           → ended 0 8 s (buffers [] words []) ≡ ends op s borrowed
-      unfolding found granted segmented stores removeScript listed scratchAfter
+      unfolding found granted removeScript listed scratchAfter
       removed {t} q words w =
           let there : t ≡ foundSpot (find (ruleOf (reads (s .image))) g (reads (s .image)) slot f) =
           sym (ap foundSpot (found-spot g (reads (s .image)) slot f (p .answer) q)) in
-          rw (w, there, p .slot-read .slot-is, p .slot-read .checked .geometry)
+          ap (λ k. ended 0 k s (buffers [] words [])) (words-of (removeScript g (reads (s .image)) t))
+          ∙ rw (w, there, p .slot-read .slot-is, p .slot-read .checked .geometry)
           (sym (rest-done on-remove borrowed (p .slot-read) (p .present) (past-path q refl ∙ passed-all _ (refl, tt))))

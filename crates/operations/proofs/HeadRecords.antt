@@ -9,8 +9,8 @@ use lib.ListN.{length, getD, set}
 use lib.Seq.{ext-getD, getD-set-same, getD-set-other}
 use lib.Dec.{ltb}
 use borrow.Author.Tests.{le-ltb}
-use Rattle.memory.specs.Laws.{NoneBelow}
-use Rattle.memory.proofs.Laws.{first-laws}
+use Rattle.tree.specs.Memory.{NoneBelow}
+use Rattle.tree.proofs.Memory.{first-laws}
 use Rattle.tree.specs.Lists.{range, upTo}
 use Rattle.book.specs.declared.HeadState.{HeadState}
 use Rattle.book.specs.declared.HeadState.the-variants.{Idle}

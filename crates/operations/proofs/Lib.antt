@@ -1,5 +1,6 @@
 pub mod Formatting
 pub mod Opening
+pub mod ScriptWords
 pub mod Endings
 pub mod Passed
 pub mod Tested

@@ -9,7 +9,7 @@ use native.Mathlib.Omega.{arith}
 use lib.ListN.{length}
 use lib.Dec.{ltb}
 use borrow.Author.Tests.{ltb-false}
-use Rattle.tree.specs.Memory.{reads, encode, segmented, written}
+use Rattle.tree.specs.Memory.{reads}
 use Rattle.tree.specs.Test.{lt, is}
 use Rattle.tree.specs.declared.layout.Geometry.{Geometry}
 use Rattle.tree.specs.Subtree.{listing, listed}
@@ -28,7 +28,8 @@ use Rattle.operations.specs.declared.answer.Answer.{Answer}
 use Rattle.operations.specs.declared.answer.Answer.the-variants.{Done, Refused}
 use Rattle.operations.specs.declared.answer.Refusal.the-variants as why
 use Rattle.operations.specs.Answers.{answerOf, countOf}
-use Rattle.operations.specs.Ends.{Buffers, buffers, state, ended, found, ends}
+use Rattle.operations.specs.Ends.{Buffers, buffers, state, ended, ends}
+use Rattle.operations.proofs.Endings.{no-script}
 use Rattle.operations.proofs.Passed.{same-checks}
 use Rattle.operations.proofs.Tested.{OnReel, SlotRead, rest-bad, rest-done}
 
@@ -59,10 +60,10 @@ module _ (im pool ws scratch frames : List ℕ) (reel : ℕ) where
   module _ {g : Geometry} {slot : ℕ} (p : SlotRead im none (some scratch) none reel g slot) (inside : slot < g .slots) where
     all-listed : isSoundTree g (reads im) slot ≡ true → ltb (length frames) (length (listing g (reads im) slot)) ≡ false
         → ended 0 (length (listing g (reads im) slot)) start (buffers (clearMap (length scratch)) [] (listed (listing g (reads im) slot) frames)) ≡ ends op start borrowed
-    unfolding granted scratchAfter found segmented written encode
+    unfolding granted scratchAfter
     all-listed sound room =
         let none = passed-all (listRest g slot) (rw sound refl, (ltb-false _ _ room, tt)) in
-        rw (p .slot-is, p .checked .geometry) (sym (rest-done on-list borrowed p inside none))
+        rw (p .slot-is, p .checked .geometry) (sym (rest-done on-list borrowed p inside none ∙ no-script op _ borrowed refl))
 
     -- in one form for all that listing the tree comes to
     pub list-ended : (r : Listing) (frames' : List ℕ) → r ≡ listingFrom g (reads im) slot (length frames) → frames' ≡ listAfter g (reads im) slot frames

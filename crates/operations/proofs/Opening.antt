@@ -1,5 +1,5 @@
 -- Open: what its checks leave, and how it ends.
-use mathlib.Core.Path.{_≡_, refl, sym, _∙_}
+use mathlib.Core.Path.{_≡_, refl, sym, _∙_, ap}
 use mathlib.Core.Bool.{Bool, false, not}
 use mathlib.Core.Option.{none, some}
 use mathlib.Core.List.{List, [], _∷_}
@@ -7,7 +7,7 @@ use Prim.Native.Nat.{ℕ, _≤_, _<_}
 use native.Mathlib.Omega.{arith}
 use lib.ListN.{length}
 use lib.Dec.{eqb}
-use Rattle.tree.specs.Memory.{reads, stores, segmented, written}
+use Rattle.tree.specs.Memory.{reads, segmented, written}
 use Rattle.tree.specs.Test.{lt, le}
 use Rattle.tree.specs.declared.layout.Geometry.{Geometry}
 use Rattle.tree.specs.Layout.{geometryOf}
@@ -24,6 +24,7 @@ use Rattle.book.proofs.Refusals.{denied, passed-all, refused-here, refused-late
 use Rattle.operations.specs.declared.checks.Verdict.{Verdict}
 use Rattle.operations.specs.declared.checks.Verdict.the-variants.{Passed}
 use Rattle.operations.specs.Ends.{Buffers, buffers, state, ended, found, ends}
+use Rattle.operations.proofs.ScriptWords.{words-of}
 use Rattle.operations.proofs.Passed.{checksOn, Checked, all-checked, same-checks}
 use Rattle.operations.proofs.Tested.{Tested, refused-past, done-past}
 
@@ -84,7 +85,8 @@ module _ (im pool script heads : List ℕ) (reel : ℕ) where
 
           pub opened : n < g .nodes → (pool' script' : List ℕ) → pool' ≡ mark pool n → script' ≡ written (segmented (openScript g slot n reel)) script
               → ended 0 18 (state im pool' heads) (buffers [] script' []) ≡ ends op start borrowed
-          unfolding granted scratchAfter found segmented stores openScript listed
+          unfolding granted scratchAfter found openScript listed
           opened l pool' script' pool-is script-is =
               let none = passed-all (laterTests g) (omega arith, (omega arith, (omega arith, tt))) in
-              rw (pool-is, script-is, slot-is, n-is, p .geometry) (sym (done-past on-open borrowed p none))
+              ap (λ k. ended 0 k (state im pool' heads) (buffers [] script' [])) (words-of (openScript g slot n reel))
+              ∙ rw (pool-is, script-is, slot-is, n-is, p .geometry) (sym (done-past on-open borrowed p none))

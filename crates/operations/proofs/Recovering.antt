@@ -8,7 +8,7 @@ use native.Mathlib.Omega.{arith}
 use lib.ListN.{length}
 use lib.Dec.{eqb}
 use borrow.Author.Tests.{not-true, not-false}
-use Rattle.tree.specs.Memory.{reads, stores, encode, segmented, written, apply}
+use Rattle.tree.specs.Memory.{reads, stores, apply}
 use Rattle.tree.specs.Test.{is}
 use Rattle.tree.specs.declared.layout.Geometry.{Geometry}
 use Rattle.tree.specs.Layout.{mapWords, geometryOf}
@@ -28,8 +28,8 @@ use Rattle.operations.specs.declared.checks.Verdict.{Verdict}
 use Rattle.operations.specs.declared.checks.Verdict.the-variants.{Refused}
 use Rattle.operations.specs.declared.answer.Refusal as enums
 use Rattle.operations.specs.Answers.{numberOf}
-use Rattle.operations.specs.Ends.{noBuffers, state, ended, found, ends}
-use Rattle.operations.proofs.Endings.{refused-with, done}
+use Rattle.operations.specs.Ends.{noBuffers, state, ended, ends}
+use Rattle.operations.proofs.Endings.{no-script, refused-with, done}
 use Rattle.operations.proofs.Passed.{buffersBad, checksOn, Checked, tests-left, same-checks, ended-early}
 
 module _ (im pool heads : List ℕ) where
@@ -61,15 +61,15 @@ module _ (im pool heads : List ℕ) where
 
     -- the map is cleared, and nothing else is changed
     pub unsound : not r ≡ true → ended 4 0 (state im' pool' heads) noBuffers ≡ ends op start noBuffers
-    unfolding leaves clears scratchAfter found segmented written encode listed
+    unfolding leaves clears scratchAfter listed
     unsound taken =
         let bad = sym r-is ∙ not-true r taken in
         let why : refusal (refusals op start) ≡ 4 = later ∙ refused-here _ _ (rw bad refl) in
-        rw (image-is, pool-is, bad, ← p .map-words) (sym (refused-with op start noBuffers 4 why (omega arith)))
+        rw (image-is, pool-is, bad, ← p .map-words) (sym (refused-with op start noBuffers 4 why (omega arith) ∙ no-script op _ noBuffers refl))
 
     pub recovered : not r ≡ false → ended 0 0 (state im' pool' idleHeads) noBuffers ≡ ends op start noBuffers
-    unfolding granted clears scratchAfter found segmented written encode listed
+    unfolding granted clears scratchAfter listed
     recovered left =
         let fine = sym r-is ∙ not-false r left in
         let none : refusal (refusals op start) ≡ 0 = later ∙ passed-all (laterTests g) (rw fine refl, tt) in
-        rw (image-is, pool-is, fine, p .geometry) (sym (done op start noBuffers none))
+        rw (image-is, pool-is, fine, p .geometry) (sym (done op start noBuffers none ∙ no-script op _ noBuffers refl))

@@ -1,5 +1,5 @@
 -- Retire: how each way through the code ends.
-use mathlib.Core.Path.{_≡_, refl, sym, _∙_}
+use mathlib.Core.Path.{_≡_, refl, sym, _∙_, ap}
 use mathlib.Core.Bool.{Bool, true, false, cond, not}
 use mathlib.Core.Option.{none, some}
 use mathlib.Core.List.{List, [], _∷_}
@@ -7,7 +7,7 @@ use Prim.Native.Nat.{ℕ, _<_}
 use native.Mathlib.Omega.{arith}
 use lib.ListN.{length}
 use borrow.Author.Tests.{not-true, not-false}
-use Rattle.tree.specs.Memory.{reads, store, barrier, stores, segmented, written}
+use Rattle.tree.specs.Memory.{reads, store, barrier, Store, written}
 use Rattle.tree.specs.Test.{is}
 use Rattle.tree.specs.declared.layout.Geometry.{Geometry}
 use Rattle.tree.specs.Layout.{rootAt}
@@ -23,6 +23,7 @@ use Rattle.book.specs.Perform.{granted, leaves, clears}
 use Rattle.book.proofs.Refusals.{passed-all, refused-here, refused-later}
 use Rattle.operations.specs.HeadLists.{headsIn, busyIn}
 use Rattle.operations.specs.Ends.{Buffers, buffers, state, ended, found, ends}
+use Rattle.operations.proofs.ScriptWords.{words-of, fenced-written}
 use Rattle.operations.proofs.Passed.{same-checks}
 use Rattle.operations.proofs.HeadRecords.{busy-read}
 use Rattle.operations.proofs.Tested.{OnReel, SlotRead, rest-bad, rest-done}
@@ -64,8 +65,10 @@ module _ (im pool ws scratch script : List ℕ) (reel : ℕ) where
 
       pub retired : not r ≡ false → (script' : List ℕ) → script' ≡ written (store (rootAt slot) 0 ∷ barrier ∷ []) script
           → ended 0 4 (state im pool' ws) (buffers (clearMap (length scratch)) script' []) ≡ ends op start borrowed
-      unfolding granted scratchAfter found segmented stores listed
+      unfolding granted scratchAfter found listed
       retired left script' script-is =
           let fine = sym r-is ∙ not-false r left in
           let none = passed-all (retireRest g slot) (busy-is false idle, (rw fine refl, tt)) in
-          rw (pool-is, fine, script-is, p .slot-is, p .checked .geometry) (sym (rest-done on-retire borrowed p inside none))
+          let root : Store = (rootAt slot, 0) in
+          ap (λ k. ended 0 k (state im pool' ws) (buffers (clearMap (length scratch)) script' [])) (words-of ((root ∷ []) ∷ []))
+          ∙ rw (pool-is, fine, fenced-written root script script' script-is, p .slot-is, p .checked .geometry) (sym (rest-done on-retire borrowed p inside none))

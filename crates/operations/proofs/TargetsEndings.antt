@@ -10,8 +10,7 @@ use lib.ListN.{length}
 use borrow.Author.Tests.{le-leb, lt-leb}
 use types.Run.{OneOf}
 use denote.Enum.Declared.{tagOf}
-use Rattle.memory.specs.Script.{Store, stores, segmented, written}
-use Rattle.tree.specs.Memory.{Memory, reads}
+use Rattle.tree.specs.Memory.{Store, segmented, written, Memory, reads}
 use Rattle.tree.specs.Test.{le, is, holds}
 use Rattle.tree.specs.declared.layout.Geometry.{Geometry}
 use Rattle.tree.specs.Layout.{geometryOf, setAt, locateAt}
@@ -28,6 +27,7 @@ use Rattle.book.specs.Perform.{fillScript, bitOn, bitOff, writing, putHead, gra
 use Rattle.book.proofs.HeadState.{the-type}
 use Rattle.book.proofs.Refusals.{passed-all, refused-here, refused-later}
 use Rattle.operations.specs.Ends.{Buffers, buffers, ended, countIn, found, ends}
+use Rattle.operations.proofs.ScriptWords.{words-of}
 use Rattle.operations.proofs.Passed.{Checked, same-checks}
 use Rattle.operations.proofs.Tested.{Tested, refused-past, done-past}
 
@@ -120,9 +120,8 @@ not-filled (Filled t) k = absurd (⊎-elim (λ w. omega arith) (λ w. omega arit
 
 -- how many words the scripts have
 pub fill-words : (r : Rule) (g : Geometry) (m : Memory) (t : Target) → 8 ≡ 2 * length (segmented (fillScript r g m t))
-unfolding fillScript stores segmented
-fill-words r g m t = refl
+unfolding fillScript
+fill-words r g m t = words-of (fillScript r g m t)
 
 pub bit-words : (a : Store) → 4 ≡ 2 * length (segmented ((a ∷ []) ∷ []))
-unfolding stores segmented
-bit-words a = refl
+bit-words a = words-of ((a ∷ []) ∷ [])

@@ -4,10 +4,9 @@ ghost use Rattle.book.specs.CarryOut.{carry, carried};
 ghost use Rattle.operations.specs.Answers.{answerOf};
 use crate::answer::Answer;
 use crate::answer::Refusal;
-use memory::apply::Applied;
-use memory::apply::apply as apply_script;
 use tree::layout::bad_image;
 use tree::layout::geometry_in;
+use tree::persistent::carry_out;
 
 // Applies a script of whole entries to the image, or refuses it and writes nothing.
 pub fn apply(image: &mut [u64], script: &[u64]) -> Answer
@@ -17,8 +16,8 @@ pub fn apply(image: &mut [u64], script: &[u64]) -> Answer
     if bad_image(image.len(), g) {
         return Answer::Refused(Refusal::Image);
     }
-    match apply_script(image, script) {
-        Applied::Done => Answer::Done(0),
-        Applied::Refused => Answer::Refused(Refusal::Buffer),
+    if !carry_out(image, script) {
+        return Answer::Refused(Refusal::Buffer);
     }
+    Answer::Done(0)
 }

@@ -15,7 +15,7 @@ use crate::checks::checks;
 use crate::heads::is_busy;
 use book::HEADS;
 use book::Head;
-use memory::script::put_fenced;
+use tree::persistent::put_fenced;
 use tree::pool_map::clear_map;
 use tree::reels::slot_of;
 use walks::trees::free_tree;

@@ -9,11 +9,11 @@ ghost use Rattle.tree.specs.Lists.{range};
 ghost use Rattle.tree.specs.Path.{fanout};
 ghost use Rattle.book.specs.Perform.{newNode};
 use crate::open::put_node;
-use memory::script::put_barrier;
-use memory::script::put_fenced;
-use memory::words::with_bit;
 use tree::layout::Geometry;
 use tree::path::Spot;
+use tree::persistent::put_barrier;
+use tree::persistent::put_fenced;
+use tree::persistent::with_bit;
 
 // A node's locate word.
 pub fn locate_word(image: &[u64], g: Geometry, node: usize) -> u64

@@ -4,8 +4,7 @@ ghost use mathlib.Core.Bool.{cond, not};
 ghost use mathlib.Core.List.{List, [], _∷_};
 ghost use Prim.Native.Nat.{ℕ, _≤_, _<_};
 ghost use lib.ListN.{length};
-ghost use Rattle.memory.specs.Script.{segmented, written};
-ghost use Rattle.tree.specs.Memory.{reads};
+ghost use Rattle.tree.specs.Memory.{segmented, written, reads};
 ghost use Rattle.tree.specs.Test.{holds};
 ghost use Rattle.tree.specs.Layout.{Sized, setAt, locateAt};
 ghost use Rattle.tree.specs.Fingerprint.{ruleOf};
@@ -25,12 +24,12 @@ use book::HEADS;
 use book::Head;
 use book::HeadState;
 use book::Target;
-use memory::script::put_fenced;
-use memory::script::put_fenced_pair;
-use memory::words::with_bit;
-use memory::words::without_bit;
 use tree::fingerprint::fingerprint_word;
 use tree::layout::Geometry;
+use tree::persistent::put_fenced;
+use tree::persistent::put_fenced_pair;
+use tree::persistent::with_bit;
+use tree::persistent::without_bit;
 
 // Is the target's node or place outside? Both are words that the driver keeps, of any size.
 fn is_outside(g: Geometry, t: Target) -> bool

@@ -2,13 +2,12 @@
 use mathlib.Core.Path.{_≡_, refl, sym, _∙_, ap}
 use mathlib.Core.Bool.{Bool, true, false, cond}
 use mathlib.Core.List.{List, _++_}
-use Prim.Native.Nat.{ℕ, _*_, _≤_}
+use Prim.Native.Nat.{ℕ, _≤_}
 use native.Mathlib.Omega.{arith}
 use lib.ListN.{length, drop, length-append, length-drop}
 use lib.Dec.{eqb}
-use Rattle.memory.specs.Script.{encode}
-use Rattle.memory.proofs.Laws.{script-laws}
-use Rattle.tree.specs.Memory.{written, segmented}
+use Rattle.tree.specs.Memory.{segmented}
+use Rattle.tree.proofs.Memory.{script-laws}
 use Rattle.tree.specs.Subtree.{listed}
 use Rattle.book.specs.State.{State, Operation, query, list, Work, leaving}
 use Rattle.book.specs.Refusals.{refusal}
@@ -18,18 +17,15 @@ use Rattle.operations.specs.Ends.{Buffers, Ends, ended, countIn, found, ends}
 use Rattle.reelbook.specs.Laws.{CountsScript, CountLaws}
 
 -- a buffer that is as long with other words at its start in place of its own has room for them
-at-start : (n : ℕ) (xs buffer : List ℕ) → length xs ≡ n → length (xs ++ drop n buffer) ≡ length buffer → n ≤ length buffer
-at-start n xs buffer counted same =
-    let whole = length-append xs (drop n buffer) in
-    let rest = length-drop n buffer in
-    omega arith
+at-start : (xs buffer : List ℕ) → length (xs ++ drop (length xs) buffer) ≡ length buffer → length xs ≤ length buffer
+at-start xs buffer same = omega (arith, length-append xs (drop (length xs) buffer), length-drop (length xs) buffer)
 
 script-inside : (op : Operation) (s : State) (b : Buffers) {n k : ℕ} {s' : State} {b' : Buffers} → CountsScript op
     → ended n k s' b' ≡ ends op s b → length (b' .script) ≡ length (b .script) → k ≤ length (b' .script)
-unfolding ends found written
+unfolding ends found
 script-inside op s b counts e same =
     let es = segmented (perform op s .work .script) in
-    let inside = at-start (2 * length es) (encode es) (b .script) (script-laws .length-encode es) (sym (ap (λ (x : Ends). length (x .buffers .script)) e) ∙ same) in
+    let inside = script-laws .room-written es (b .script) (sym (ap (λ (x : Ends). length (x .buffers .script)) e) ∙ same) in
     rw (ap (λ (x : Ends). x .count) e ∙ counts (perform op s .work), same) inside
 
 -- a refusal hands back nothing
@@ -47,7 +43,7 @@ list-inside : (scratch room reel : ℕ) (s : State) (b : Buffers) {n k : ℕ} {s
 unfolding ends found listed
 list-inside scratch room reel s b e same =
     let fs = perform (query (list scratch room reel)) s .work .handed .listing in
-    let inside = at-start (length fs) fs (b .list) refl (sym (ap (λ (x : Ends). length (x .buffers .list)) e) ∙ same) in
+    let inside = at-start fs (b .list) (sym (ap (λ (x : Ends). length (x .buffers .list)) e) ∙ same) in
     rw (ap (λ (x : Ends). x .count) e ∙ counts-frames scratch room reel s, same) inside
 
 pub count-laws : CountLaws

@@ -25,6 +25,8 @@ use operations::open;
 use operations::recover;
 use operations::retire;
 use operations::targets;
+// how many stores a script has, for those who print it
+pub use tree::persistent::count_stores;
 
 // Makes the image anew, with so many reel slots and nodes.
 #[no_mangle]

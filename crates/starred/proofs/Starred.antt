@@ -1,7 +1,7 @@
 -- The starred cases, computed.
 use mathlib.Core.Path.{refl}
 use mathlib.Core.List.{flatMap}
-use Rattle.tree.specs.Memory.{field, withField, bit, isSet, withBit, withoutBit, byte, withByte, marked, first, stores, segmented, apply}
+use Rattle.tree.specs.MemoryComputed.{field, withField, bit, isSet, withBit, withoutBit, byte, withByte, marked, first, stores, segmented, apply}
 use Rattle.tree.specs.Layout.{badImage, geometryOf}
 use Rattle.tree.specs.Lists.{upTo, range, keep, every, hasKey, distinct}
 use Rattle.tree.specs.Path.{child, fanout}

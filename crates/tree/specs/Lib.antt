@@ -16,5 +16,6 @@ pub mod Same
 pub mod Changes
 pub mod Laws
 pub mod Memory
+pub mod MemoryComputed
 pub mod Pool
 pub mod PoolLaws

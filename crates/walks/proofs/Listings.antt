@@ -7,7 +7,7 @@ use native.Mathlib.Numerals.{add-one}
 use lib.ListN.{length, take, drop, set, length-append, length-drop, length-set, take-append-drop}
 use lib.Seq.{length-take-le, take-at, drop-at, take-suc-set, drop-set-lt, drop-cons, drop-drop}
 use borrow.Rule.Slice.PartMut.{midOf, putMid}
-use Rattle.memory.proofs.Laws.{rest-lent, rest-back}
+use Rattle.slices.proofs.Rest.{rest-lent, rest-back}
 use Rattle.tree.specs.Subtree.{listed}
 
 -- k of all frames are written; with those left, all are listed in the buffer

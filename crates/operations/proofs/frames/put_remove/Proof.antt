@@ -1,14 +1,14 @@
-use Rattle.memory.specs.Script.{stores, segmented}
 use Rattle.book.specs.Perform.{removeScript}
+use Rattle.operations.proofs.ScriptWords.{pair-written}
 use borrow.Author.Needs.{needs}
 use Rattle.operations.proofs.frames.put_remove.Statement.{statement}
 use Rattle.operations.proofs.frames.put_remove.Tie as tie
 
 returns : tie.Need-returns
-unfolding stores segmented removeScript
+unfolding removeScript
 returns c =
     let bits = c .before .before .before in
-    rw (← bits .before .before .without-bit .ensures, ← bits .without-bit2 .ensures) (c .before .before .put-fenced-pair .ensures)
+    rw (← bits .before .before .without-bit .ensures, ← bits .without-bit2 .ensures) (pair-written _ _ _ _ (c .before .before .put-fenced-pair .ensures))
 
 pub put-remove-spec : {M : Type 1} → statement M
 put-remove-spec =

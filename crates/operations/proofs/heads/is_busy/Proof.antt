@@ -1,7 +1,7 @@
 use mathlib.Core.Path.{_≡_, sym, _∙_, ap, subst}
 use Prim.Native.Nat.{ℕ, _-_, _≤_}
 use native.Mathlib.Omega.{arith}
-use Rattle.memory.specs.Laws.{NoneBelow}
+use Rattle.tree.specs.Memory.{NoneBelow}
 use Rattle.book.specs.Heads.{headCount, names}
 use Rattle.operations.specs.HeadLists.{stateIn}
 use Rattle.operations.proofs.HeadRecords.{busy-at, busy-nowhere}

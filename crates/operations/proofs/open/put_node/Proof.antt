@@ -1,17 +1,19 @@
+use mathlib.Core.Path.{sym, _∙_}
 use native.Mathlib.Omega.{arith}
 use lib.ListN.{length-set}
 use lib.Seq.{sets-eq}
-use Rattle.tree.specs.Memory.{encode, written, stores}
+use Rattle.tree.specs.Memory.{storeWords}
+use Rattle.tree.proofs.Memory.{segment-laws}
 use Rattle.book.specs.Perform.{newNode}
 use borrow.Author.Needs.{needs}
 use Rattle.operations.proofs.open.put_node.Statement.{statement}
 use Rattle.operations.proofs.open.put_node.Tie as tie
 
 returns : tie.Need-returns
-unfolding encode written stores
 returns c =
     let a = c .before .args in
-    sets-eq (encode (stores (newNode (a .g) (a .n) (a .level) (a .size)))) (a .script .now) 0 (c .before .pre .0)
+    let made = newNode (a .g) (a .n) (a .level) (a .size) in
+    sets-eq (storeWords made) (a .script .now) 0 (c .before .pre .0) ∙ sym (segment-laws .stores-written made (a .script .now))
 
 pub put-node-spec : {M : Type 1} → statement M
 put-node-spec =

@@ -1,11 +1,10 @@
-use Rattle.tree.specs.Memory.{stores, segmented}
+use Rattle.operations.proofs.ScriptWords.{fenced-written}
 use borrow.Author.Needs.{needs}
 use Rattle.operations.proofs.room_script.put_scale_up.Statement.{statement}
 use Rattle.operations.proofs.room_script.put_scale_up.Tie as tie
 
 returns : tie.Need-returns
-unfolding stores segmented
-returns c = c .before .before .put-fenced .ensures
+returns c = fenced-written _ _ _ (c .before .before .put-fenced .ensures)
 
 pub put-scale-up-spec : {M : Type 1} → statement M
 put-scale-up-spec =

@@ -1,11 +1,10 @@
-use Rattle.tree.specs.Memory.{stores, segmented}
+use Rattle.operations.proofs.ScriptWords.{fenced-written}
 use borrow.Author.Needs.{needs}
 use Rattle.operations.proofs.targets.put_abandon.Statement.{statement}
 use Rattle.operations.proofs.targets.put_abandon.Tie as tie
 
 returns : tie.Need-returns
-unfolding stores segmented
-returns c = rw (← c .before .before .before .without-bit .ensures) (c .before .before .put-fenced .ensures)
+returns c = rw (← c .before .before .before .without-bit .ensures) (fenced-written _ _ _ (c .before .before .put-fenced .ensures))
 
 pub put-abandon-spec : {M : Type 1} → statement M
 put-abandon-spec =

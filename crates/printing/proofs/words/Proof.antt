@@ -1,8 +1,8 @@
 use Prim.Native.Nat.{_≤_, _-_}
 use lib.ListN.{length}
 use borrow.Author.Needs.{needs}
-use Rattle.cases.proofs.print.words.Statement.{statement}
-use Rattle.cases.proofs.print.words.Tie as tie
+use Rattle.printing.proofs.words.Statement.{statement}
+use Rattle.printing.proofs.words.Tie as tie
 
 abbrev Inv-loop : tie.InvT-loop
 Inv-loop label ws i₀ t4 t5 i = i ≤ length ws

@@ -26,10 +26,9 @@ pub fn heads(ws: &[u64; 10]) {
     words(b"  heads:", ws);
 }
 
-// A label, the number of an answer and the words of an image, all on one line.
-pub fn outcome(label: &[u8], answer: u64, image: &[u64]) {
+// A label, an answer and the words of an image, all on one line.
+pub fn outcome(label: &[u8], answer: &[u8], image: &[u64]) {
     io::write_all(STDOUT_FILENO, label);
-    io::write_all(STDOUT_FILENO, b" answer ");
-    io::print_decimal(STDOUT_FILENO, answer);
+    io::write_all(STDOUT_FILENO, answer);
     words(b", image", image);
 }

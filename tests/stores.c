@@ -156,6 +156,7 @@ static void draw_locate(unsigned *expected) {
 
 static void recover_noting(uint64_t answer, const unsigned *expected, const char *what) {
     size_t word, wrong = 0;
+    in_part = 0;
     memset(noted, 0, b.image_words * sizeof *noted);
     protect(PROT_READ);
     equal(book_recover(&b), answer, what);

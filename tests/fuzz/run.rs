@@ -98,7 +98,7 @@ fn watch(finished: impl Fn() -> bool) {
             if seed == NONE || seed != seen.0 {
                 *seen = (seed, Instant::now());
             } else if seen.1.elapsed() > WITHOUT_END {
-                eprintln!("a case does not end; {}", under_way());
+                eprintln!("a case does not end; repeat with make fuzz SEED={}", seed);
                 std::process::exit(1);
             }
         }

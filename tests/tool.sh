@@ -1,6 +1,6 @@
 #!/bin/sh
 # Tries the tool: its commands, its errors, damaged files, then power failures, each held against a model in plain files.
-# tests/tool.sh TOOL SHADOW [SEED [ROUNDS]], SHADOW being what shadow.c is compiled to. A seed always gives the same power failures.
+# tests/tool.sh TOOL SHADOW [SEED [ROUNDS]], SHADOW being what shadow.c is compiled to. A seed gives the same failures each time.
 set -u
 export LC_ALL=C
 here=$(cd "$(dirname "$0")" && pwd)

@@ -1,11 +1,12 @@
 # make tool: build/reelbook. make check-tool: tries its commands, its errors, some hundreds of power failures and each of its
-# barriers, and the program in docs/DRIVER.md.
+# barriers, and the program in docs/DRIVER.md. TOOL_SEED=number takes other power failures.
 .PHONY: tool check-tool
 
 TOOL = build/reelbook
 TOOL_OBJECTS = $(patsubst driver/%.c,build/driver/%.o,$(wildcard driver/*.c))
 DRIVER_PAGE = build/driver/page
 SHADOW = build/shadow.so
+TOOL_SEED ?= 1
 
 tool: $(TOOL)
 
@@ -27,4 +28,4 @@ $(SHADOW): tests/shadow.c
 
 check-tool: $(TOOL) $(DRIVER_PAGE) $(SHADOW)
 	test "$$($(DRIVER_PAGE))" = 'answer 0, held'
-	sh tests/tool.sh $(TOOL) $(SHADOW)
+	sh tests/tool.sh $(TOOL) $(SHADOW) $(TOOL_SEED)

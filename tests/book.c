@@ -26,13 +26,19 @@ uint64_t *zeroed(size_t words) {
     return memory;
 }
 
+uint64_t *junk(size_t words) {
+    uint64_t *memory = zeroed(words);
+    memset(memory, JUNK, words * sizeof *memory);
+    return memory;
+}
+
 void book_format(struct book *b, uint64_t slots, uint64_t nodes) {
-    memset(b, 0, sizeof *b);
+    memset(b, JUNK, sizeof *b);
     b->image_words = reelbook_image_words(slots, nodes);
     b->map_words = reelbook_map_words(nodes);
-    b->image = zeroed(b->image_words);
-    b->map = zeroed(b->map_words);
-    b->scratch = zeroed(b->map_words);
+    b->image = junk(b->image_words);
+    b->map = junk(b->map_words);
+    b->scratch = junk(b->map_words);
     equal(reelbook_format(b->image, b->image_words, b->map, b->map_words, b->heads, slots, nodes), REELBOOK_DONE, "format");
 }
 
@@ -42,9 +48,21 @@ void book_free(struct book *b) {
     free(b->scratch);
 }
 
-/* Carries the script out as a driver does. */
+/* Where a count is handed back, with junk in it. */
+static uint64_t *fresh(uint64_t *count) {
+    memset(count, JUNK, sizeof *count);
+    return count;
+}
+
+/* Carries the script out as a driver does. A refused call hands back none. */
 static uint64_t carried_out(struct book *b, uint64_t answer) {
     uint64_t at;
+    if (answer != REELBOOK_DONE) {
+        equal(b->used, 0, "words of script after a refusal");
+        return answer;
+    }
+    equal(b->used <= REELBOOK_SCRIPT_WORDS, 1, "a count of words inside the script");
+    b->used = b->used <= REELBOOK_SCRIPT_WORDS ? b->used : 2;
     for (at = 0; at < b->used; at += 2) {
         if (b->script[at] != REELBOOK_BARRIER) {
             b->image[b->script[at]] = b->script[at + 1];
@@ -60,35 +78,35 @@ static uint64_t carried_out(struct book *b, uint64_t answer) {
 #define SCRIPT b->script, REELBOOK_SCRIPT_WORDS
 
 uint64_t book_open(struct book *b, uint64_t reel) {
-    return carried_out(b, reelbook_open(IMAGE, MAP, SCRIPT, reel, &b->used));
+    return carried_out(b, reelbook_open(IMAGE, MAP, SCRIPT, reel, fresh(&b->used)));
 }
 
 uint64_t book_claim(struct book *b, uint64_t head, uint64_t reel, uint64_t frame) {
-    return carried_out(b, reelbook_claim(IMAGE, MAP, b->heads, SCRIPT, head, reel, frame, &b->used));
+    return carried_out(b, reelbook_claim(IMAGE, MAP, b->heads, SCRIPT, head, reel, frame, fresh(&b->used)));
 }
 
 uint64_t book_fill(struct book *b, uint64_t head) {
-    return carried_out(b, reelbook_fill(IMAGE, b->heads, SCRIPT, head, &b->used));
+    return carried_out(b, reelbook_fill(IMAGE, b->heads, SCRIPT, head, fresh(&b->used)));
 }
 
 uint64_t book_commit(struct book *b, uint64_t head) {
-    return carried_out(b, reelbook_commit(IMAGE, b->heads, SCRIPT, head, &b->used));
+    return carried_out(b, reelbook_commit(IMAGE, b->heads, SCRIPT, head, fresh(&b->used)));
 }
 
 uint64_t book_abandon(struct book *b, uint64_t head) {
-    return carried_out(b, reelbook_abandon(IMAGE, b->heads, SCRIPT, head, &b->used));
+    return carried_out(b, reelbook_abandon(IMAGE, b->heads, SCRIPT, head, fresh(&b->used)));
 }
 
 uint64_t book_remove(struct book *b, uint64_t reel, uint64_t frame) {
-    return carried_out(b, reelbook_remove(IMAGE, b->heads, SCRIPT, reel, frame, &b->used));
+    return carried_out(b, reelbook_remove(IMAGE, b->heads, SCRIPT, reel, frame, fresh(&b->used)));
 }
 
 uint64_t book_retire(struct book *b, uint64_t reel) {
-    return carried_out(b, reelbook_retire(IMAGE, MAP, b->heads, SCRATCH, SCRIPT, reel, &b->used));
+    return carried_out(b, reelbook_retire(IMAGE, MAP, b->heads, SCRATCH, SCRIPT, reel, fresh(&b->used)));
 }
 
 uint64_t book_list(struct book *b, size_t room, uint64_t reel) {
-    return reelbook_list(IMAGE, SCRATCH, b->list, room, reel, &b->count);
+    return reelbook_list(IMAGE, SCRATCH, b->list, room, reel, fresh(&b->count));
 }
 
 uint64_t book_recover(struct book *b) {

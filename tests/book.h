@@ -4,7 +4,8 @@
 
 #include "reelbook.h"
 
-enum { LIST_WORDS = 1024 };
+/* JUNK is each byte of what a call is lent and does not read: a 0 that is found there afterwards was written. */
+enum { LIST_WORDS = 1024, JUNK = 0x5a };
 
 struct book {
     uint64_t *image, *map, *scratch;
@@ -19,8 +20,9 @@ struct book {
 extern unsigned checks, failures;
 void equal(uint64_t found, uint64_t expected, const char *what);
 
-/* Zeroed memory; the program ends if there is none. */
+/* Memory, zeroed or of junk; the program ends if there is none. */
 uint64_t *zeroed(size_t words);
+uint64_t *junk(size_t words);
 
 void book_format(struct book *b, uint64_t slots, uint64_t nodes);
 void book_free(struct book *b);

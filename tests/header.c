@@ -10,7 +10,7 @@ enum { REELS = 3, NODES = 24 };
 /* The answer of a format with these lengths. */
 static uint64_t format_answer(size_t image_words, size_t map_words, uint64_t slots, uint64_t nodes) {
     uint64_t heads[REELBOOK_HEADS_WORDS];
-    uint64_t *image = zeroed(image_words), *map = zeroed(map_words);
+    uint64_t *image = junk(image_words), *map = junk(map_words);
     uint64_t answer = reelbook_format(image, image_words, map, map_words, heads, slots, nodes);
     free(image);
     free(map);
@@ -112,10 +112,11 @@ static void check_tree_words(void) {
 
 static void check_script(void) {
     struct book b;
-    uint64_t *shorter = zeroed(REELBOOK_SCRIPT_WORDS - 1);
+    uint64_t *shorter = junk(REELBOOK_SCRIPT_WORDS - 1);
     book_format(&b, REELS, NODES);
     equal(reelbook_open(b.image, b.image_words, b.map, b.map_words, shorter, REELBOOK_SCRIPT_WORDS - 1, 7, &b.used),
           REELBOOK_BAD_BUFFER, "open with a script one word short");
+    equal(b.used, 0, "words of script after a refusal");
     equal(book_open(&b, 7), REELBOOK_DONE, "open with REELBOOK_SCRIPT_WORDS");
     equal(b.script[b.used - 2], REELBOOK_BARRIER, "REELBOOK_BARRIER");
     equal(b.script[b.used - 1], 0, "a barrier's value");

@@ -1,47 +1,94 @@
 /* Recover's stores to the image, one by one, since no contract sees the middle of it: one to each locate word that differs, and
- * none to any other word, not even of the value that it has. The image is lent write-protected: a store faults, is noted, and is
- * let through alone by the trap flag. Linux on x86-64. */
+ * none to any other word, not even of the value that it has. The image is lent write-protected: a store faults, and is let
+ * through alone by the trap flag. It is made twice, first on the complement of the image and then on the image, and noted at
+ * every byte that has changed in one of the two: whatever it stores there, and however many bytes at once. Not seen is a byte,
+ * other than the first, of an instruction that reads the image too and puts back what it read.
+ * Linux on x86-64. */
 #define _GNU_SOURCE
+#include <stdio.h>
+
+#if defined __linux__ && defined __x86_64__
+
 #include "book.h"
 
 #include <signal.h>
-#include <stdio.h>
 #include <stdlib.h>
 #include <string.h>
 #include <sys/mman.h>
 #include <ucontext.h>
 #include <unistd.h>
 
-enum { SLOTS = 3, NODES = 40, ROUNDS = 200, TRAP_FLAG = 0x100 };
+enum { SLOTS = 3, NODES = 40, ROUNDS = 200, TRAP_FLAG = 0x100, WORD = sizeof(uint64_t) };
 
 static struct book b;
 static unsigned *noted; /* stores to each word of the image */
-static uint64_t unaligned;
+static uint64_t in_part; /* stores to some bytes of a word and not to others */
+
+/* The store under way: registers and image before it, the bytes that it reaches, and whether it is made on the complement. */
+static gregset_t registers;
+static uint64_t *before;
+static unsigned char *reached;
+static int on_complement;
 
 static void protect(int protection) {
-    if (mprotect(b.image, b.image_words * sizeof *b.image, protection) != 0) {
+    if (mprotect(b.image, b.image_words * WORD, protection) != 0) {
         perror("stores: mprotect");
         _exit(2);
     }
 }
 
+/* The store is about to be made: its first byte is known. */
 static void on_fault(int number, siginfo_t *info, void *context) {
     ucontext_t *machine = (ucontext_t *)context;
-    size_t at = (size_t)((char *)info->si_addr - (char *)b.image);
-    if (at / sizeof *b.image >= b.image_words) {
+    size_t at = (size_t)((char *)info->si_addr - (char *)b.image), word;
+    if (at / WORD >= b.image_words) {
         signal(number, SIG_DFL); /* not the image: the fault comes again and ends the program */
         return;
     }
-    unaligned += at % sizeof *b.image != 0;
-    noted[at / sizeof *b.image]++;
     protect(PROT_READ | PROT_WRITE);
+    reached[at] = 1;
+    for (word = 0; word < b.image_words; word++) {
+        before[word] = b.image[word];
+        b.image[word] = ~before[word];
+    }
+    on_complement = 1;
+    memcpy(registers, machine->uc_mcontext.gregs, sizeof registers);
     machine->uc_mcontext.gregs[REG_EFL] |= TRAP_FLAG;
 }
 
+/* Notes the words that the store has reached. */
+static void note_words(void) {
+    size_t word, byte;
+    unsigned bytes;
+    for (word = 0; word < b.image_words; word++) {
+        bytes = 0;
+        for (byte = WORD * word; byte < WORD * (word + 1); byte++) {
+            bytes += reached[byte];
+            reached[byte] = 0;
+        }
+        noted[word] += bytes != 0;
+        in_part += bytes != 0 && bytes != WORD;
+    }
+}
+
+/* The store is made, on the complement or on the image. */
 static void on_step(int number, siginfo_t *info, void *context) {
     ucontext_t *machine = (ucontext_t *)context;
+    const unsigned char *old = (const unsigned char *)before, *now = (const unsigned char *)b.image;
+    size_t byte;
     (void)number;
     (void)info;
+    for (byte = 0; byte < WORD * b.image_words; byte++) {
+        reached[byte] |= now[byte] != (on_complement ? (unsigned char)~old[byte] : old[byte]);
+    }
+    if (on_complement) {
+        on_complement = 0;
+        memcpy(b.image, before, b.image_words * WORD);
+        memcpy(machine->uc_mcontext.gregs, registers, sizeof registers);
+        machine->uc_mcontext.gregs[REG_EFL] |= TRAP_FLAG;
+        return;
+    }
+    note_words();
     protect(PROT_READ);
     machine->uc_mcontext.gregs[REG_EFL] &= ~(greg_t)TRAP_FLAG;
 }
@@ -109,6 +156,7 @@ static void draw_locate(unsigned *expected) {
 
 static void recover_noting(uint64_t answer, const unsigned *expected, const char *what) {
     size_t word, wrong = 0;
+    in_part = 0;
     memset(noted, 0, b.image_words * sizeof *noted);
     protect(PROT_READ);
     equal(book_recover(&b), answer, what);
@@ -117,7 +165,7 @@ static void recover_noting(uint64_t answer, const unsigned *expected, const char
         wrong += noted[word] != expected[word];
     }
     equal(wrong, 0, "words not stored to as often as due");
-    equal(unaligned, 0, "stores that are not of a whole word");
+    equal(in_part, 0, "stores to a part of a word");
 }
 
 /* A malformed node, found early or late in the walk: no store at all. */
@@ -141,6 +189,8 @@ int main(void) {
     int round;
     make_book();
     noted = (unsigned *)zeroed(b.image_words);
+    before = zeroed(b.image_words);
+    reached = (unsigned char *)zeroed(b.image_words);
     expected = (unsigned *)zeroed(b.image_words);
     map = zeroed(b.map_words);
     memcpy(map, b.map, b.map_words * sizeof *map);
@@ -156,8 +206,19 @@ int main(void) {
     b.image = NULL;
     book_free(&b);
     free(noted);
+    free(before);
+    free(reached);
     free(expected);
     free(map);
     printf("stores: %u checks, %u failures\n", checks, failures);
     return failures != 0;
 }
+
+#else
+
+int main(void) {
+    puts("skipped: Recover's stores one by one, because they are watched by a way of Linux on x86-64");
+    return 0;
+}
+
+#endif

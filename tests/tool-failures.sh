@@ -76,16 +76,18 @@ reelbook: open: ended before the power failure, after 11 entries"
 # Power failures in random commands.
 
 # What each round does, to which reel; where the power fails, as a part of its entries, from 1 on after all; a seed; how many
-# recoveries are cut short after it; frames, or, to remove some, numbers to choose them by.
+# recoveries are cut short after it; frames, or, to remove some, numbers to choose them by. The numbers are drawn here, since
+# every awk has a rand() of its own.
 plan() {
     awk -v seed="$seed" -v rounds="$rounds" '
-        function below(n) { return int(rand() * n) }
+        function part() { return (state = state * 16807 % 2147483647) / 2147483647 }
+        function below(n) { return int(part() * n) }
         BEGIN {
-            srand(seed)
+            state = 1 + seed % 2147483646
             for (round = 0; round < rounds; round++) {
                 kind = below(20)
                 kind = kind < 10 ? "add" : kind < 13 ? "remove" : kind < 17 ? "open" : kind < 18 ? "retire" : "recover"
-                printf "%s %d %f %d %d", kind, 1 + int(below(21) / 5), rand() * 1.4, below(2147483647), below(3)
+                printf "%s %d %f %d %d", kind, 1 + int(below(21) / 5), part() * 1.4, below(2147483647), below(3)
                 for (frames = 1 + below(3); frames > 0; frames--)
                     printf " %d", below(2) ? 32 + below(160) : 64 * below(100)
                 print ""
@@ -237,7 +239,10 @@ try_power_failures() {
     done
     plan >rounds
     while read -r line <&4; do round $line; done 4<rounds
-    [ "$rounds" -lt 100 ] && return # too few for all kinds to come
+    if [ "$rounds" -lt 100 ]; then
+        skip 'how many power failures of each kind there were' "$rounds rounds are too few for all kinds to come"
+        return
+    fi
     holds test "$failures" -gt "$((rounds / 3))"
     holds test "$kept" -gt 0
     holds test "$cuts" -gt 0

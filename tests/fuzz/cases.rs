@@ -2,9 +2,15 @@
 use crate::model::buffer::Buffer;
 use crate::model::call::{Call, Function, Function::*, Lent};
 use crate::model::image::*;
-use crate::model::node::{child, fingerprint, NEXT, SIZE_AT};
+use crate::model::node::{FINGERPRINTS, SIZE_AT};
 use crate::model::script::{self, BARRIER, SCRIPT_WORDS};
 use crate::subject::Subject;
+
+/// What every word holds before it is written, so that no result is there already.
+const JUNK: u64 = 0x5a5a_5a5a_5a5a_5a5a;
+
+/// Answer, node and place of a claim.
+type Claimed = (u64, u64, u64);
 
 struct Book {
     subject: Subject,
@@ -13,35 +19,35 @@ struct Book {
 
 impl Book {
     fn formatted(subject: Subject, slots: u64, nodes: u64) -> Book {
-        let zeros = |words: u64| Buffer::of((0..words).map(|_| 0));
+        let junk = |words: u64| Buffer::of((0..words).map(|_| JUNK));
         let lent = Lent {
-            image: zeros(image_words(slots, nodes)),
-            map: zeros(map_words(nodes)),
-            heads: zeros(HEADS * HEAD_WORDS as u64),
-            script: zeros(SCRIPT_WORDS as u64),
-            scratch: zeros(map_words(nodes)),
-            list: zeros(1024),
+            image: junk(image_words(slots, nodes)),
+            map: junk(map_words(nodes)),
+            heads: junk(HEADS * HEAD_WORDS as u64),
+            script: junk(SCRIPT_WORDS as u64),
+            scratch: junk(map_words(nodes)),
+            list: junk(1024),
         };
         let mut book = Book { subject, lent };
         let format = Call { function: Format, slots, nodes, head: 0, reel: 0, frame: 0 };
-        book.subject.perform(&format, &mut book.lent, 0);
+        book.subject.perform(&format, &mut book.lent, JUNK);
         book
     }
 
-    /// Answer, stores and value, as the bench program prints them.
+    /// Answer, stores and value, as the bench program prints them; a refusal's value is the count that it handed back.
     fn call(&mut self, function: Function, reel: u64, frame: u64) -> (u64, u64, u64) {
         let call = Call { function, slots: 0, nodes: 0, head: 0, reel, frame };
-        let (answer, count) = self.subject.perform(&call, &mut self.lent, 0);
-        if matches!(function, Has | List) {
+        let (answer, count) = self.subject.perform(&call, &mut self.lent, JUNK);
+        if answer != 0 || matches!(function, Has | List) {
             return (answer, 0, count);
         }
-        let entries = script::read(&self.lent.script[..count as usize]);
+        let used = (count as usize).min(SCRIPT_WORDS);
+        let entries = script::read(&self.lent.script[..used]);
         script::carry_out(&mut self.lent.image, &entries);
         (answer, entries.iter().filter(|&&entry| entry != BARRIER).count() as u64, 0)
     }
 
-    /// Adds a frame. The claim's answer, and the node and place that it got.
-    fn add(&mut self, reel: u64, frame: u64) -> (u64, u64, u64) {
+    fn add(&mut self, reel: u64, frame: u64) -> Claimed {
         let (answer, _, _) = self.call(Claim, reel, frame);
         let head = Head::read(&self.lent.heads, 0);
         self.call(Fill, 0, 0);
@@ -54,10 +60,40 @@ impl Book {
     }
 }
 
-fn children_and_fingerprints() -> bool {
-    [(8, 1), (16, 2), (24, 3)].iter().all(|&(frame, number)| child(3, frame) == number)
-        && [(1 << 57, 1), (1 << 58, 2)].iter().all(|&(frame, number)| child(30, frame) == number)
-        && [(0, 144), (1, 113), (1 << 32, 144)].iter().all(|&(frame, print)| fingerprint(frame) == print)
+/// A reel of frames that agree in their low bits: each node of one path is full, down to the level named; then some frames.
+fn below_full_path(subject: Subject, nodes: u64, full: impl Iterator<Item = u64>, frames: &[u64]) -> Vec<Claimed> {
+    let mut book = Book::formatted(subject, 1, nodes);
+    book.call(Open, 7, 0);
+    for frame in full {
+        book.add(7, frame);
+    }
+    frames.iter().map(|&frame| book.add(7, frame)).collect()
+}
+
+/// Frames 8, 16 and 24 go to children 1, 2 and 3 of level 3. Its node is 5, and the next run of four free nodes begins at 7.
+fn children_of_level_3(subject: Subject) -> bool {
+    let full = (1..=4 * 64).map(|number| 32 * number);
+    below_full_path(subject, 11, full, &[8, 16, 24]) == [(0, 8, 0), (0, 9, 0), (0, 10, 0)]
+}
+
+/// Frames 2^57 and 2^58 go to children 1 and 2 of level 30. Its node is 111, the last of 31 on a path, and its children follow.
+fn children_of_level_30(subject: Subject) -> bool {
+    let frames = |low: u64, bits: u64, count: u64| (0..count).map(move |high| low << (bits - 2) | high << bits);
+    let down_to_27 = frames(1, 53, 28 * 64);
+    let levels_28_and_29 = frames(1, 55, 64).chain(frames(1, 57, 64));
+    let level_30 = frames(3, 59, 32).chain(frames(0, 59, 32));
+    let full = down_to_27.chain(levels_28_and_29).chain(level_30);
+    below_full_path(subject, 119, full, &[1 << 57, 1 << 58]) == [(0, 116, 0), (0, 117, 0)]
+}
+
+/// Bytes 0, 1 and 2 of the root's first fingerprint word, the others as they were.
+fn fingerprints(subject: Subject) -> bool {
+    let mut book = Book::formatted(subject, 1, 1);
+    book.call(Open, 7, 0);
+    for frame in [0, 1, 1 << 32] {
+        book.add(7, frame);
+    }
+    book.node_word(0, FINGERPRINTS) == JUNK >> 24 << 24 | 144 << 16 | 113 << 8 | 144
 }
 
 /// Sizes and places of the 16th, 17th and 33rd frame; the 65th in child 0, or refused where there is one node.
@@ -71,7 +107,7 @@ fn growth(subject: Subject, nodes: u64) -> bool {
     }
     let last = book.add(7, 64);
     let grown = places[15] == (0, 0, 15, 16) && places[16] == (0, 0, 16, 32) && places[32] == (0, 0, 32, 64);
-    grown && if nodes == 1 { last.0 == 8 } else { last == (0, book.node_word(0, NEXT) - 1, 0) }
+    grown && if nodes == 1 { last.0 == 8 } else { last == (0, 1, 0) }
 }
 
 /// Four nodes, of which two are free that are not adjacent.
@@ -97,7 +133,9 @@ fn case_a(subject: Subject) -> bool {
 /// True if the subject gives the specification's results. Prints those that it does not.
 pub fn check(name: &str, subject: Subject) -> bool {
     let results = [
-        ("children and fingerprints", children_and_fingerprints()),
+        ("children of level 3", children_of_level_3(subject)),
+        ("children of level 30", children_of_level_30(subject)),
+        ("fingerprints", fingerprints(subject)),
         ("growth in a pool of one node", growth(subject, 1)),
         ("growth in a pool of three", growth(subject, 3)),
         ("two free nodes but no run", no_run(subject)),

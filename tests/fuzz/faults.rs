@@ -1,36 +1,50 @@
-//! The deliberate faults of the model, each to be found by the same cases as the library's would be.
+//! The deliberate faults, each to be found by the same cases as the library's would be: those of the model, and those in the
+//! library's place, by which the comparison itself is tried.
 use crate::coverage::Coverage;
 use crate::model::fault::Fault;
 use crate::run::{case, Kind};
+use crate::spoil;
 use crate::subject::Subject;
-use std::time::{Duration, Instant};
 
 const BASE: u64 = 2;
-const LIMIT: Duration = Duration::from_secs(20);
 
-/// After how many cases the fault is found, within the time.
-fn find(fault: Fault, kind: Kind, limit: Duration) -> Option<u64> {
-    let deadline = Instant::now() + limit;
-    (0..).take_while(|_| Instant::now() < deadline).find(|&number| {
-        let seed = kind.seed(BASE, number);
-        case(seed, Subject::Faulty(fault), &mut Coverage::default()).is_err()
-    })
+/// Cases in which a fault has to be found: ten times as many as any of them needs.
+const MOST_CALLS: u64 = 20_000;
+const MOST_HISTORIES: u64 = 1000;
+
+/// After how many cases there is a difference, if there is one.
+fn find(subject: Subject, kind: Kind, most: u64) -> Option<u64> {
+    (1..=most).find(|&number| case(kind.seed(BASE, number), subject, &mut Coverage::default()).is_err())
+}
+
+/// True if the fault is found.
+fn try_fault(name: String, subject: Subject, kind: Kind, most: u64) -> bool {
+    let found = find(subject, kind, most);
+    let verdict = found.map_or(format!("FAILED: not found in {} cases", most), |number| format!("found in case {}", number));
+    println!("{:70} {}", name, verdict);
+    found.is_some()
+}
+
+/// True if nothing is found where there is no fault, in a tenth of the cases.
+fn try_none(name: &str, subject: Subject, kind: Kind, most: u64) -> bool {
+    let found = find(subject, kind, most / 10);
+    println!("{:70} {}", name, if found.is_none() { "none found" } else { "FAILED: one found" });
+    found.is_none()
 }
 
 /// True if every fault is found, and none where there is none.
 pub fn find_all() -> bool {
-    let mut good = true;
-    for (kind, name, faults) in
-        [(Kind::Calls, "calls", &Fault::OF_CALLS[..]), (Kind::Histories, "histories", &Fault::OF_HISTORIES)]
-    {
-        let none = find(Fault::None, kind, Duration::from_secs(1));
-        println!("{:70} {}", format!("{}: no fault", name), if none.is_none() { "none found" } else { "FAILED: one found" });
-        good &= none.is_none();
+    let (calls, histories) = ((Kind::Calls, MOST_CALLS), (Kind::Histories, MOST_HISTORIES));
+    let mut good = try_none("calls: no fault", Subject::Faulty(Fault::None), calls.0, calls.1);
+    good &= try_none("histories: no fault", Subject::Faulty(Fault::None), histories.0, histories.1);
+    for (name, (kind, most), faults) in [("calls", calls, &Fault::OF_CALLS[..]), ("histories", histories, &Fault::OF_HISTORIES)] {
         for &(fault, text) in faults {
-            let found = find(fault, kind, LIMIT);
-            let verdict = found.map_or("FAILED: not found".to_string(), |number| format!("found in case {}", number + 1));
-            println!("{:70} {}", format!("{}: {}", name, text), verdict);
-            good &= found.is_some();
+            good &= try_fault(format!("{}: {}", name, text), Subject::Faulty(fault), kind, most);
+        }
+    }
+    for (name, (kind, most), spoils) in [("calls", calls, &spoil::OF_CALLS[..]), ("histories", histories, &spoil::OF_HISTORIES)] {
+        for spoil in spoils {
+            good &= try_fault(format!("{}, library: {}", name, spoil.text), Subject::Spoilt(spoil), kind, most);
         }
     }
     println!("faults: {}", if good { "each found" } else { "FAILED" });

@@ -1,4 +1,4 @@
-//! Fuzzing of the library against the model: cases for some seconds, one case again, or the deliberate faults.
+//! Fuzzing of the library against the model: a number of cases, one case again, or the deliberate faults.
 //! A case is known by its seed: an even one is some calls on one image, an odd one a history with crashes.
 mod calls;
 mod cases;
@@ -16,15 +16,16 @@ mod random;
 mod recovery;
 mod report;
 mod run;
+mod spoil;
 mod subject;
 mod trees;
 
 use std::process::exit;
-use std::time::{Duration, SystemTime, UNIX_EPOCH};
+use std::time::{SystemTime, UNIX_EPOCH};
 
-const USAGE: &str = "usage: fuzz SECONDS [random] | fuzz case SEED | fuzz faults";
+const USAGE: &str = "usage: fuzz CASES [random] | fuzz case SEED | fuzz faults";
 
-/// The base of the gate's cases: the same ones each time, as far as the time goes.
+/// The base of the gate's cases: the same ones each time.
 const BASE: u64 = 1;
 
 fn number(text: &str) -> u64 {
@@ -40,10 +41,10 @@ fn main() {
     let good = match words[..] {
         ["faults"] => faults::find_all(),
         ["case", seed] => run::repeat(number(seed)),
-        [seconds] => run::run(Duration::from_secs(number(seconds)), BASE),
-        [seconds, "random"] => {
+        [cases] => run::run(number(cases), BASE),
+        [cases, "random"] => {
             let time = SystemTime::now().duration_since(UNIX_EPOCH).map_or(BASE, |time| time.as_nanos() as u64);
-            run::run(Duration::from_secs(number(seconds)), time)
+            run::run(number(cases), time)
         }
         _ => {
             eprintln!("{}", USAGE);

@@ -1,5 +1,5 @@
-//! Crashes of a history: every image that one can leave is recovered, by recoveries that crash too, and is then the table's of
-//! before or after, with idle heads and the map of the nodes reached.
+//! Crashes of a history: every image that one can leave is recovered, by recoveries that crash too, and then has the frames and
+//! the nodes of before or after, with idle heads, the map of the nodes reached and their locate words.
 use crate::crash::Crash;
 use crate::history::History;
 use crate::model::buffer::Buffer;
@@ -7,12 +7,12 @@ use crate::model::call::{Call, Function, Lent};
 use crate::model::ending::Ending;
 use crate::model::fault::Fault;
 use crate::model::image::*;
-use crate::model::node::LEVEL_AT;
-use crate::model::script::{Entry, BARRIER};
+use crate::model::node::{LEVEL_AT, LOCATE, SET};
+use crate::model::script::{carry_out, Entry, BARRIER};
 use crate::model::table::{self, Reels, Table};
 use crate::model::tree;
 use crate::report::reels_differ;
-use std::collections::HashSet;
+use std::collections::{BTreeSet, HashSet};
 
 const SOME_MIXTURES: u64 = 4;
 const MOST_CUTS: u64 = 3;
@@ -21,16 +21,22 @@ fn unsound(ending: Ending) -> String {
     format!("the image is not sound: {}", ending.shape)
 }
 
-/// The image's reels with their frames, and the map of the nodes reached.
-fn contents(image: Image) -> Result<(Reels, Vec<u64>), String> {
-    let mut map = vec![0; map_words(image.nodes) as usize];
-    image.sound().map_err(unsound)?.iter().for_each(|&node| mark_used(&mut map, node));
+/// An image's reels with their frames, and the nodes reached.
+#[derive(PartialEq, Eq)]
+struct Contents {
+    reels: Reels,
+    nodes: BTreeSet<u64>,
+}
+
+fn contents(words: &[u64]) -> Result<Contents, String> {
+    let image = Image::read(words, Fault::None).map_err(unsound)?;
+    let nodes = image.sound().map_err(unsound)?.into_iter().collect();
     let mut reels = Reels::new();
     for slot in image.filled_slots() {
         let walk = image.walk(image.root(slot), &mut HashSet::new()).map_err(unsound)?;
         reels.insert(image.reel(slot), tree::frames(&walk).into_iter().collect());
     }
-    Ok((reels, map))
+    Ok(Contents { reels, nodes })
 }
 
 /// The highest level of a node in use.
@@ -40,16 +46,23 @@ pub fn deepest(lent: &Lent) -> u64 {
     (0..nodes).filter(|&node| is_used(&lent.map, node)).map(level).max().unwrap_or(0)
 }
 
-/// The book is the table's, and its map has the nodes reached.
+/// The book is the table's. Its map has the nodes reached, and their locate words have the places held and those claimed.
 pub fn check_book(lent: &Lent, table: &Table) -> Result<(), String> {
-    let image = Image::read(&lent.image, Fault::None).map_err(unsound)?;
-    let (reels, map) = contents(image)?;
+    let Contents { reels, nodes } = contents(&lent.image)?;
     if reels != table.reels {
         return Err(reels_differ(&table.reels, &reels));
     }
+    let mut map = vec![0; lent.map.len()];
+    nodes.iter().for_each(|&node| mark_used(&mut map, node));
     if map != lent.map[..] {
         return Err(format!("nodes reached {:x?}, map {:x?}", map, &lent.map[..]));
     }
+    check_heads(lent, table)?;
+    check_locate(lent, &nodes)
+}
+
+fn check_heads(lent: &Lent, table: &Table) -> Result<(), String> {
+    let image = Image::read(&lent.image, Fault::None).map_err(unsound)?;
     for head in 0..HEADS {
         let record = Head::read(&lent.heads, head);
         let about = |reel: u64, frame: u64| Some(record.slot) == image.slot_of(reel) && record.frame == frame;
@@ -65,17 +78,34 @@ pub fn check_book(lent: &Lent, table: &Table) -> Result<(), String> {
     Ok(())
 }
 
+fn check_locate(lent: &Lent, nodes: &BTreeSet<u64>) -> Result<(), String> {
+    let heads: Vec<Head> = (0..HEADS).map(|head| Head::read(&lent.heads, head)).collect();
+    for &node in nodes {
+        let word = |word: u64| lent.image[(node_index(lent.image[1], node) + word) as usize];
+        let claims = heads.iter().filter(|head| head.state != State::Idle && head.node == node);
+        let expected = claims.fold(word(SET), |places, head| places | 1 << head.place);
+        if word(LOCATE) != expected {
+            return Err(format!("node {}: expected locate {:x}, found {:x}", node, expected, word(LOCATE)));
+        }
+    }
+    Ok(())
+}
+
 impl History<'_> {
     /// In a script: at every moment of it, or at one.
     pub fn crash_in_script(&mut self, function: Function, entries: &[Entry], before: &Reels) -> Result<(), String> {
-        let (image, after) = (self.lent.image.clone(), self.table.reels.clone());
+        let image = self.lent.image.clone();
+        let before = Contents { reels: before.clone(), nodes: contents(&image)?.nodes };
+        let mut carried = image.clone();
+        carry_out(&mut carried, entries);
+        let after = Contents { reels: self.table.reels.clone(), nodes: contents(&carried)?.nodes };
         let moments = entries.len() as u64 + 1;
         let first = self.random.below(moments);
         for moment in first..first + if self.plan.every_moment { moments } else { 1 } {
             let (done, left) = entries.split_at((moment % moments) as usize);
             let passed = !left.contains(&BARRIER);
             self.coverage.crash(function, entries.len(), done.len());
-            self.crash(&Crash::after(&image, done), before, &after, passed)
+            self.crash(&Crash::after(&image, done), &before, &after, passed)
                 .map_err(|text| format!("crash after {} of {} entries: {}", done.len(), entries.len(), text))?;
         }
         Ok(())
@@ -84,11 +114,12 @@ impl History<'_> {
     /// In a Recover that the history has, or between it and the driver's barrier.
     pub fn crash_in_recover(&mut self, image: &Buffer, reels: &Reels) -> Result<(), String> {
         self.coverage.crash(Function::Recover, 0, 0);
-        self.crash(&Crash::in_recover(image, &self.lent.image), reels, reels, false)
+        let both = Contents { reels: reels.clone(), nodes: contents(image)?.nodes };
+        self.crash(&Crash::in_recover(image, &self.lent.image), &both, &both, false)
     }
 
     /// Tries what the crash can leave, and goes on from the last one tried. `passed`: the script's last barrier has passed.
-    fn crash(&mut self, crash: &Crash, before: &Reels, after: &Reels, passed: bool) -> Result<(), String> {
+    fn crash(&mut self, crash: &Crash, before: &Contents, after: &Contents, passed: bool) -> Result<(), String> {
         let mixtures = crash.mixtures();
         let all = mixtures <= self.plan.mixtures;
         let first = self.random.below(mixtures);
@@ -97,19 +128,23 @@ impl History<'_> {
             self.lent.image = crash.mixture(number);
             let undone =
                 self.recovered(before, after, passed).map_err(|text| format!("mixture {} of {}: {}", number, mixtures, text))?;
-            self.coverage.mixture(undone, before != after);
+            self.coverage.mixture(undone, before.reels != after.reels);
         }
         Ok(())
     }
 
-    /// Recovers, and takes the table of before or after, whichever the image then is. True if it is before's.
-    fn recovered(&mut self, before: &Reels, after: &Reels, passed: bool) -> Result<bool, String> {
+    /// Recovers, and takes the table of before or after, whichever the image then is, whole. True if it is before's.
+    fn recovered(&mut self, before: &Contents, after: &Contents, passed: bool) -> Result<bool, String> {
         self.recover()?;
-        let image = Image::read(&self.lent.image, Fault::None).map_err(unsound)?;
-        let undone = !passed && contents(image)?.0 == *before;
-        self.table.reels.clone_from(if undone { before } else { after });
+        let found = contents(&self.lent.image)?;
+        let undone = !passed && found == *before;
+        let expected = if undone { before } else { after };
+        self.table.reels.clone_from(&expected.reels);
         self.table.heads = [table::Head::Idle; HEADS as usize];
         check_book(&self.lent, &self.table)?;
+        if found.nodes != expected.nodes {
+            return Err(format!("nodes reached {:?}, of before {:?}, of after {:?}", found.nodes, before.nodes, after.nodes));
+        }
         Ok(undone)
     }
 

@@ -1,4 +1,4 @@
-//! Runs cases for a time, calls and histories at once, each on a thread of its own.
+//! Runs a number of cases, calls and histories at once, each on a thread of its own.
 use crate::coverage::Coverage;
 use crate::model::fault::Fault;
 use crate::random::mix;
@@ -8,8 +8,12 @@ use std::sync::atomic::{AtomicBool, AtomicU64, Ordering};
 use std::thread;
 use std::time::{Duration, Instant};
 
-/// A case still running this long after the time is up does not end.
-const GRACE: Duration = Duration::from_secs(120);
+/// A history takes as long as this many cases of calls.
+const CALLS_TO_A_HISTORY: u64 = 50;
+
+/// A case still running after this long does not end. No other verdict is by the clock; a case takes a second at most, so that a
+/// machine may be hundreds of times slower.
+const WITHOUT_END: Duration = Duration::from_secs(600);
 
 #[derive(Clone, Copy, PartialEq, Eq)]
 pub enum Kind {
@@ -45,12 +49,14 @@ pub fn repeat(seed: u64) -> bool {
     result.is_ok()
 }
 
-/// The cases under way, by kind, to be named where one cannot return: without end, by a signal, by a panic.
-static UNDER_WAY: [AtomicU64; 2] = [AtomicU64::new(0), AtomicU64::new(0)];
+/// The seeds of the cases under way, by kind, to be named where one cannot return: without end, by a signal, by a panic.
+static UNDER_WAY: [AtomicU64; 2] = [AtomicU64::new(NONE), AtomicU64::new(NONE)];
+const NONE: u64 = 0;
 static FAILED: AtomicBool = AtomicBool::new(false);
 
 fn under_way() -> String {
-    let seeds: Vec<String> = UNDER_WAY.iter().map(|seed| format!("SEED={}", seed.load(Ordering::Relaxed))).collect();
+    let seeds = UNDER_WAY.iter().map(|seed| seed.load(Ordering::Relaxed)).filter(|&seed| seed != NONE);
+    let seeds: Vec<String> = seeds.map(|seed| format!("SEED={}", seed)).collect();
     format!("repeat with make fuzz {}", seeds.join(" or "))
 }
 
@@ -66,11 +72,11 @@ extern "C" fn die(number: i32) {
     std::process::abort();
 }
 
-/// Runs cases until the time is up or something failed. How many, and what they reached.
-fn work(kind: Kind, base: u64, deadline: Instant) -> (u64, Coverage) {
+/// Runs so many cases, or until something failed. How many, and what they reached.
+fn work(kind: Kind, base: u64, most: u64) -> (u64, Coverage) {
     let mut coverage = Coverage::default();
     let mut cases = 0;
-    while !FAILED.load(Ordering::Relaxed) && (cases == 0 || Instant::now() < deadline) {
+    while !FAILED.load(Ordering::Relaxed) && cases < most {
         let seed = kind.seed(base, cases);
         UNDER_WAY[kind as usize].store(seed, Ordering::Relaxed);
         if let Err(text) = case(seed, Subject::Library, &mut coverage) {
@@ -79,22 +85,29 @@ fn work(kind: Kind, base: u64, deadline: Instant) -> (u64, Coverage) {
         }
         cases += 1;
     }
+    UNDER_WAY[kind as usize].store(NONE, Ordering::Relaxed);
     (cases, coverage)
 }
 
-fn watch(deadline: Instant, finished: impl Fn() -> bool) {
+/// Ends the run where a case does not end.
+fn watch(finished: impl Fn() -> bool) {
+    let mut seen = [(NONE, Instant::now()); 2];
     while !finished() {
-        if Instant::now() > deadline + GRACE {
-            eprintln!("a case does not end; {}", under_way());
-            std::process::exit(1);
+        for (seen, seed) in seen.iter_mut().zip(&UNDER_WAY) {
+            let seed = seed.load(Ordering::Relaxed);
+            if seed == NONE || seed != seen.0 {
+                *seen = (seed, Instant::now());
+            } else if seen.1.elapsed() > WITHOUT_END {
+                eprintln!("a case does not end; repeat with make fuzz SEED={}", seed);
+                std::process::exit(1);
+            }
         }
         thread::sleep(Duration::from_millis(20));
     }
 }
 
 /// True if nothing differed and everything was reached.
-pub fn run(time: Duration, base: u64) -> bool {
-    let deadline = Instant::now() + time;
+pub fn run(cases: u64, base: u64) -> bool {
     let specified = cases::check("model", Subject::Faulty(Fault::None)) & cases::check("library", Subject::Library);
     FAILED.store(!specified, Ordering::Relaxed);
     for number in FATAL_SIGNALS {
@@ -102,9 +115,9 @@ pub fn run(time: Duration, base: u64) -> bool {
         unsafe { signal(number, die) };
     }
     let (calls, histories) = thread::scope(|scope| {
-        let calls = scope.spawn(|| work(Kind::Calls, base, deadline));
-        let histories = scope.spawn(|| work(Kind::Histories, base, deadline));
-        watch(deadline, || calls.is_finished() && histories.is_finished());
+        let calls = scope.spawn(|| work(Kind::Calls, base, cases));
+        let histories = scope.spawn(|| work(Kind::Histories, base, cases / CALLS_TO_A_HISTORY));
+        watch(|| calls.is_finished() && histories.is_finished());
         (calls.join(), histories.join())
     });
     match (calls, histories) {

@@ -1,13 +1,15 @@
-//! What is tested: the library, or the model with a fault, to see that the fault is found.
+//! What is tested: the library; or, to see that a fault is found, the model with one, or the library with its results spoilt.
 use crate::library;
 use crate::model::call::{Call, Function, Lent};
 use crate::model::fault::Fault;
 use crate::model::operations;
+use crate::spoil::Spoil;
 
 #[derive(Clone, Copy)]
 pub enum Subject {
     Library,
     Faulty(Fault),
+    Spoilt(&'static Spoil),
 }
 
 impl Subject {
@@ -22,6 +24,11 @@ impl Subject {
             Subject::Faulty(fault) => {
                 let outcome = operations::perform(call, lent, fault);
                 (outcome.ending.answer, outcome.count)
+            }
+            Subject::Spoilt(spoil) => {
+                let mut handed = Subject::Library.perform(call, lent, junk);
+                spoil.spoil(call, lent, &mut handed);
+                handed
             }
         }
     }

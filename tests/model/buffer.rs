@@ -26,6 +26,12 @@ impl Buffer {
         self.words.extend([GUARD; GUARD_WORDS]);
     }
 
+    /// Writes to the guard behind the content, as a fault would.
+    pub fn write_behind(&mut self) {
+        let after = self.words.len() - GUARD_WORDS;
+        self.words[after] ^= 1;
+    }
+
     pub fn guards_hold(&self) -> bool {
         let after = self.words.len() - GUARD_WORDS;
         self.words[..GUARD_WORDS].iter().chain(&self.words[after..]).all(|&word| word == GUARD)

@@ -74,7 +74,7 @@ pub fn remove(image: &mut [u64], heads: &[u64; 10], reel: u64, frame: u64) -> u6
 
 // 1 or 0, or 100 where it is refused.
 pub fn has(image: &[u64], reel: u64, frame: u64) -> u64 {
-    let mut yes = 0;
+    let mut yes = 9;
     let answer = reelbook_has(image, reel, frame, &mut yes);
     if answer != 0 {
         return REFUSED;

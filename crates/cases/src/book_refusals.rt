@@ -21,20 +21,27 @@ pub fn format() {
     formatted(&mut image, &mut map, &mut heads);
 }
 
+// R and N just outside their limits, each with an image and a map as long as they ask for; and an image of another length.
 fn format_sizes(image: &mut [u64; 308], map: &mut [u64; 1], heads: &mut [u64; 10]) {
-    print::number(b"format, R = 0:", reelbook_format(image, map, heads, 0, 3));
-    print::number(
-        b"format, R = 4097:",
-        reelbook_format(image, map, heads, 4097, 3),
-    );
-    print::number(b"format, N = 0:", reelbook_format(image, map, heads, 2, 0));
-    print::number(
-        b"format, N = 65537:",
-        reelbook_format(image, map, heads, 2, 65537),
-    );
+    let mut no_slots = [9u64; 304];
+    let mut no_nodes = [9u64; 68];
+    let mut no_map = [9u64; 0];
+    let few_slots = reelbook_format(&mut no_slots, map, heads, 0, 3);
+    print::number(b"format, R = 0:", few_slots);
+    format_many_slots(map, heads);
+    let few_nodes = reelbook_format(&mut no_nodes, &mut no_map, heads, 2, 0);
+    print::number(b"format, N = 0:", few_nodes);
     print::number(
         b"format, another length:",
         reelbook_format(image, map, heads, 2, 4),
+    );
+}
+
+fn format_many_slots(map: &mut [u64; 1], heads: &mut [u64; 10]) {
+    let mut image = [9u64; 8498];
+    print::number(
+        b"format, R = 4097:",
+        reelbook_format(&mut image, map, heads, 4097, 3),
     );
 }
 
@@ -112,7 +119,9 @@ fn recover_state(image: &[u64; 308], map: &[u64; 1], heads: &[u64; 10]) {
     print::words(b"  map, heads, locate:", &[map[0], heads[0], image[69]]);
 }
 
+// Node 1 becomes an empty root of size 16, so that nothing is wrong in the first case but the reel number.
 fn recover_unsound(image: &mut [u64; 308], map: &mut [u64; 1], heads: &mut [u64; 10]) {
+    image[152] = 16;
     image[66] = 7;
     image[67] = 2;
     print::number(

@@ -45,6 +45,7 @@ fn claim_lengths(image: &[u64; 308], map: &mut [u64; 1], heads: &mut [u64; 10]) 
     let mut used = 9;
     let map_length = claim_amiss(image, &mut long, heads, &mut script, &mut used);
     print::number(b"claim, long map:", map_length);
+    used = 9;
     let script_length = claim_amiss(image, map, heads, &mut short, &mut used);
     print::number(b"claim, script of 49 words:", script_length);
     print::words(b"  used, script:", &[used, short[0]]);

@@ -27,7 +27,7 @@ fn places() {
 fn turns() {
     turn_cases::held_below_a_clear_place();
     turn_cases::unfinished();
-    turn_cases::cut_branch_out();
+    turn_cases::crashed_branch_out();
     turn_cases::retired_whole();
     turn_cases::hostile();
 }

@@ -146,6 +146,7 @@ fn run_from_63(image: &mut [u64; 5666], map: &mut [u64; 2], heads: &mut [u64; 10
         65,
     );
     print::words(b"  map:", map);
+    map[1] = FULL;
     print::number(b"  recovered:", reelbook_recover(image, map, heads));
     print::words(b"  map:", map);
 }
@@ -242,6 +243,7 @@ fn level_31(image: &mut [u64; 10306], map: &mut [u64; 2], heads: &mut [u64; 10])
     print::number(b"31 frames more:", answer);
 }
 
+// The map is lost before the recovery, which has to build it.
 fn deep_found(image: &mut [u64; 10306], map: &mut [u64; 2], heads: &mut [u64; 10]) {
     let mut scratch = [0u64; 2];
     let mut list = [0u64; 2016];
@@ -249,6 +251,8 @@ fn deep_found(image: &mut [u64; 10306], map: &mut [u64; 2], heads: &mut [u64; 10
     book::list(image, &mut scratch, &mut list, 7, &mut count);
     print::number(b"count:", count);
     print::number(b"has 31 * 2^59:", book::has(image, 7, 31 << 59));
+    map[0] = 0;
+    map[1] = FULL;
     print::number(b"recovered:", reelbook_recover(image, map, heads));
     print::words(b"  map:", map);
 }

@@ -66,6 +66,7 @@ fn has_refused(image: &mut [u64; 308]) {
     image[0] = 0;
     print::number(b"has, edition 0:", reelbook_has(image, 7, 1, &mut yes));
     image[0] = 1;
+    yes = 9;
     print::number(b"has, no such reel:", reelbook_has(image, 9, 1, &mut yes));
     print::number(b"  yes or no:", yes);
 }
@@ -160,6 +161,7 @@ fn retire_lengths(
     print::number(b"retire, long map:", map_length);
     let scratch_length = reelbook_retire(image, map, heads, &mut long, &mut script, 9, &mut used);
     print::number(b"retire, long scratch:", scratch_length);
+    used = 9;
     let script_length = reelbook_retire(image, map, heads, scratch, &mut short, 9, &mut used);
     print::number(b"retire, script of 49 words:", script_length);
     print::words(b"  scratch, used:", &[scratch[0], used]);

@@ -1,4 +1,5 @@
 // The wrong turns of the paper, as histories, and an image that would lead a careless walk astray.
+ghost use Prim.Native.Nat.{_≤_};
 use crate::book;
 use crate::print;
 use reelbook::reelbook_apply;
@@ -51,9 +52,9 @@ fn recovered_cold(image: &mut [u64; 1352]) {
     print::heads(&heads);
 }
 
-// Linking children before the barrier that follows their clearing: the branch-out of reel 8, in nodes that held frames of
-// reel 7, cut after each of its entries.
-pub fn cut_branch_out() {
+// Linking children before the barrier that follows their clearing: the branch-out of reel 8, into nodes 2 and 3, which held
+// frames of reel 7 and would show them. Nodes 0 and 1 are the roots of reels 8 and 9.
+pub fn crashed_branch_out() {
     let mut image = [0u64; 1352];
     let mut map = [0u64; 1];
     let mut heads = [0u64; 10];
@@ -63,50 +64,107 @@ pub fn cut_branch_out() {
     book::open(&mut image, &mut map, 7);
     book::add_frames(&mut image, &mut map, &mut heads, 7, 0, 1, 70);
     book::retire(&mut image, &mut map, &heads, &mut scratch, 7);
+    book::open(&mut image, &mut map, 9);
     book::add_frames(&mut image, &mut map, &mut heads, 8, 1000, 1, 64);
-    branch_out(&mut image, &mut map, &mut heads);
+    branch_out(&image, &mut map, &mut heads);
 }
 
-fn branch_out(image: &mut [u64; 1352], map: &mut [u64; 1], heads: &mut [u64; 10]) {
-    let mut script = [0u64; 50];
-    let mut used = 0;
+fn branch_out(image: &[u64; 1352], map: &mut [u64; 1], heads: &mut [u64; 10]) {
+    let mut script = [FULL; 50];
+    let mut used = 9;
     reelbook_claim(image, map, heads, &mut script, 0, 8, 1064, &mut used);
     print::number(b"script of a branch-out, words:", used);
-    let well = cuts(image, map, heads, &script);
-    print::number(b"  cuts after which all is well:", well);
+    crash_everywhere(image, &script);
 }
 
-// Carries out one of the 15 entries after the other, and recovers after each: how many times the recovery is answered,
-// reel 8 has its 64 frames, and none of reel 7 shows.
-fn cuts(
-    image: &mut [u64; 1352],
-    map: &mut [u64; 1],
-    heads: &mut [u64; 10],
-    script: &[u64; 50],
-) -> u64 {
+// A crash just before each barrier that has stores to order. The words of the script that are not used read as barriers.
+fn crash_everywhere(image: &[u64; 1352], script: &[u64; 50]) {
+    let mut first: usize = 0;
+    let mut entry: usize = 0;
+    while entry < 25 {
+        if script[2 * entry] == FULL {
+            if first < entry {
+                crash_before(image, script, first, entry);
+            }
+            first = entry + 1;
+        }
+        entry += 1;
+    }
+}
+
+// The stores of entries first to barrier - 1 are pending: all mixtures of them kept and lost, each from the image as it was.
+fn crash_before(image: &[u64; 1352], script: &[u64; 50], first: usize, barrier: usize)
+    requires { ⌜ (first ≤ barrier) × (barrier ≤ 25) ⌝ }
+{
+    let stores = (barrier - first) as u32;
+    let mixtures: u64 = 1 << stores;
+    let mut mixture: u64 = 0;
     let mut well: u64 = 0;
-    let mut at: usize = 0;
-    while at < 30 {
-        let entry = [script[at], script[at + 1]];
-        reelbook_apply(image, &entry);
-        if is_well(image, map, heads) {
+    while mixture < mixtures {
+        if is_as_before(image, &kept(script, first, barrier, mixture)) {
             well += 1;
         }
-        at += 2;
+        mixture += 1;
     }
-    well
+    print::words(
+        b"  stores before a barrier, mixtures, as before:",
+        &[stores as u64, mixtures, well],
+    );
 }
 
-fn is_well(image: &mut [u64; 1352], map: &mut [u64; 1], heads: &mut [u64; 10]) -> bool {
+// What a crash keeps of a script: the entries before the first, and of the pending stores those whose bit of the mixture is 1.
+// A barrier, which is passed over, stands for each that is lost.
+fn kept(script: &[u64; 50], first: usize, barrier: usize, mixture: u64) -> [u64; 50] {
+    let mut stores = [0u64; 50];
+    let mut bits = mixture;
+    let mut entry: usize = 0;
+    while entry < 25 {
+        let pending = (first <= entry) & (entry < barrier);
+        if (entry < first) | (pending & (bits % 2 == 1)) {
+            stores[2 * entry] = script[2 * entry];
+            stores[2 * entry + 1] = script[2 * entry + 1];
+        } else {
+            stores[2 * entry] = FULL;
+        }
+        if pending {
+            bits = bits / 2;
+        }
+        entry += 1;
+    }
+    stores
+}
+
+fn is_as_before(image: &[u64; 1352], stores: &[u64; 50]) -> bool {
+    let mut left = *image;
+    recovers_as_before(&mut left, stores)
+}
+
+// Recovers what a crash leaves, map and heads being lost: reel 8 is listed as before, and the nodes reached are those before, 0
+// and 1, or those after, 2 and 3 besides.
+fn recovers_as_before(image: &mut [u64; 1352], stores: &[u64; 50]) -> bool {
+    let mut map = [FULL; 1];
+    let mut heads = [FULL; 10];
+    let carried = reelbook_apply(image, stores) == 0;
+    let recovered = reelbook_recover(image, &mut map, &mut heads) == 0;
+    carried & recovered & lists_as_before(image) & ((map[0] == 3) | (map[0] == 15))
+}
+
+fn lists_as_before(image: &[u64; 1352]) -> bool {
     let mut list = [0u64; 100];
-    let mut scratch = [0u64; 1];
-    let mut count = 0;
-    let recovered = reelbook_recover(image, map, heads) == 0;
+    let mut scratch = [FULL; 1];
+    let mut count = 9;
     let listed = book::list(image, &mut scratch, &mut list, 8, &mut count) == 0;
-    recovered & listed & (count == 64) & (book::has(image, 8, 5) == 0)
+    let mut same = listed & (count == 64);
+    let mut i: usize = 0;
+    while i < 64 {
+        same = same & (list[i] == 1000 + i as u64);
+        i += 1;
+    }
+    same
 }
 
-// Freeing a retired reel's root but not its children: the map after a Retire is the one that a recovery builds.
+// Freeing a retired reel's root but not its children: the map after a Retire is the one that a recovery builds, whatever it is
+// lent.
 pub fn retired_whole() {
     let mut image = [0u64; 1352];
     let mut map = [0u64; 1];
@@ -119,12 +177,13 @@ pub fn retired_whole() {
     print::words(b"300 frames, map:", &map);
     book::retire(&mut image, &mut map, &heads, &mut scratch, 7);
     print::words(b"  retired, map:", &map);
+    map[0] = FULL;
     reelbook_recover(&mut image, &mut map, &mut heads);
     print::words(b"  recovered, map:", &map);
 }
 
 // Four nodes a level, each linked to the same four of the next: every path is well formed, and there are more of them than
-// can be walked. A node met twice ends each walk.
+// can be walked. A node met twice ends each walk, and the maps lent are left clear.
 pub fn hostile() {
     let mut image = [0u64; 10306];
     let mut map = [0u64; 2];
@@ -133,11 +192,13 @@ pub fn hostile() {
     link_all(&mut image);
     image[64] = 7;
     image[65] = 1;
+    map[0] = FULL;
+    map[1] = FULL;
     walked(&mut image, &mut map, &mut heads);
 }
 
 fn walked(image: &mut [u64; 10306], map: &mut [u64; 2], heads: &mut [u64; 10]) {
-    let mut scratch = [0u64; 2];
+    let mut scratch = [FULL; 2];
     let mut list = [0u64; 10];
     let mut count = 0;
     print::number(

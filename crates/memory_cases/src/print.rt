@@ -3,10 +3,9 @@ use libc::STDOUT_FILENO;
 pub use printing::number;
 pub use printing::words;
 
-// A label, the number of an answer and the words of an image, all on one line.
-pub fn outcome(label: &[u8], answer: u64, image: &[u64]) {
+// A label, an answer and the words of an image, all on one line.
+pub fn outcome(label: &[u8], answer: &[u8], image: &[u64]) {
     io::write_all(STDOUT_FILENO, label);
-    io::write_all(STDOUT_FILENO, b" answer ");
-    io::print_decimal(STDOUT_FILENO, answer);
+    io::write_all(STDOUT_FILENO, answer);
     words(b", image", image);
 }

@@ -103,15 +103,14 @@ pub fn writers() {
     print::words(b"three words 7 with a barrier written:", &barrier);
 }
 
-// Carries a script out on an image of three words: the answer's number, and the image as it is left.
+// Carries a script out on an image of three words: the answer, and the image as it is left.
 fn carry_out(label: &[u8], script: &[u64]) {
     let mut image = [10u64, 20, 30];
     let answer = apply::apply(&mut image, script);
-    let number = match answer {
-        Applied::Done => 0,
-        Applied::Refused => 3,
-    };
-    print::outcome(label, number, &image);
+    match answer {
+        Applied::Done => print::outcome(label, b" done", &image),
+        Applied::Refused => print::outcome(label, b" refused", &image),
+    }
 }
 
 pub fn carried_out() {

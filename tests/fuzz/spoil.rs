@@ -1,0 +1,130 @@
+//! Deliberate faults in the library's place: after its call the answer, the count or one word of what it was lent is another, to
+//! see that the comparison looks there.
+use crate::model::call::{Call, Function, Function::*, Lent};
+use crate::model::image::*;
+use crate::model::node::{LOCATE, NEXT, SET};
+
+/// The answer and the count handed back.
+type Handed = (u64, u64);
+
+type Change = fn(&Call, &mut Lent, &mut Handed);
+
+/// What is changed after a function's call with this answer.
+pub struct Spoil {
+    function: Function,
+    answer: u64,
+    pub text: &'static str,
+    change: Change,
+}
+
+const fn after(function: Function, answer: u64, text: &'static str, change: Change) -> Spoil {
+    Spoil { function, answer, text, change }
+}
+
+/// Found by single calls, where every word is compared with the model's.
+pub static OF_CALLS: [Spoil; 19] = [
+    after(Retire, 13, "retire answers 5 for 13", |_, _, handed| handed.0 = 5),
+    after(List, 14, "list hands back a count with 14", |_, _, handed| handed.1 = 1),
+    after(Commit, 0, "commit hands back two words more", |_, _, handed| handed.1 += 2),
+    after(Abandon, 0, "abandon's barrier has a value", |_, lent, _| lent.script[3] = 1),
+    after(Fill, 0, "fill writes behind its script", |_, lent, _| lent.script[8] ^= 1),
+    after(Open, 6, "open writes a script with 6", |_, lent, _| lent.script[49] ^= 1),
+    after(Open, 0, "open marks the last node too", |_, lent, _| mark_last(lent)),
+    after(Recover, 0, "recover leaves a spare bit in the map", |_, lent, _| spare_bit(lent)),
+    after(Claim, 0, "claim writes the other head's record", |call, lent, _| record(lent, 1 - call.head)[4] ^= 1),
+    after(Commit, 0, "commit leaves the frame in the record", |call, lent, _| record(lent, call.head)[4] = 1),
+    after(Recover, 0, "recover stores to a frame", |_, lent, _| last_word(lent)),
+    after(Recover, 4, "recover stores with 4", |_, lent, _| last_word(lent)),
+    after(Format, 0, "format clears a reel number", |_, lent, _| lent.image[64] = 0),
+    after(Has, 0, "has stores to the image", |_, lent, _| last_word(lent)),
+    after(Retire, 0, "retire leaves a bit in the scratch map", |_, lent, _| lent.scratch[0] = 1),
+    after(List, 3, "list clears the scratch map with 3", |_, lent, _| lent.scratch.fill(0)),
+    after(List, 0, "list gives another frame", |_, lent, handed| another_frame(lent, handed.1)),
+    after(List, 0, "list writes behind the frames", |_, lent, handed| behind_frames(lent, handed.1)),
+    after(List, 0, "list writes outside of its buffer", |_, lent, _| lent.list.write_behind()),
+];
+
+/// Found by histories, held against the plain table alone.
+pub static OF_HISTORIES: [Spoil; 17] = [
+    after(Commit, 0, "commit answers 12 and is done", |_, _, handed| *handed = (12, 0)),
+    after(Claim, 9, "claim hands back a count with 9", |_, _, handed| handed.1 = 2),
+    after(Has, 0, "has always says no", |_, _, handed| handed.1 = 0),
+    after(List, 0, "list counts a frame less", |_, _, handed| handed.1 = handed.1.saturating_sub(1)),
+    after(List, 0, "list gives another frame", |_, lent, handed| another_frame(lent, handed.1)),
+    after(List, 0, "list writes outside of its buffer", |_, lent, _| lent.list.write_behind()),
+    after(Commit, 0, "commit sets another bit too", |_, lent, _| lent.script[1] ^= 1 << 63),
+    after(Remove, 0, "remove stores nothing", |_, lent, _| lent.script[1] = lent.image[lent.script[0] as usize]),
+    after(Claim, 0, "a branch-out lacks its first barrier", |_, lent, handed| lose_barrier(lent, handed.1)),
+    after(Open, 0, "open marks the last node too", |_, lent, _| mark_last(lent)),
+    after(Claim, 0, "claim's record names another slot", |call, lent, _| record(lent, call.head)[1] ^= 1),
+    after(Abandon, 0, "abandon leaves the frame in the record", |call, lent, _| record(lent, call.head)[4] = 1),
+    after(Recover, 0, "recover leaves a head claimed", |_, lent, _| record(lent, 1)[0] = 1),
+    after(Recover, 0, "recover leaves a locate bit", |_, lent, _| *node_word(lent, 0, LOCATE) |= 1 << 15),
+    after(Recover, 0, "recover drops children that hold nothing", |_, lent, _| drop_children(lent)),
+    after(Recover, 0, "recover loses a frame", |_, lent, _| *node_word(lent, 0, SET) &= !1),
+    after(Format, 0, "format leaves a root", |_, lent, _| lent.image[65] = 1),
+];
+
+impl Spoil {
+    pub fn spoil(&self, call: &Call, lent: &mut Lent, handed: &mut Handed) {
+        if call.function == self.function && handed.0 == self.answer {
+            (self.change)(call, lent, handed);
+        }
+    }
+}
+
+fn mark_last(lent: &mut Lent) {
+    let nodes = lent.image[2];
+    mark_used(&mut lent.map, nodes - 1);
+}
+
+fn spare_bit(lent: &mut Lent) {
+    let nodes = lent.image[2];
+    if nodes % 64 != 0 {
+        mark_used(&mut lent.map, nodes);
+    }
+}
+
+/// The last place of the last node.
+fn last_word(lent: &mut Lent) {
+    let last = lent.image.len() - 1;
+    lent.image[last] ^= 1;
+}
+
+fn record(lent: &mut Lent, head: u64) -> &mut [u64] {
+    &mut lent.heads[head as usize * HEAD_WORDS..][..HEAD_WORDS]
+}
+
+fn node_word(lent: &mut Lent, node: u64, word: u64) -> &mut u64 {
+    let index = node_index(lent.image[1], node) + word;
+    &mut lent.image[index as usize]
+}
+
+/// The two children of node 0, if it is a root with such.
+fn drop_children(lent: &mut Lent) {
+    let first = *node_word(lent, 0, NEXT);
+    let is_root = lent.image[65] == 1 && first != 0;
+    if is_root && (first - 1..=first).all(|child| [NEXT, SET].iter().all(|&word| *node_word(lent, child, word) == 0)) {
+        *node_word(lent, 0, NEXT) = 0;
+        (first - 1..=first).for_each(|child| mark_free(&mut lent.map, child));
+    }
+}
+
+fn another_frame(lent: &mut Lent, count: u64) {
+    if count > 0 {
+        lent.list[count as usize - 1] ^= 1 << 40;
+    }
+}
+
+fn behind_frames(lent: &mut Lent, count: u64) {
+    if let Some(word) = lent.list.get_mut(count as usize) {
+        *word ^= 1;
+    }
+}
+
+/// The barrier after the children's words becomes a store of 0 to word 63, which has it. It is the last but four of the entries.
+fn lose_barrier(lent: &mut Lent, used: u64) {
+    if used > 8 {
+        lent.script[used as usize - 10..][..2].copy_from_slice(&[63, 0]);
+    }
+}

@@ -13,3 +13,4 @@ pub mod Growth
 pub mod Starred
 pub mod Witnesses
 pub mod Fixed
+pub mod Due

@@ -58,3 +58,6 @@ pub mod Demands
 pub mod Sample
 pub mod Witnesses
 pub mod Fixed
+pub mod DueHeads
+pub mod DuePaths
+pub mod Due

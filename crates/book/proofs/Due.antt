@@ -7,13 +7,13 @@ use Prim.Native.Nat.{ℕ}
 use native.Mathlib.Omega.{arith}
 use lib.ListN.{length}
 use Rattle.tree.specs.Memory.{reads}
-use Rattle.tree.specs.Test.{Test, lt, le, ne, is, _or_, holds, Says}
+use Rattle.tree.specs.Test.{Test, le, ne, is, _or_, holds, Says}
 use Rattle.tree.specs.declared.layout.Geometry.{Geometry}
 use Rattle.tree.specs.Layout.{badImage, editionAt}
 use Rattle.tree.specs.Fingerprint.{ruleOf}
 use Rattle.tree.specs.Slots.{slotOf}
 use Rattle.tree.specs.Lookup.{freeRun}
-use Rattle.tree.specs.Subtree.{listing}
+use Rattle.tree.specs.Sound.{SoundTree}
 use Rattle.tree.specs.Check.{isSoundTree}
 use Rattle.tree.proofs.Cases.{test, true-not-false}
 use Rattle.tree.proofs.Laws.{sound-laws}
@@ -26,7 +26,7 @@ use Rattle.book.specs.Due.{Due, _when_, First, here, later, none, header
 use Rattle.book.proofs.Refusals.{decided}
 use Rattle.book.proofs.Performed.{answer-is}
 use Rattle.book.proofs.DueHeads.{turned, image-test, idle-test, claimed-test, filled-test, outside-test, busy-test, open-test, absent-test, present, of-reel, full-test, run-says}
-use Rattle.book.proofs.DuePaths.{path-test, path-there, room-test, find-test, children-test}
+use Rattle.book.proofs.DuePaths.{path-test, path-there, room-test, find-test, children-test, frames-test}
 
 -- ---- a list of tests and a list of conditions
 
@@ -74,6 +74,14 @@ module _ (s : State) where
   -- what is not so of a reel is not so of its slot
   past-reel : {reel slot : ℕ} {P : ℕ → Type 0} → ReelSlot s reel slot → (OfReel s reel P → ⊥) → P slot → ⊥
   past-reel {slot = slot} r past x = past (record { slot = slot; is = r; so = x })
+
+  tree-sound : {reel slot : ℕ} → ReelSlot s reel slot → (OfReel s reel (BadTree s) → ⊥) → SoundTree (shape s) (memory s) slot
+  tree-sound {slot = slot} r past =
+      let l = sound-laws (ruleOf (memory s)) (shape s) (memory s) .tree (r .has-number .open-slot) in
+      elim (test (isSoundTree (shape s) (memory s) slot)) [
+        | inl e ↦ l .0 e
+        | inr e ↦ absurd (past-reel r past (λ a. true-not-false (l .1 a) e))
+      ]
 
   decides : (op : Operation) → Decides (refusals op s) (due op s)
   unfolding refusals due
@@ -135,7 +143,7 @@ module _ (s : State) where
       checks (next (plain (badMap (shape s) scratch)) (λ a.
       reel-there reel (λ r.
       next (tree-of r) (λ b.
-      next (of-reel s reel _ r (plain (lt room (length (listing (shape s) (memory s) (slotOf (shape s) (memory s) reel)))))) (λ c. end)))))
+      next (of-reel s reel _ r (frames-test s (r .has-number .open-slot) room (tree-sound r b))) (λ c. end)))))
 
 pub refusals-due : RefusalsDue
 refusals-due op s = rw (answer-is op s) (first-due (decides s op))

@@ -3,18 +3,19 @@
 use mathlib.Core.Path.{_≡_}
 use mathlib.Core.Bool.{true}
 use mathlib.Core.Logic.{_⊎_, _≢_}
-use mathlib.Core.List.{List, [], _∷_}
+use mathlib.Core.List.{List, [], _∷_, List·Memᴰ}
 use Prim.Native.Nat.{ℕ, _+_, _*_, _/_, _≤_, _<_}
 use lib.ListN.{length}
 use Rattle.tree.specs.Memory.{reads}
+use Rattle.tree.specs.Lists.{Distinct}
 use Rattle.tree.specs.declared.layout.Geometry.{Geometry}
-use Rattle.tree.specs.Layout.{editionAt, rootAt}
+use Rattle.tree.specs.Layout.{editionAt, rootAt, frameAt}
 use Rattle.tree.specs.Path.{fanout, wayOf}
 use Rattle.tree.specs.Fingerprint.{fingerprint, ruleOf}
 use Rattle.tree.specs.Node.{held, frame, storedFingerprint}
-use Rattle.tree.specs.Reach.{Reaches}
+use Rattle.tree.specs.Reach.{Reaches, Holds}
 use Rattle.tree.specs.Sound.{Sound, SoundTree}
-use Rattle.tree.specs.Subtree.{listing}
+use Rattle.tree.specs.declared.path.Spot.{Spot}
 use Rattle.tree.specs.Laws.{Malformed, FreeRun}
 use Rattle.book.specs.Heads.{headCount}
 use Rattle.book.specs.State.{State, Operation, format, recover, openReel, claim, fill, commit, abandon, remove, retire, query, has, list, memory, shape}
@@ -120,6 +121,14 @@ module _ (s : State) where
     pub has-frame : frame (shape s) (memory s) node place ≡ f
     pub has-fingerprint : storedFingerprint (shape s) (memory s) node place ≡ fingerprint (ruleOf (memory s)) f
 
+  -- 14: more frames are held in the nodes reached than a list has room for, each place counted once
+  pub record MoreFrames (room slot : ℕ) : Type 0 where
+    pub places : List Spot
+    pub once : Distinct (λ t. frameAt (shape s) (t .node) (t .place)) places
+    pub each : (t : Spot) → List·Memᴰ t places
+        → (w : List ℕ) × Holds (shape s) (memory s) slot w (t .node) (t .place) (frame (shape s) (memory s) (t .node) (t .place))
+    pub more : room < length places
+
   -- 8: no run of k adjacent nodes is free in the map
   abbrev pub NoRun : ℕ → Type 0
   NoRun k = (n : ℕ) → FreeRun (shape s) (reads (s .pool)) k n → ⊥
@@ -180,7 +189,7 @@ due (query (list scratch room reel)) s =
     header s ((3 when WrongMap (shape s) scratch)
     ∷ (5 when NoReel s reel)
     ∷ (4 when OfReel s reel (BadTree s))
-    ∷ (14 when OfReel s reel (λ slot. room < length (listing (shape s) (memory s) slot)))
+    ∷ (14 when OfReel s reel (MoreFrames s room))
     ∷ [])
 
 -- an operation's answer is the number that is due, over any memory contents, numbers and lengths

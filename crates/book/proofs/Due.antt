@@ -7,17 +7,15 @@ use Prim.Native.Nat.{ℕ}
 use native.Mathlib.Omega.{arith}
 use lib.ListN.{length}
 use Rattle.tree.specs.Memory.{reads}
-use Rattle.tree.specs.Test.{Test, le, ne, is, _or_, holds, Says}
+use Rattle.tree.specs.Test.{Test, le, ne, is, _or_, holds}
 use Rattle.tree.specs.declared.layout.Geometry.{Geometry}
 use Rattle.tree.specs.Layout.{badImage, editionAt}
 use Rattle.tree.specs.Fingerprint.{ruleOf}
 use Rattle.tree.specs.Slots.{slotOf}
 use Rattle.tree.specs.Lookup.{freeRun}
-use Rattle.tree.specs.Sound.{SoundTree}
 use Rattle.tree.specs.Check.{isSoundTree}
 use Rattle.tree.proofs.Cases.{test, true-not-false}
 use Rattle.tree.proofs.Laws.{sound-laws}
-use Rattle.tree.proofs.Tests.{says, said}
 use Rattle.book.specs.Heads.{headCount, busy}
 use Rattle.book.specs.Refusals.{Refusal, _gives_, refusal}
 use Rattle.book.specs.State.{State, Operation, format, recover, openReel, claim, fill, commit, abandon, remove, retire, query, has, list, memory, shape}
@@ -25,8 +23,9 @@ use Rattle.book.specs.Checks.{badMap, badScript, refusals}
 use Rattle.book.specs.Due.{Due, _when_, First, here, later, none, header, Busy, ReelSlot, OfReel, NoReel, BadTree, due, RefusalsDue}
 use Rattle.book.proofs.Refusals.{decided}
 use Rattle.book.proofs.Performed.{answer-is}
-use Rattle.book.proofs.DueHeads.{turned, image-test, idle-test, claimed-test, filled-test, outside-test, busy-test, open-test, absent-test, present, of-reel, full-test, run-says}
-use Rattle.book.proofs.DuePaths.{path-test, path-there, room-test, find-test, children-test, frames-test}
+use Rattle.book.proofs.DueWords.{plain, turned, image-test, idle-test, claimed-test, filled-test, outside-test, busy-test, open-test, absent-test, present, of-reel, full-test, run-says}
+use Rattle.book.proofs.DuePaths.{path-test, path-there, room-test, find-test, children-test}
+use Rattle.book.proofs.DueTrees.{tree-test, tree-sound, frames-test}
 
 -- ---- a list of tests and a list of conditions
 
@@ -45,10 +44,6 @@ first-due (next {t} {P} {n} {rs} {ds} i d) = elim (test (holds t)) [
   | inr e ↦ let past : P → ⊥ = λ p. true-not-false (i .1 p) e in rw e (later past (first-due (d past)))
 ]
 first-due (skip {t} {n} {rs} {ds} e d) = rw e (first-due d)
-
--- a condition that is what its test says
-plain : (t : Test) → (holds t ≡ true) ↔ Says t
-plain t = (says t, said t)
 
 -- ---- the operations
 
@@ -69,19 +64,11 @@ module _ (s : State) where
 
   -- 4 in List and Retire
   tree-of : {reel slot : ℕ} → ReelSlot s reel slot → (holds (is (not (isSoundTree (shape s) (memory s) slot))) ≡ true) ↔ OfReel s reel (BadTree s)
-  tree-of {reel} r = of-reel s reel (BadTree s) r (turned (sound-laws (ruleOf (memory s)) (shape s) (memory s) .tree (r .has-number .open-slot)))
+  tree-of {reel} r = of-reel s reel (BadTree s) r (tree-test s (r .has-number .open-slot))
 
   -- what is not so of a reel is not so of its slot
   past-reel : {reel slot : ℕ} {P : ℕ → Type 0} → ReelSlot s reel slot → (OfReel s reel P → ⊥) → P slot → ⊥
   past-reel {slot = slot} r past x = past (record { slot = slot; is = r; so = x })
-
-  tree-sound : {reel slot : ℕ} → ReelSlot s reel slot → (OfReel s reel (BadTree s) → ⊥) → SoundTree (shape s) (memory s) slot
-  tree-sound {slot = slot} r past =
-      let l = sound-laws (ruleOf (memory s)) (shape s) (memory s) .tree (r .has-number .open-slot) in
-      elim (test (isSoundTree (shape s) (memory s) slot)) [
-        | inl e ↦ l .0 e
-        | inr e ↦ absurd (past-reel r past (λ a. true-not-false (l .1 a) e))
-      ]
 
   decides : (op : Operation) → Decides (refusals op s) (due op s)
   unfolding refusals due
@@ -143,7 +130,8 @@ module _ (s : State) where
       checks (next (plain (badMap (shape s) scratch)) (λ a.
       reel-there reel (λ r.
       next (tree-of r) (λ b.
-      next (of-reel s reel _ r (frames-test s (r .has-number .open-slot) room (tree-sound r b))) (λ c. end)))))
+      let o = r .has-number .open-slot in
+      next (of-reel s reel _ r (frames-test s o room (tree-sound s o (past-reel r b)))) (λ c. end)))))
 
 pub refusals-due : RefusalsDue
 refusals-due op s = rw (answer-is op s) (first-due (decides s op))

@@ -58,6 +58,7 @@ pub mod Demands
 pub mod Sample
 pub mod Witnesses
 pub mod Fixed
-pub mod DueHeads
+pub mod DueWords
 pub mod DuePaths
+pub mod DueTrees
 pub mod Due

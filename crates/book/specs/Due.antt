@@ -1,7 +1,7 @@
 -- The refusal that is due: each number in its sequence with what it means, by words and ways and not by the book's own searches.
 -- Statements alone, over any state.
 use mathlib.Core.Path.{_≡_}
-use mathlib.Core.Bool.{true}
+use mathlib.Core.Bool.{true, false}
 use mathlib.Core.Logic.{_⊎_, _≢_}
 use mathlib.Core.List.{List, [], _∷_, List·Memᴰ}
 use Prim.Native.Nat.{ℕ, _+_, _*_, _/_, _≤_, _<_}
@@ -12,9 +12,9 @@ use Rattle.tree.specs.declared.layout.Geometry.{Geometry}
 use Rattle.tree.specs.Layout.{editionAt, rootAt, frameAt}
 use Rattle.tree.specs.Path.{fanout, wayOf}
 use Rattle.tree.specs.Fingerprint.{fingerprint, ruleOf}
-use Rattle.tree.specs.Node.{held, frame, storedFingerprint}
+use Rattle.tree.specs.Node.{wellFormed, held, frame, storedFingerprint}
 use Rattle.tree.specs.Reach.{Reaches, Holds}
-use Rattle.tree.specs.Sound.{Sound, SoundTree}
+use Rattle.tree.specs.Sound.{Sound}
 use Rattle.tree.specs.declared.path.Spot.{Spot}
 use Rattle.tree.specs.Laws.{Malformed, FreeRun}
 use Rattle.book.specs.Heads.{headCount}
@@ -37,7 +37,7 @@ pub data First : List Due → ℕ → Type 1 where
   later : {P : Type 0} {n k : ℕ} {ds : List Due} → (P → ⊥) → First ds k → First ((n when P) ∷ ds) k
   none : First [] 0
 
--- ---- what is lent
+-- ---- what is borrowed
 
 -- 1 unless: R is 1 to 4,096, N is 1 to 65,536, and the image has 64 + 2R + 80N words
 pub record RightImage (words : ℕ) (g : Geometry) : Type 0 where
@@ -55,13 +55,14 @@ WrongMap g words = words ≢ (g .nodes + 63) / 64
 abbrev pub ShortScript : (words : ℕ) → Type 0
 ShortScript words = words < 50
 
--- 1 and 2 first: the image as it is lent, by its own R and N; its edition
+-- 1 and 2 first: the image by its own R and N; its edition
 abbrev pub header : State → List Due → List Due
 header s ds = (1 when (RightImage (length (s .image)) (shape s) → ⊥)) ∷ (2 when (memory s editionAt ≢ 1)) ∷ ds
 
 -- ---- heads, by their words
 
 module _ (s : State) where
+  -- a record's words: state, slot, node, place
   abbrev pub stateWord : (head : ℕ) → ℕ
   stateWord h = reads (s .heads) (5 * h)
 
@@ -106,11 +107,30 @@ module _ (s : State) where
   abbrev pub NoReel : ℕ → Type 0
   NoReel reel = (slot : ℕ) → SlotHas (shape s) (memory s) reel slot → ⊥
 
-  -- 4 in List and Retire: a node reached from the root is malformed or reached twice
-  abbrev pub BadTree : (slot : ℕ) → Type 0
-  BadTree slot = SoundTree (shape s) (memory s) slot → ⊥
+  -- 6: reel already open
+  abbrev pub OpenReel : ℕ → Type 0
+  OpenReel reel = (slot : ℕ) × SlotHas (shape s) (memory s) reel slot
 
-  -- the lookup finds the frame: some place on the path has its set bit 1, the frame, and the frame's fingerprint
+  -- 7: no empty slot
+  abbrev pub NoEmptySlot : Type 0
+  NoEmptySlot = (k : ℕ) → k < shape s .slots → memory s (rootAt k) ≢ 0
+
+  -- ---- paths and trees, from a reel's slot
+
+  -- 4 on a path: a node of it is malformed
+  abbrev pub BadPath : (f slot : ℕ) → Type 0
+  BadPath f slot = Malformed (shape s) (memory s) slot f
+
+  -- 4 in Claim: or it ends at level 31 with no clear place in any node
+  abbrev pub NoRoom : (f slot : ℕ) → Type 0
+  NoRoom f slot = BadPath f slot ⊎ FullPath (shape s) (memory s) slot f 31
+
+  -- 4 in List and Retire: a node reached from the root is malformed, or reached twice
+  pub data BadTree (slot : ℕ) : Type 0 where
+    malformed : {w : List ℕ} {n : ℕ} → Reaches (shape s) (memory s) slot w n → wellFormed (shape s) (memory s) (length w) n ≡ false → BadTree slot
+    twice : {w w' : List ℕ} {n : ℕ} → Reaches (shape s) (memory s) slot w n → Reaches (shape s) (memory s) slot w' n → w ≢ w' → BadTree slot
+
+  -- 9, and 10 where it is not so: some place on the path has its set bit 1, the frame, and the frame's fingerprint
   pub record Finds (f slot : ℕ) : Type 0 where
     pub level : ℕ
     pub node : ℕ
@@ -149,8 +169,8 @@ due (recover map) s =
     header s ((3 when WrongMap (shape s) map) ∷ (4 when (Sound (ruleOf (memory s)) (shape s) (memory s) → ⊥)) ∷ [])
 due (openReel map script reel) s =
     header s ((3 when (WrongMap (shape s) map ⊎ ShortScript script))
-    ∷ (6 when ((slot : ℕ) × SlotHas (shape s) (memory s) reel slot))
-    ∷ (7 when ((k : ℕ) → k < shape s .slots → memory s (rootAt k) ≢ 0))
+    ∷ (6 when OpenReel s reel)
+    ∷ (7 when NoEmptySlot s)
     ∷ (8 when NoRun s 1)
     ∷ [])
 due (claim map script h reel f) s =
@@ -159,8 +179,7 @@ due (claim map script h reel f) s =
     ∷ (12 when (Idle s h → ⊥))
     ∷ (5 when NoReel s reel)
     ∷ (13 when OfReel s reel (Busy s))
-    -- also where the path is full to its end at level 31
-    ∷ (4 when OfReel s reel (λ slot. Malformed (shape s) (memory s) slot f ⊎ FullPath (shape s) (memory s) slot f 31))
+    ∷ (4 when OfReel s reel (NoRoom s f))
     ∷ (9 when OfReel s reel (Finds s f))
     ∷ (8 when OfReel s reel (NoChildren s f))
     ∷ [])
@@ -174,7 +193,7 @@ due (remove script reel f) s =
     header s ((3 when ShortScript script)
     ∷ (5 when NoReel s reel)
     ∷ (13 when OfReel s reel (Busy s))
-    ∷ (4 when OfReel s reel (λ slot. Malformed (shape s) (memory s) slot f))
+    ∷ (4 when OfReel s reel (BadPath s f))
     ∷ (10 when OfReel s reel (λ slot. Finds s f slot → ⊥))
     ∷ [])
 due (retire map scratch script reel) s =
@@ -184,7 +203,7 @@ due (retire map scratch script reel) s =
     ∷ (4 when OfReel s reel (BadTree s))
     ∷ [])
 due (query (has reel f)) s =
-    header s ((5 when NoReel s reel) ∷ (4 when OfReel s reel (λ slot. Malformed (shape s) (memory s) slot f)) ∷ [])
+    header s ((5 when NoReel s reel) ∷ (4 when OfReel s reel (BadPath s f)) ∷ [])
 due (query (list scratch room reel)) s =
     header s ((3 when WrongMap (shape s) scratch)
     ∷ (5 when NoReel s reel)

@@ -8,12 +8,13 @@ use native.Mathlib.Decide.{decLt}
 use lib.Dec.{eqb}
 use borrow.Author.Tests.{eqb-true, eqb-false, eq-eqb, not-true}
 use Rattle.tree.specs.Memory.{reads}
-use Rattle.tree.specs.Test.{lt, le, is, holds}
+use Rattle.tree.specs.Test.{Test, lt, le, holds, Says}
 use Rattle.tree.specs.declared.layout.Geometry.{Geometry}
-use Rattle.tree.specs.Layout.{badImage, rootAt}
+use Rattle.tree.specs.Layout.{badImage}
 use Rattle.tree.specs.Slots.{slotOf, emptySlot}
 use Rattle.tree.specs.Lookup.{freeRun}
 use Rattle.tree.proofs.Cases.{test, true-not-false}
+use Rattle.tree.proofs.Tests.{says, said}
 use Rattle.tree.proofs.Laws.{slot-laws, run-laws}
 use Rattle.book.specs.declared.Target.{Target}
 use Rattle.book.specs.declared.HeadState.{HeadState}
@@ -22,9 +23,13 @@ use Rattle.book.specs.Heads.{stateOf, headAt, isIdle, isClaimed, isFille
 use Rattle.book.specs.State.{State, memory, shape}
 use Rattle.book.specs.Checks.{outside}
 use Rattle.book.specs.Ways.{SlotHas}
-use Rattle.book.specs.Due.{RightImage, stateWord, slotWord, nodeWord, placeWord, Idle, Outside, Busy, ReelSlot, OfReel, NoReel, NoRun}
+use Rattle.book.specs.Due.{RightImage, stateWord, slotWord, nodeWord, placeWord, Idle, Outside, Busy, ReelSlot, OfReel, NoReel, OpenReel, NoEmptySlot, NoRun}
 use Rattle.book.proofs.Refusals.{Denies, decided, denies, denied}
 use Rattle.book.proofs.Heads.{busy-names}
+
+-- a condition that is what its test says
+pub plain : (t : Test) → (holds t ≡ true) ↔ Says t
+plain t = (says t, said t)
 
 -- a test that decides P, turned round
 pub turned : {b : Bool} {P : Type 0} → (b ≡ true) ↔ P → (not b ≡ true) ↔ (P → ⊥)
@@ -106,8 +111,8 @@ module _ (s : State) (h : ℕ) where
     where
       go : {x : HeadState} → StateIs (stateWord s h) target x → (holds (outside (shape s) (targetOf x)) ≡ true) ↔ Outside s h
       go (idle a b) = absurd (taken (a, b))
-      go (claimed q) = decided (outside (shape s) target) (λ x. x, λ x. x)
-      go (filled q) = decided (outside (shape s) target) (λ x. x, λ x. x)
+      go (claimed q) = plain (outside (shape s) target)
+      go (filled q) = plain (outside (shape s) target)
 
   names-test : (slot : ℕ) → (names slot (headAt (s .heads) h) ≡ true) ↔ ((Idle s h → ⊥) × (slotWord s h ≡ slot))
   names-test slot = go head-is
@@ -139,7 +144,7 @@ module _ (s : State) (reel : ℕ) where
   below x = omega (arith, rw (x .number) at (slot-laws (shape s) (memory s) .lowest (x .open-slot)), x .open-slot .inside)
 
   -- 6, and 5
-  pub open-test : (holds (lt (slotOf (shape s) (memory s) reel) (shape s .slots)) ≡ true) ↔ ((slot : ℕ) × SlotHas (shape s) (memory s) reel slot)
+  pub open-test : (holds (lt (slotOf (shape s) (memory s) reel) (shape s .slots)) ≡ true) ↔ OpenReel s reel
   open-test = decided (lt (slotOf (shape s) (memory s) reel) (shape s .slots)) (λ l. (_, reel-slot l .has-number), λ x. below (x .1))
 
   pub absent-test : (holds (le (shape s .slots) (slotOf (shape s) (memory s) reel)) ≡ true) ↔ NoReel s reel
@@ -165,8 +170,7 @@ module _ (s : State) (reel : ℕ) where
   )
 
 -- 7
-pub full-test : (s : State) → (holds (le (shape s .slots) (emptySlot (shape s) (memory s))) ≡ true)
-    ↔ ((k : ℕ) → k < shape s .slots → memory s (rootAt k) ≢ 0)
+pub full-test : (s : State) → (holds (le (shape s .slots) (emptySlot (shape s) (memory s))) ≡ true) ↔ NoEmptySlot s
 full-test s = let laws = slot-laws (shape s) (memory s) in decided (le (shape s .slots) (emptySlot (shape s) (memory s))) (
   λ l k b z. omega (arith, laws .lowest-empty k b z),
   λ all. elim (decLt (emptySlot (shape s) (memory s)) (shape s .slots)) [ yes l ↦ absurd (all _ l (laws .empty l)) | no l ↦ omega arith ],

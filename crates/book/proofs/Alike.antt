@@ -11,14 +11,13 @@ use lib.ListN.{length}
 use lib.Dec.{ltb, leb}
 use borrow.Author.Tests.{ltb-false, leb-true, le-leb, lt-leb, not-false}
 use Rattle.tree.specs.Memory.{reads, isSome, Fit}
-use Rattle.tree.specs.Test.{Test, lt, le, ne, is, _and_, _or_, holds, Says}
+use Rattle.tree.specs.Test.{lt, le, ne, is, _and_, _or_, holds}
 use Rattle.tree.specs.Lists.{empty}
 use Rattle.tree.specs.declared.layout.Geometry.{Geometry}
 use Rattle.tree.specs.Layout.{badImage, imageWords, editionAt}
 use Rattle.tree.specs.Slots.{slotOf, emptySlot}
 use Rattle.tree.specs.Lookup.{pathFrom, freeRun}
 use Rattle.tree.proofs.Cases.{test, true-not-false, same-test}
-use Rattle.tree.proofs.Tests.{says, said}
 use Rattle.book.specs.Heads.{headCount, headAt, targetOf}
 use Rattle.book.specs.Refusals.{Refusal, _gives_, refusal}
 use Rattle.tree.specs.Room.{roomOn, needs, atLevel31}
@@ -31,7 +30,7 @@ use Rattle.book.specs.Agrees.{EachOnce, Agrees}
 use Rattle.book.specs.Ways.{SlotHas, Lacks}
 use Rattle.book.specs.Histories.{replied}
 use Rattle.book.specs.Demands.{IsFormat, is-format, Alike}
-use Rattle.book.proofs.Refusals.{denies, denied, passes}
+use Rattle.book.proofs.Refusals.{decided, denies, denied, passes}
 use Rattle.book.proofs.Performed.{answer-is, work-granted, work-refused, reply-is, reply-granted, reply-refused}
 use Rattle.book.proofs.Level31.{never-level31, lacks-open, lacks-claim}
 use Rattle.book.proofs.Paired.{Paired, end, same, skip, run, paired-answer, paired-run}
@@ -49,10 +48,6 @@ filled-not-idle : (y : TableHead) → table.isFilled y ≡ true → table.isIdle
 filled-not-idle table.idle h = absurd (true-not-false h refl)
 filled-not-idle (table.claimed r f) h = refl
 filled-not-idle (table.filled r f) h = refl
-
--- what a test says, as a fact that decides it
-decided : (t : Test) {P : Type 0} → Says t ↔ P → (holds t ≡ true) ↔ P
-decided t h = (λ e. h .0 (says t e), λ p. said t (h .1 p))
 
 module _ {s : State} {t : Table} (a : Agrees s t) where
   present-test : (reel : ℕ) → ltb (slotOf (shape s) (memory s) reel) (shape s .slots) ≡ isPresent t reel

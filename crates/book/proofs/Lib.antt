@@ -58,3 +58,7 @@ pub mod Sample
 pub mod Witnesses
 pub mod Stores
 pub mod Fixed
+pub mod DueWords
+pub mod DuePaths
+pub mod DueTrees
+pub mod Due

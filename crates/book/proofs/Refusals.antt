@@ -1,15 +1,16 @@
 -- Laws of refusal lists: what the answer says of the tests.
 use mathlib.Core.Path.{_≡_, refl}
 use mathlib.Core.Bool.{Bool, true, false, _&&_, _||_, and-false}
-use mathlib.Core.Logic.{_⊎_, inl, inr, _≢_}
+use mathlib.Core.Logic.{_⊎_, inl, inr, _↔_, _≢_}
 use mathlib.Core.List.{List, [], _∷_, map, List·Memᴰ, List·Memᴰ·head, List·Memᴰ·tail}
 use Prim.Native.Nat.{ℕ, _≤_, _<_}
 use native.Mathlib.Omega.{arith}
 use lib.Dec.{eqb}
 use borrow.Author.Tests.{ltb-false, leb-false, eqb-true, eqb-false, le-ltb, lt-leb, eq-eqb, ne-eqb, not-false}
-use Rattle.tree.specs.Test.{Test, lt, le, eq, ne, is, _and_, _or_, holds}
+use Rattle.tree.specs.Test.{Test, lt, le, eq, ne, is, _and_, _or_, holds, Says}
 use Rattle.book.specs.Refusals.{Refusal, refusal}
 use Rattle.tree.proofs.Cases.{test}
+use Rattle.tree.proofs.Tests.{says, said}
 
 -- what a test says where it does not hold
 abbrev pub Denies : Test → Type 0
@@ -50,6 +51,10 @@ denied (ne a b) h = rw (eq-eqb a b h)
 denied (is b) h = h
 denied (t and u) h = false-and (holds t) (holds u) (elim h [ inl x ↦ inl (denied t x) | inr x ↦ inr (denied u x) ])
 denied (t or u) h = rw (denied t (h .0)) (denied u (h .1))
+
+-- what a test says, as a fact that decides it
+pub decided : (t : Test) {P : Type 0} → Says t ↔ P → (holds t ≡ true) ↔ P
+decided t h = (λ e. h .0 (says t e), λ p. said t (h .1 p))
 
 -- ---- an answer of 0
 

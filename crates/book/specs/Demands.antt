@@ -24,7 +24,7 @@ use Rattle.book.specs.Histories.{done, replied, Interrupted, Attempts, R
 
 -- ---- 1: over any state, an operation is answered or refused; a refusal hands out nothing and leaves everything
 
--- the numbers that the paper gives an operation
+-- the numbers that the paper gives an operation; Due.antt says when each is due
 abbrev pub queryNumbers : Query → List ℕ
 queryNumbers (has reel f) = 1 ∷ 2 ∷ 5 ∷ 4 ∷ []
 queryNumbers (list scratch room reel) = 1 ∷ 2 ∷ 3 ∷ 5 ∷ 4 ∷ 14 ∷ []

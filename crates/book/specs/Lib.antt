@@ -14,3 +14,4 @@ pub mod Stores
 pub mod Starred
 pub mod Witnesses
 pub mod Fixed
+pub mod Due

@@ -1,0 +1,184 @@
+-- Tests of the image, of buffers, heads, slots and runs, each with what it means by words.
+use mathlib.Core.Path.{_≡_, refl, ap}
+use mathlib.Core.Bool.{Bool, true, not}
+use mathlib.Core.Logic.{inl, inr, _↔_, _≢_}
+use Prim.Native.Nat.{ℕ, _+_, _*_, _≤_, _<_}
+use native.Mathlib.Omega.{arith}
+use native.Mathlib.Decide.{decLt}
+use lib.Dec.{eqb}
+use borrow.Author.Tests.{eqb-true, eqb-false, eq-eqb, not-true}
+use Rattle.tree.specs.Memory.{reads}
+use Rattle.tree.specs.Test.{Test, lt, le, holds, Says}
+use Rattle.tree.specs.declared.layout.Geometry.{Geometry}
+use Rattle.tree.specs.Layout.{badImage}
+use Rattle.tree.specs.Slots.{slotOf, emptySlot}
+use Rattle.tree.specs.Lookup.{freeRun}
+use Rattle.tree.proofs.Cases.{test, true-not-false}
+use Rattle.tree.proofs.Tests.{says, said}
+use Rattle.tree.proofs.Laws.{slot-laws, run-laws}
+use Rattle.book.specs.declared.Target.{Target}
+use Rattle.book.specs.declared.HeadState.{HeadState}
+use Rattle.book.specs.declared.HeadState.the-variants as heads
+use Rattle.book.specs.Heads.{stateOf, headAt, isIdle, isClaimed, isFilled, targetOf, names, busy}
+use Rattle.book.specs.State.{State, memory, shape}
+use Rattle.book.specs.Checks.{outside}
+use Rattle.book.specs.Ways.{SlotHas}
+use Rattle.book.specs.Due.{RightImage, stateWord, slotWord, nodeWord, placeWord, Idle, Outside, Busy, ReelSlot, OfReel, NoReel, OpenReel, NoEmptySlot, NoRun}
+use Rattle.book.proofs.Refusals.{Denies, decided, denies, denied}
+use Rattle.book.proofs.Heads.{busy-names}
+
+-- a condition that is what its test says
+pub plain : (t : Test) → (holds t ≡ true) ↔ Says t
+plain t = (says t, said t)
+
+-- a test that decides P, turned round
+pub turned : {b : Bool} {P : Type 0} → (b ≡ true) ↔ P → (not b ≡ true) ↔ (P → ⊥)
+turned {b} h = (
+  λ e p. true-not-false (h .1 p) (not-true b e),
+  λ wrong. elim (test b) [ inl e ↦ absurd (wrong (h .0 e)) | inr e ↦ ap not e ],
+)
+
+-- 1
+pub image-test : (words : ℕ) (g : Geometry) → (holds (badImage words g) ≡ true) ↔ (RightImage words g → ⊥)
+unfolding badImage
+image-test words g = (
+  λ e r.
+      let d : Denies (badImage words g) = omega (arith, r) in
+      true-not-false e (denied (badImage words g) d),
+  λ wrong. elim (test (holds (badImage words g))) [
+    | inl e ↦ e
+    | inr e ↦
+        let d = denies (badImage words g) e in
+        absurd (wrong (record {
+          slots-from = omega (arith, d);
+          slots-to = omega (arith, d);
+          nodes-from = omega (arith, d);
+          nodes-to = omega (arith, d);
+          right-length = d .1;
+        }))
+  ],
+)
+
+-- ---- heads
+
+-- the state that a state word is read as
+data StateIs (w : ℕ) (t : Target) : HeadState → Type 0 where
+  idle : w ≢ 1 → w ≢ 2 → StateIs w t heads.Idle
+  claimed : w ≡ 1 → StateIs w t (heads.Claimed t)
+  filled : w ≡ 2 → StateIs w t (heads.Filled t)
+
+state-is : (w : ℕ) (t : Target) → StateIs w t (stateOf w t)
+unfolding stateOf
+state-is w t = elim (test (eqb w 1)) [
+  | inl e ↦ rw e (claimed (eqb-true w 1 e))
+  | inr e ↦ rw e (elim (test (eqb w 2)) [ inl k ↦ rw k (filled (eqb-true w 2 k)) | inr k ↦ rw k (idle (eqb-false w 1 e) (eqb-false w 2 k)) ])
+]
+
+module _ (s : State) (h : ℕ) where
+  abbrev target : Target
+  target = record { slot = slotWord s h; node = nodeWord s h; place = placeWord s h; frame = reads (s .heads) (5 * h + 4) }
+
+  head-is : StateIs (stateWord s h) target (headAt (s .heads) h)
+  unfolding headAt
+  head-is = state-is (stateWord s h) target
+
+  pub idle-test : (isIdle (headAt (s .heads) h) ≡ true) ↔ Idle s h
+  idle-test = go head-is
+    where
+      go : {x : HeadState} → StateIs (stateWord s h) target x → (isIdle x ≡ true) ↔ Idle s h
+      go (idle a b) = (λ e. (a, b), λ p. refl)
+      go (claimed q) = (λ e. absurd (true-not-false e refl), λ p. absurd (p .0 q))
+      go (filled q) = (λ e. absurd (true-not-false e refl), λ p. absurd (p .1 q))
+
+  pub claimed-test : (isClaimed (headAt (s .heads) h) ≡ true) ↔ (stateWord s h ≡ 1)
+  claimed-test = go head-is
+    where
+      go : {x : HeadState} → StateIs (stateWord s h) target x → (isClaimed x ≡ true) ↔ (stateWord s h ≡ 1)
+      go (idle a b) = (λ e. absurd (true-not-false e refl), λ p. absurd (a p))
+      go (claimed q) = (λ e. q, λ p. refl)
+      go (filled q) = (λ e. absurd (true-not-false e refl), λ p. absurd (omega arith))
+
+  pub filled-test : (isFilled (headAt (s .heads) h) ≡ true) ↔ (stateWord s h ≡ 2)
+  filled-test = go head-is
+    where
+      go : {x : HeadState} → StateIs (stateWord s h) target x → (isFilled x ≡ true) ↔ (stateWord s h ≡ 2)
+      go (idle a b) = (λ e. absurd (true-not-false e refl), λ p. absurd (b p))
+      go (claimed q) = (λ e. absurd (true-not-false e refl), λ p. absurd (omega arith))
+      go (filled q) = (λ e. q, λ p. refl)
+
+  pub outside-test : (Idle s h → ⊥) → (holds (outside (shape s) (targetOf (headAt (s .heads) h))) ≡ true) ↔ Outside s h
+  outside-test taken = go head-is
+    where
+      go : {x : HeadState} → StateIs (stateWord s h) target x → (holds (outside (shape s) (targetOf x)) ≡ true) ↔ Outside s h
+      go (idle a b) = absurd (taken (a, b))
+      go (claimed q) = plain (outside (shape s) target)
+      go (filled q) = plain (outside (shape s) target)
+
+  names-test : (slot : ℕ) → (names slot (headAt (s .heads) h) ≡ true) ↔ ((Idle s h → ⊥) × (slotWord s h ≡ slot))
+  names-test slot = go head-is
+    where
+      go : {x : HeadState} → StateIs (stateWord s h) target x → (names slot x ≡ true) ↔ ((Idle s h → ⊥) × (slotWord s h ≡ slot))
+      go (idle a b) = (λ e. absurd (true-not-false e refl), λ p. absurd (p .0 (a, b)))
+      go (claimed q) = (λ e. (λ i. i .0 q, eqb-true (slotWord s h) slot e), λ p. eq-eqb (slotWord s h) slot (p .1))
+      go (filled q) = (λ e. (λ i. i .1 q, eqb-true (slotWord s h) slot e), λ p. eq-eqb (slotWord s h) slot (p .1))
+
+pub busy-test : (s : State) (slot : ℕ) → (busy (s .heads) slot ≡ true) ↔ Busy s slot
+busy-test s slot = (
+  λ e.
+      let t = busy-names (s .heads) slot .0 e in
+      let n = names-test s (t .0) slot .0 (t .2) in
+      record { head = t .0; low = t .1; not-idle = n .0; names = n .1 },
+  λ b. busy-names (s .heads) slot .1 (b .head, b .low, names-test s (b .head) slot .1 (b .not-idle, b .names)),
+)
+
+-- ---- slots
+
+module _ (s : State) (reel : ℕ) where
+  reel-slot : slotOf (shape s) (memory s) reel < shape s .slots → ReelSlot s reel (slotOf (shape s) (memory s) reel)
+  reel-slot l = let t = slot-laws (shape s) (memory s) .reel reel l in record { has-number = record { open-slot = t .0; number = t .1 }; lowest = lowest }
+    where
+      lowest : (k : ℕ) → SlotHas (shape s) (memory s) reel k → slotOf (shape s) (memory s) reel ≤ k
+      lowest k x = rw (x .number) at (slot-laws (shape s) (memory s) .lowest (x .open-slot))
+
+  below : {k : ℕ} → SlotHas (shape s) (memory s) reel k → slotOf (shape s) (memory s) reel < shape s .slots
+  below x = omega (arith, rw (x .number) at (slot-laws (shape s) (memory s) .lowest (x .open-slot)), x .open-slot .inside)
+
+  -- 6, and 5
+  pub open-test : (holds (lt (slotOf (shape s) (memory s) reel) (shape s .slots)) ≡ true) ↔ OpenReel s reel
+  open-test = decided (lt (slotOf (shape s) (memory s) reel) (shape s .slots)) (λ l. (_, reel-slot l .has-number), λ x. below (x .1))
+
+  pub absent-test : (holds (le (shape s .slots) (slotOf (shape s) (memory s) reel)) ≡ true) ↔ NoReel s reel
+  absent-test = decided (le (shape s .slots) (slotOf (shape s) (memory s) reel)) (
+    λ l k x. omega (arith, below x),
+    λ none. elim (decLt (slotOf (shape s) (memory s) reel) (shape s .slots)) [ yes l ↦ absurd (none _ (reel-slot l .has-number)) | no l ↦ omega arith ],
+  )
+
+  -- past 5
+  pub present : (NoReel s reel → ⊥) → ReelSlot s reel (slotOf (shape s) (memory s) reel)
+  present some = elim (decLt (slotOf (shape s) (memory s) reel) (shape s .slots)) [
+    | yes l ↦ reel-slot l
+    | no l ↦ absurd (some (λ k x. l (below x)))
+  ]
+
+  -- what a test decides of the reel's slot
+  pub of-reel : {b : Bool} {slot : ℕ} (P : ℕ → Type 0) → ReelSlot s reel slot → (b ≡ true) ↔ P slot → (b ≡ true) ↔ OfReel s reel P
+  of-reel {slot = slot} P r h = (
+    λ e. record { slot = slot; is = r; so = h .0 e },
+    λ x.
+        let q : x .slot ≡ slot = omega (arith, x .is .lowest slot (r .has-number), r .lowest (x .slot) (x .is .has-number)) in
+        h .1 (rw q at (x .so)),
+  )
+
+-- 7
+pub full-test : (s : State) → (holds (le (shape s .slots) (emptySlot (shape s) (memory s))) ≡ true) ↔ NoEmptySlot s
+full-test s = let laws = slot-laws (shape s) (memory s) in decided (le (shape s .slots) (emptySlot (shape s) (memory s))) (
+  λ l k b z. omega (arith, laws .lowest-empty k b z),
+  λ all. elim (decLt (emptySlot (shape s) (memory s)) (shape s .slots)) [ yes l ↦ absurd (all _ l (laws .empty l)) | no l ↦ omega arith ],
+)
+
+-- 8
+pub run-says : (s : State) (k : ℕ) → 0 < k → (shape s .nodes ≤ freeRun (shape s) (reads (s .pool)) k) ↔ NoRun s k
+run-says s k h = let laws = run-laws (shape s) (reads (s .pool)) k in (
+  λ l n r. omega (arith, laws .lowest n h r .1),
+  λ none. elim (decLt (freeRun (shape s) (reads (s .pool)) k) (shape s .nodes)) [ yes l ↦ absurd (none _ (laws .found l)) | no l ↦ omega arith ],
+)

@@ -20,7 +20,8 @@ use Rattle.book.specs.Heads.{headCount, busy}
 use Rattle.book.specs.Refusals.{Refusal, _gives_, refusal}
 use Rattle.book.specs.State.{State, Operation, format, recover, openReel, claim, fill, commit, abandon, remove, retire, query, has, list, memory, shape}
 use Rattle.book.specs.Checks.{badMap, badScript, refusals}
-use Rattle.book.specs.Due.{Due, _when_, First, here, later, none, header, Busy, ReelSlot, OfReel, NoReel, BadTree, due, RefusalsDue}
+use Rattle.book.specs.Ways.{ReelAt}
+use Rattle.book.specs.Due.{Due, _when_, First, here, later, none, header, Busy, OfReel, NoReel, BadTree, due, RefusalsDue}
 use Rattle.book.proofs.Refusals.{decided}
 use Rattle.book.proofs.Performed.{answer-is}
 use Rattle.book.proofs.DueWords.{plain, turned, image-test, idle-test, claimed-test, filled-test, outside-test, busy-test, open-test, absent-test, present, of-reel, full-test, run-says}
@@ -54,20 +55,20 @@ module _ (s : State) where
   checks d = next (image-test (length (s .image)) (shape s)) (λ a. next (plain (ne (memory s editionAt) 1)) (λ b. d))
 
   -- 5, and after it the reel's slot
-  reel-there : {rs : List Refusal} {ds : List Due} (reel : ℕ) → (ReelSlot s reel (slotOf (shape s) (memory s) reel) → Decides rs ds)
+  reel-there : {rs : List Refusal} {ds : List Due} (reel : ℕ) → (ReelAt (shape s) (memory s) reel (slotOf (shape s) (memory s) reel) → Decides rs ds)
       → Decides ((le (shape s .slots) (slotOf (shape s) (memory s) reel) gives 5) ∷ rs) ((5 when NoReel s reel) ∷ ds)
   reel-there reel d = next (absent-test s reel) (λ a. d (present s reel a))
 
   -- 13
-  busy-of : {reel slot : ℕ} → ReelSlot s reel slot → (holds (is (busy (s .heads) slot)) ≡ true) ↔ OfReel s reel (Busy s)
+  busy-of : {reel slot : ℕ} → ReelAt (shape s) (memory s) reel slot → (holds (is (busy (s .heads) slot)) ≡ true) ↔ OfReel s reel (Busy s)
   busy-of {reel} {slot} r = of-reel s reel (Busy s) r (busy-test s slot)
 
   -- 4 in List and Retire
-  tree-of : {reel slot : ℕ} → ReelSlot s reel slot → (holds (is (not (isSoundTree (shape s) (memory s) slot))) ≡ true) ↔ OfReel s reel (BadTree s)
-  tree-of {reel} r = of-reel s reel (BadTree s) r (tree-test s (r .has-number .open-slot))
+  tree-of : {reel slot : ℕ} → ReelAt (shape s) (memory s) reel slot → (holds (is (not (isSoundTree (shape s) (memory s) slot))) ≡ true) ↔ OfReel s reel (BadTree s)
+  tree-of {reel} r = of-reel s reel (BadTree s) r (tree-test s (r .has .open-slot))
 
   -- what is not so of a reel is not so of its slot
-  past-reel : {reel slot : ℕ} {P : ℕ → Type 0} → ReelSlot s reel slot → (OfReel s reel P → ⊥) → P slot → ⊥
+  past-reel : {reel slot : ℕ} {P : ℕ → Type 0} → ReelAt (shape s) (memory s) reel slot → (OfReel s reel P → ⊥) → P slot → ⊥
   past-reel {slot = slot} r past x = past (record { slot = slot; is = r; so = x })
 
   decides : (op : Operation) → Decides (refusals op s) (due op s)
@@ -89,7 +90,7 @@ module _ (s : State) where
       next (turned (idle-test s h)) (λ c.
       reel-there reel (λ r.
       next (busy-of r) (λ d.
-      let o = r .has-number .open-slot in
+      let o = r .has .open-slot in
       next (of-reel s reel _ r (room-test s f o)) (λ e.
       let bad = past-reel r e in
       let p = path-there s f o (λ x. bad (inl x)) in
@@ -114,7 +115,7 @@ module _ (s : State) where
       checks (next (plain (badScript script)) (λ a.
       reel-there reel (λ r.
       next (busy-of r) (λ b.
-      let o = r .has-number .open-slot in
+      let o = r .has .open-slot in
       next (of-reel s reel _ r (path-test s f o)) (λ c.
       let p = path-there s f o (past-reel r c) in
       next (of-reel s reel _ r (turned (find-test s f o (p .0) (p .1)))) (λ d. end))))))
@@ -125,12 +126,12 @@ module _ (s : State) where
       next (tree-of r) (λ c. end)))))
   decides (query (has reel f)) =
       checks (skip refl (reel-there reel (λ r.
-      next (of-reel s reel _ r (path-test s f (r .has-number .open-slot))) (λ a. end))))
+      next (of-reel s reel _ r (path-test s f (r .has .open-slot))) (λ a. end))))
   decides (query (list scratch room reel)) =
       checks (next (plain (badMap (shape s) scratch)) (λ a.
       reel-there reel (λ r.
       next (tree-of r) (λ b.
-      let o = r .has-number .open-slot in
+      let o = r .has .open-slot in
       next (of-reel s reel _ r (frames-test s o room (tree-sound s o (past-reel r b)))) (λ c. end)))))
 
 pub refusals-due : RefusalsDue

@@ -78,11 +78,7 @@ module _ (s : State) {slot : ℕ} (f : ℕ) (open-slot : Filled (shape s) (memor
                 level = x .0;
                 node = t .node;
                 place = t .place;
-                there = x .1 .there;
-                low = x .1 .place;
-                set = x .1 .set;
-                has-frame = x .1 .is;
-                has-fingerprint = x .2;
+                is = record { there = x .1 .there; low = x .1 .place; set-bit = x .1 .set; of-frame = x .1 .is; printed = x .2 };
               }
         ]
 
@@ -90,9 +86,9 @@ module _ (s : State) {slot : ℕ} (f : ℕ) (open-slot : Filled (shape s) (memor
         back x = ap isSome find-is ∙ lookup-says (ruleOf (memory s)) (shape s) (memory s) .yes f ns .1 (record {
           node = x .node;
           place = x .place;
-          member = of-index ns (x .level) (path-laws f open-slot .nodes ns is-path (x .level) (x .node) .1 (x .there));
-          low = x .low;
-          is = match-facts (ruleOf (memory s)) (shape s) (memory s) f (x .node) (x .place) .1 (x .set, (x .has-frame, x .has-fingerprint));
+          member = of-index ns (x .level) (path-laws f open-slot .nodes ns is-path (x .level) (x .node) .1 (x .is .there));
+          low = x .is .low;
+          is = match-facts (ruleOf (memory s)) (shape s) (memory s) f (x .node) (x .place) .1 (x .is .set-bit, (x .is .of-frame, x .is .printed));
         })
 
     -- 8 in Claim

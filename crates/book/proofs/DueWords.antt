@@ -22,8 +22,8 @@ use Rattle.book.specs.declared.HeadState.the-variants as heads
 use Rattle.book.specs.Heads.{stateOf, headAt, isIdle, isClaimed, isFilled, targetOf, names, busy}
 use Rattle.book.specs.State.{State, memory, shape}
 use Rattle.book.specs.Checks.{outside}
-use Rattle.book.specs.Ways.{SlotHas}
-use Rattle.book.specs.Due.{RightImage, stateWord, slotWord, nodeWord, placeWord, Idle, Outside, Busy, ReelSlot, OfReel, NoReel, OpenReel, NoEmptySlot, NoRun}
+use Rattle.book.specs.Ways.{SlotHas, ReelAt}
+use Rattle.book.specs.Due.{RightImage, stateWord, slotWord, nodeWord, placeWord, Idle, Outside, Busy, OfReel, NoReel, OpenReel, NoEmptySlot, NoRun}
 use Rattle.book.proofs.Refusals.{Denies, decided, denies, denied}
 use Rattle.book.proofs.Heads.{busy-names}
 
@@ -134,8 +134,8 @@ busy-test s slot = (
 -- ---- slots
 
 module _ (s : State) (reel : ℕ) where
-  reel-slot : slotOf (shape s) (memory s) reel < shape s .slots → ReelSlot s reel (slotOf (shape s) (memory s) reel)
-  reel-slot l = let t = slot-laws (shape s) (memory s) .reel reel l in record { has-number = record { open-slot = t .0; number = t .1 }; lowest = lowest }
+  pub reel-slot : slotOf (shape s) (memory s) reel < shape s .slots → ReelAt (shape s) (memory s) reel (slotOf (shape s) (memory s) reel)
+  reel-slot l = let t = slot-laws (shape s) (memory s) .reel reel l in record { has = record { open-slot = t .0; number = t .1 }; lowest = lowest }
     where
       lowest : (k : ℕ) → SlotHas (shape s) (memory s) reel k → slotOf (shape s) (memory s) reel ≤ k
       lowest k x = rw (x .number) at (slot-laws (shape s) (memory s) .lowest (x .open-slot))
@@ -145,27 +145,27 @@ module _ (s : State) (reel : ℕ) where
 
   -- 6, and 5
   pub open-test : (holds (lt (slotOf (shape s) (memory s) reel) (shape s .slots)) ≡ true) ↔ OpenReel s reel
-  open-test = decided (lt (slotOf (shape s) (memory s) reel) (shape s .slots)) (λ l. (_, reel-slot l .has-number), λ x. below (x .1))
+  open-test = decided (lt (slotOf (shape s) (memory s) reel) (shape s .slots)) (λ l. (_, reel-slot l .has), λ x. below (x .1))
 
   pub absent-test : (holds (le (shape s .slots) (slotOf (shape s) (memory s) reel)) ≡ true) ↔ NoReel s reel
   absent-test = decided (le (shape s .slots) (slotOf (shape s) (memory s) reel)) (
     λ l k x. omega (arith, below x),
-    λ none. elim (decLt (slotOf (shape s) (memory s) reel) (shape s .slots)) [ yes l ↦ absurd (none _ (reel-slot l .has-number)) | no l ↦ omega arith ],
+    λ none. elim (decLt (slotOf (shape s) (memory s) reel) (shape s .slots)) [ yes l ↦ absurd (none _ (reel-slot l .has)) | no l ↦ omega arith ],
   )
 
   -- past 5
-  pub present : (NoReel s reel → ⊥) → ReelSlot s reel (slotOf (shape s) (memory s) reel)
+  pub present : (NoReel s reel → ⊥) → ReelAt (shape s) (memory s) reel (slotOf (shape s) (memory s) reel)
   present some = elim (decLt (slotOf (shape s) (memory s) reel) (shape s .slots)) [
     | yes l ↦ reel-slot l
     | no l ↦ absurd (some (λ k x. l (below x)))
   ]
 
   -- what a test decides of the reel's slot
-  pub of-reel : {b : Bool} {slot : ℕ} (P : ℕ → Type 0) → ReelSlot s reel slot → (b ≡ true) ↔ P slot → (b ≡ true) ↔ OfReel s reel P
+  pub of-reel : {b : Bool} {slot : ℕ} (P : ℕ → Type 0) → ReelAt (shape s) (memory s) reel slot → (b ≡ true) ↔ P slot → (b ≡ true) ↔ OfReel s reel P
   of-reel {slot = slot} P r h = (
     λ e. record { slot = slot; is = r; so = h .0 e },
     λ x.
-        let q : x .slot ≡ slot = omega (arith, x .is .lowest slot (r .has-number), r .lowest (x .slot) (x .is .has-number)) in
+        let q : x .slot ≡ slot = omega (arith, x .is .lowest slot (r .has), r .lowest (x .slot) (x .is .has)) in
         h .1 (rw q at (x .so)),
   )
 

@@ -9,13 +9,11 @@ use native.Mathlib.Omega.{arith}
 use lib.ListN.{length, getElem?}
 use borrow.Author.Tests.{eqb-false, not-false}
 use Rattle.tree.specs.Memory.{Memory, reads, withBit, withoutBit, withByte, isSome}
-use Rattle.tree.specs.Test.{Test, is, eq, _and_}
 use Rattle.tree.specs.declared.layout.Geometry.{Geometry}
 use Rattle.tree.specs.declared.path.Spot.{Spot}
 use Rattle.tree.specs.Layout.{locateAt, setAt, fingerprintsAt}
 use Rattle.tree.specs.Path.{fanout, wayOf}
 use Rattle.tree.specs.Fingerprint.{Rule, fingerprint, ruleOf}
-use Rattle.tree.specs.Node.{held, frame, storedFingerprint}
 use Rattle.tree.specs.Slots.{Filled, slotOf}
 use Rattle.tree.specs.Reach.{Reaches}
 use Rattle.tree.specs.declared.path.Room.{Room}
@@ -26,8 +24,8 @@ use Rattle.tree.specs.Laws.{FirstAt}
 use Rattle.tree.specs.Subtree.{tree, nodesOf}
 use Rattle.tree.proofs.Memory.{bit-laws, byte-laws, first-laws}
 use Rattle.tree.proofs.Cases.{true-not-false, seen, nothing, just}
-use Rattle.tree.proofs.Tests.{says, said}
-use Rattle.tree.proofs.Laws.{child-laws, slot-laws, path-laws, spot-laws, run-laws, pool-laws}
+use Rattle.tree.proofs.Lookup.{match-facts}
+use Rattle.tree.proofs.Laws.{child-laws, path-laws, spot-laws, run-laws, pool-laws}
 use Rattle.book.specs.declared.Target.{Target}
 use Rattle.book.specs.declared.HeadState.{HeadState}
 use Rattle.book.specs.declared.HeadState.the-variants as heads
@@ -35,11 +33,13 @@ use Rattle.book.specs.Heads.{headCount, headAt, wordsOf, withHead, targe
 use Rattle.book.specs.State.{State, Operation, claim, fill, commit, abandon, remove, retire, query, has, memory, shape}
 use Rattle.book.specs.Checks.{refusals}
 use Rattle.book.specs.Perform.{placeIn, claimScript, roomScript, fillScript, removeScript, foundSpot, granted, perform}
-use Rattle.book.specs.Stores.{BitOn, BitOff, Recorded, noTarget, ReelAt, Matches, FirstMatch, FillStores, CommitStores, AbandonStores, RemoveStores, RetireStores, HasSays, yes, no, ClaimStores, at-clear-place, at-scale-up, at-branch-out, ClaimWrites}
+use Rattle.book.specs.Ways.{Matches}
+use Rattle.book.specs.Stores.{BitOn, BitOff, Recorded, noTarget, FirstMatch, FillStores, CommitStores, AbandonStores, RemoveStores, RetireStores, HasSays, yes, no, ClaimStores, at-clear-place, at-scale-up, at-branch-out, ClaimWrites}
 use Rattle.book.proofs.Refusals.{passes}
 use Rattle.book.proofs.Performed.{answer-is, work-granted}
 use Rattle.book.proofs.Heads.{word-written, word-stays, claimed-is, filled-is, about-target}
 use Rattle.book.proofs.Inside.{fingerprint-lt}
+use Rattle.book.proofs.DueWords.{reel-slot}
 use Rattle.book.proofs.StepRetire.{tree-nodes}
 use Rattle.book.proofs.Rooms.{RoomIs, room-is, at-split, in-front, of-index}
 
@@ -90,24 +90,14 @@ module _ (ws : List ℕ) (h : ℕ) (inside : 5 * h + 5 ≤ length ws) where
 
 -- ---- slots and places
 
-reel-at : (g : Geometry) (m : Memory) (reel : ℕ) → slotOf g m reel < g .slots → ReelAt g m reel (slotOf g m reel)
-reel-at g m reel l = let x = slot-laws g m .reel reel l in record {
-  has = record { open-slot = x .0; number = x .1 };
-  lowest = λ k y. rw (y .number) at (slot-laws g m .lowest (y .open-slot));
-}
-
 module _ (r : Rule) {g : Geometry} {m : Memory} {slot : ℕ} (f : ℕ) (ns : List ℕ) (open-slot : Filled g m slot) (is-path : pathFrom g m slot f ≡ some ns) where
   by-number : (d n : ℕ) → (getElem? ns d ≡ some n) ↔ Reaches g m slot (wayOf d f) n
   by-number = path-laws f open-slot .nodes ns is-path
 
-  abbrev matching : (n p : ℕ) → Test
-  matching n p = is (held g m n p) and eq (frame g m n p) f and eq (storedFingerprint g m n p) (fingerprint r f)
-
   matched : {d n p : ℕ} → Reaches g m slot (wayOf d f) n → p < 64 → (matches r g m f n p ≡ true) ↔ Matches r g m slot f d n p
-  unfolding matches
   matched {n = n} {p = p} x l = (
-    λ e. let t = says (matching n p) e in record { there = x; low = l; set-bit = t .0; of-frame = t .1 .0; printed = t .1 .1 },
-    λ y. said (matching n p) (y .set-bit, (y .of-frame, y .printed)),
+    λ e. let t = match-facts r g m f n p .0 e in record { there = x; low = l; set-bit = t .0; of-frame = t .1 .0; printed = t .1 .1 },
+    λ y. match-facts r g m f n p .1 (y .set-bit, (y .of-frame, y .printed)),
   )
 
   first-at : (t : Spot) → FirstAt (foundAt r g m f) (λ n. 64) ns (t .node) (t .place) → FirstMatch r g m slot f (t .node) (t .place)
@@ -217,7 +207,7 @@ removes script reel f s e =
     let m = memory s in
     let slot = slotOf g m reel in
     let p = passes (refusals op s) (omega arith) (sym (answer-is op s) ∙ e) in
-    let reel-there = reel-at g m reel (p .1 .1 .1 .0) in
+    let reel-there = reel-slot s reel (p .1 .1 .1 .0) in
     let path = some-path r g m slot f (not-false _ (p .1 .1 .1 .1 .1 .0)) in
     let at = found-spot (find r g m slot f) (not-false _ (p .1 .1 .1 .1 .1 .1 .0)) in
     let w = work-granted op s e in
@@ -243,7 +233,7 @@ asks reel f s e =
     let m = memory s in
     let slot = slotOf g m reel in
     let p = passes (refusals op s) (omega arith) (sym (answer-is op s) ∙ e) in
-    let reel-there = reel-at g m reel (p .1 .1 .1 .0) in
+    let reel-there = reel-slot s reel (p .1 .1 .1 .0) in
     let path = some-path r g m slot f (not-false _ (p .1 .1 .1 .1 .0)) in
     let open-slot = reel-there .has .open-slot in
     rw (work-granted op s e) (elim (seen (find r g m slot f)) [
@@ -260,7 +250,7 @@ retires words scratch script reel s e =
     let m = memory s in
     let slot = slotOf g m reel in
     let p = passes (refusals op s) (omega arith) (sym (answer-is op s) ∙ e) in
-    let reel-there = reel-at g m reel (p .1 .1 .1 .0) in
+    let reel-there = reel-slot s reel (p .1 .1 .1 .0) in
     let nodes = tree-nodes (reel-there .has .open-slot) in
     let w = work-granted op s e in
     record {
@@ -309,7 +299,7 @@ claims words script h reel f s l e =
     let shape-of = shape s in
     let slot = slotOf shape-of (memory s) reel in
     let p = passes (refusals op s) (omega arith) (sym (answer-is op s) ∙ e) in
-    let reel-there = reel-at shape-of (memory s) reel (p .1 .1 .1 .1 .1 .0) in
+    let reel-there = reel-slot s reel (p .1 .1 .1 .1 .1 .0) in
     let open-slot = reel-there .has .open-slot in
     let path = some-path (ruleOf (memory s)) shape-of (memory s) slot f (not-false _ (p .1 .1 .1 .1 .1 .1 .1 .0 .0)) in
     let room = roomOn shape-of (memory s) (pathFrom shape-of (memory s) slot f) in

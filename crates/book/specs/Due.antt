@@ -10,9 +10,9 @@ use Rattle.tree.specs.Memory.{reads}
 use Rattle.tree.specs.Lists.{Distinct}
 use Rattle.tree.specs.declared.layout.Geometry.{Geometry}
 use Rattle.tree.specs.Layout.{editionAt, rootAt, frameAt}
-use Rattle.tree.specs.Path.{fanout, wayOf}
-use Rattle.tree.specs.Fingerprint.{fingerprint, ruleOf}
-use Rattle.tree.specs.Node.{wellFormed, held, frame, storedFingerprint}
+use Rattle.tree.specs.Path.{fanout}
+use Rattle.tree.specs.Fingerprint.{ruleOf}
+use Rattle.tree.specs.Node.{wellFormed, frame}
 use Rattle.tree.specs.Reach.{Reaches, Holds}
 use Rattle.tree.specs.Sound.{Sound}
 use Rattle.tree.specs.declared.path.Spot.{Spot}
@@ -20,7 +20,7 @@ use Rattle.tree.specs.Laws.{Malformed, FreeRun}
 use Rattle.book.specs.Heads.{headCount}
 use Rattle.book.specs.State.{State, Operation, format, recover, openReel, claim, fill, commit, abandon, remove, retire, query, has, list, memory, shape}
 use Rattle.book.specs.Perform.{perform}
-use Rattle.book.specs.Ways.{FullPath, SlotHas}
+use Rattle.book.specs.Ways.{FullPath, SlotHas, ReelAt, Matches}
 
 -- a number, and when it is due
 pub record Due : Type 1 where
@@ -92,15 +92,10 @@ module _ (s : State) where
 
   -- ---- reels
 
-  -- a reel is the lowest filled slot with its number
-  pub record ReelSlot (reel slot : ℕ) : Type 0 where
-    pub has-number : SlotHas (shape s) (memory s) reel slot
-    pub lowest : (k : ℕ) → SlotHas (shape s) (memory s) reel k → slot ≤ k
-
   -- something is so of the reel's slot
   pub record OfReel (reel : ℕ) (P : ℕ → Type 0) : Type 0 where
     pub slot : ℕ
-    pub is : ReelSlot reel slot
+    pub is : ReelAt (shape s) (memory s) reel slot
     pub so : P slot
 
   -- 5: no such reel
@@ -135,11 +130,7 @@ module _ (s : State) where
     pub level : ℕ
     pub node : ℕ
     pub place : ℕ
-    pub there : Reaches (shape s) (memory s) slot (wayOf level f) node
-    pub low : place < 64
-    pub set : held (shape s) (memory s) node place ≡ true
-    pub has-frame : frame (shape s) (memory s) node place ≡ f
-    pub has-fingerprint : storedFingerprint (shape s) (memory s) node place ≡ fingerprint (ruleOf (memory s)) f
+    pub is : Matches (ruleOf (memory s)) (shape s) (memory s) slot f level node place
 
   -- 14: more frames are held in the nodes reached than a list has room for, each place counted once
   pub record MoreFrames (room slot : ℕ) : Type 0 where

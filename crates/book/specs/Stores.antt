@@ -10,7 +10,6 @@ use Rattle.tree.specs.declared.layout.Geometry.{Geometry}
 use Rattle.tree.specs.Layout.{rootAt, nextAt, locateAt, setAt, sizeAt, fingerprintsAt, frameAt}
 use Rattle.tree.specs.Path.{fanout, child, wayOf}
 use Rattle.tree.specs.Fingerprint.{Rule, fingerprint, ruleOf}
-use Rattle.tree.specs.Node.{held, frame, storedFingerprint}
 use Rattle.tree.specs.Reach.{Reaches}
 use Rattle.tree.specs.Laws.{FreeRun}
 use Rattle.tree.specs.Pool.{used}
@@ -20,9 +19,9 @@ use Rattle.book.specs.Heads.{headAt}
 use Rattle.book.specs.State.{State, Operation, claim, fill, commit, abandon, remove, retire, memory, shape}
 use Rattle.book.specs.Perform.{newNode, group, perform}
 use Rattle.book.specs.Agrees.{About}
-use Rattle.book.specs.Ways.{Full, FullAbove, FullPath, SlotHas}
+use Rattle.book.specs.Ways.{Full, FullAbove, FullPath, ReelAt, Matches}
 
--- ---- words, records, slots, places
+-- ---- words, records, places
 
 -- one bit of a word is on, or off, every other as it was
 pub record BitOn (w p w' : ℕ) : Type 0 where
@@ -46,26 +45,12 @@ pub record Recorded (h state : ℕ) (t : Target) (ws ws' : List ℕ) : Type 0 wh
 abbrev pub noTarget : Target
 noTarget = record { slot = 0; node = 0; place = 0; frame = 0 }
 
--- a reel: the lowest filled slot with its number
-pub record ReelAt (g : Geometry) (m : Memory) (reel slot : ℕ) : Type 0 where
-  pub has : SlotHas g m reel slot
-  pub lowest : (k : ℕ) → SlotHas g m reel k → slot ≤ k
-
-module _ (r : Rule) (g : Geometry) (m : Memory) (slot f : ℕ) where
-  -- the lookup's rule: a place on the frame's path has its set bit 1, the frame, and the frame's fingerprint
-  pub record Matches (depth node place : ℕ) : Type 0 where
-    pub there : Reaches g m slot (wayOf depth f) node
-    pub low : place < 64
-    pub set-bit : held g m node place ≡ true
-    pub of-frame : frame g m node place ≡ f
-    pub printed : storedFingerprint g m node place ≡ fingerprint r f
-
-  -- the first node from the root, and its lowest place, where it does
-  pub record FirstMatch (node place : ℕ) : Type 0 where
-    pub depth : ℕ
-    pub is : Matches depth node place
-    pub above : (d n p : ℕ) → d < depth → Matches d n p → ⊥
-    pub lower : (p : ℕ) → p < place → Matches depth node p → ⊥
+-- the first node from the root, and its lowest place, where the lookup's rule is met
+pub record FirstMatch (r : Rule) (g : Geometry) (m : Memory) (slot f node place : ℕ) : Type 0 where
+  pub depth : ℕ
+  pub is : Matches r g m slot f depth node place
+  pub above : (d n p : ℕ) → d < depth → Matches r g m slot f d n p → ⊥
+  pub lower : (p : ℕ) → p < place → Matches r g m slot f depth node p → ⊥
 
 -- ---- the operations
 

@@ -8,6 +8,8 @@ use Rattle.tree.specs.Memory.{Memory, isSet}
 use Rattle.tree.specs.declared.layout.Geometry.{Geometry}
 use Rattle.tree.specs.Layout.{nextAt, locateAt, sizeAt, reelAt}
 use Rattle.tree.specs.Path.{fanout, child, wayOf}
+use Rattle.tree.specs.Fingerprint.{Rule, fingerprint}
+use Rattle.tree.specs.Node.{held, frame, storedFingerprint}
 use Rattle.tree.specs.Slots.{Filled}
 use Rattle.tree.specs.Reach.{Reaches}
 use Rattle.book.specs.State.{State, Operation, openReel, claim, memory, shape}
@@ -69,6 +71,19 @@ pub data Takes (g : Geometry) (m m' : Memory) (slot f : ℕ) : (node place : ℕ
 pub record SlotHas (g : Geometry) (m : Memory) (reel s : ℕ) : Type 0 where
   pub open-slot : Filled g m s
   pub number : m (reelAt s) ≡ reel
+
+-- a reel: the lowest filled slot with its number
+pub record ReelAt (g : Geometry) (m : Memory) (reel slot : ℕ) : Type 0 where
+  pub has : SlotHas g m reel slot
+  pub lowest : (k : ℕ) → SlotHas g m reel k → slot ≤ k
+
+-- the lookup's rule: a place on the frame's path has its set bit 1, the frame, and the frame's fingerprint
+pub record Matches (r : Rule) (g : Geometry) (m : Memory) (slot f depth node place : ℕ) : Type 0 where
+  pub there : Reaches g m slot (wayOf depth f) node
+  pub low : place < 64
+  pub set-bit : held g m node place ≡ true
+  pub of-frame : frame g m node place ≡ f
+  pub printed : storedFingerprint g m node place ≡ fingerprint r f
 
 -- the operation needs nodes that the book lacks
 pub data Lacks (s : State) : Operation → Type 0 where

@@ -1,4 +1,5 @@
-// Each refusal of Format, Recover and Open, in the sequence of its tests. The book has 2 slots and 3 nodes; reel 7 is open, with frame 1.
+// Each refusal of Format, Recover and Open, in the sequence of its tests. The book has 2 slots and 3 nodes; reel 7 is
+// open, with frame 1.
 use crate::book;
 use crate::print;
 use reelbook::reelbook_format;

@@ -137,7 +137,10 @@ pub fn read_two(line: &[u8], at: usize, text: &[u8], text2: &[u8]) -> Two
 // The same with three.
 pub fn read_three(line: &[u8], at: usize, text: &[u8], text2: &[u8], text3: &[u8]) -> Three
     requires { ⌜ at ≤ length (now line) ⌝ }
-    ensures { λ r. ⌜ ReadsAs (now (text .entry) ∷ now (text2 .entry) ∷ now (text3 .entry) ∷ []) (drop at (now (line .entry))) (withThree r) ⌝ }
+    ensures { λ r. ⌜
+        ReadsAs (now (text .entry) ∷ now (text2 .entry) ∷ now (text3 .entry) ∷ []) (drop at (now (line .entry)))
+        (withThree r)
+        ⌝ }
 {
     match field_at(line, at, text) {
         Field::Number { value, next } => match read_two(line, next, text2, text3) {

@@ -37,7 +37,10 @@ pub fn put_fenced(script: &mut [u64], index: u64, value: u64)
 // Two stores, each with its barrier: the first lasts before the second is made.
 pub fn put_fenced_pair(script: &mut [u64], index: u64, value: u64, index2: u64, value2: u64)
     requires { ⌜ 8 ≤ length (now script) ⌝ }
-    ensures { λ _. ⌜ now (script .exit) ≡ written (store index value ∷ barrier ∷ store index2 value2 ∷ barrier ∷ []) (now (script .entry)) ⌝ }
+    ensures { λ _. ⌜
+        now (script .exit)
+        ≡ written (store index value ∷ barrier ∷ store index2 value2 ∷ barrier ∷ []) (now (script .entry))
+        ⌝ }
 {
     put_fenced(script, index, value);
     put_fenced(&mut script[4..], index2, value2);

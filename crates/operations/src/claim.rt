@@ -56,7 +56,11 @@ pub enum Admission {
 
 // 11 and 12 for the head, 5 and 13 for the reel's slot, in this sequence.
 fn admit(heads: [Head; HEADS], head: u64, g: Geometry, slot: usize) -> Admission
-    ensures { λ r. ⌜ admissionNumber r ≡ refusal ((le headCount head gives 11) ∷ (is (not (isIdle (stateIn heads head))) gives 12) ∷ (le (g .slots) slot gives 5) ∷ (is (busyIn heads slot) gives 13) ∷ []) ⌝ }
+    ensures { λ r. ⌜
+        admissionNumber r
+        ≡ refusal ((le headCount head gives 11) ∷ (is (not (isIdle (stateIn heads head))) gives 12) ∷
+        (le (g .slots) slot gives 5) ∷ (is (busyIn heads slot) gives 13) ∷ [])
+        ⌝ }
 {
     if HEADS as u64 <= head {
         return Admission::Refused(Refusal::HeadNumber);
@@ -124,8 +128,25 @@ fn take_room(
     start: usize,
     frame: u64,
 ) -> HeadAnswer
-    requires { ⌜ Sized (now image) g × (Free room ≡ placementFrom g (reads (now image)) slot frame) × (length (now pool) ≡ mapWords g) × (50 ≤ length (now script)) × (start + needs room ≤ g .nodes) ⌝ }
-    ensures { λ r. ⌜ (r ≡ Done (2 * length (segmented (claimScript g (reads (now (image .entry))) room start frame))) (Claimed (record { slot = slot; node = placeIn room start frame .node; place = placeIn room start frame .place; frame = frame }))) × (now (pool .exit) ≡ markAll (now (pool .entry)) (taken room start)) × (now (script .exit) ≡ written (segmented (claimScript g (reads (now (image .entry))) room start frame)) (now (script .entry))) ⌝ }
+    requires { ⌜
+        Sized (now image) g
+        × (Free room ≡ placementFrom g (reads (now image)) slot frame)
+        × (length (now pool) ≡ mapWords g)
+        × (50 ≤ length (now script))
+        × (start + needs room ≤ g .nodes)
+        ⌝ }
+    ensures { λ r. ⌜
+        (r
+        ≡ Done (2 * length (segmented (claimScript g (reads (now (image .entry))) room start frame))) (Claimed (record {
+          slot = slot;
+          node = placeIn room start frame .node;
+          place = placeIn room start frame .place;
+          frame = frame;
+        })))
+        × (now (pool .exit) ≡ markAll (now (pool .entry)) (taken room start))
+        × (now (script .exit)
+        ≡ written (segmented (claimScript g (reads (now (image .entry))) room start frame)) (now (script .entry)))
+        ⌝ }
 {
     match room {
         Room::Clear(t) => {
@@ -162,7 +183,14 @@ pub fn claim(
     reel: u64,
     frame: u64,
 ) -> HeadAnswer
-    ensures { λ r. ⌜ ((ws : List ℕ) → headsIn ws ≡ heads → ended (headAnswerOf r) (headCountOf r) (state (now (image .entry)) (now (pool .exit)) (headsAfter ws head r)) (buffers [] (now (script .exit)) []) ≡ ends (claim (length (now (pool .entry))) (length (now (script .entry))) head reel frame) (state (now (image .entry)) (now (pool .entry)) ws) (buffers [] (now (script .entry)) [])) ⌝ }
+    ensures { λ r. ⌜
+        ((ws : List ℕ)
+        → headsIn ws ≡ heads
+        → ended (headAnswerOf r) (headCountOf r)
+        (state (now (image .entry)) (now (pool .exit)) (headsAfter ws head r)) (buffers [] (now (script .exit)) [])
+        ≡ ends (claim (length (now (pool .entry))) (length (now (script .entry))) head reel frame)
+        (state (now (image .entry)) (now (pool .entry)) ws) (buffers [] (now (script .entry)) []))
+        ⌝ }
 {
     let g = match checks(
         image,

@@ -20,7 +20,11 @@ use tree::pool_map::clear_map;
 // Words 0 to 63: edition, R, N, and zeros.
 fn put_header(image: &mut [u64], g: Geometry)
     requires { ⌜ Sized (now image) g ⌝ }
-    ensures { λ _. ⌜ now (image .exit) ≡ apply (now (image .entry)) (stores ((0, 1) ∷ (1, g .slots) ∷ (2, g .nodes) ∷ map (λ i. (i, 0)) (range 3 61))) ⌝ }
+    ensures { λ _. ⌜
+        now (image .exit)
+        ≡ apply (now (image .entry))
+        (stores ((0, 1) ∷ (1, g .slots) ∷ (2, g .nodes) ∷ map (λ i. (i, 0)) (range 3 61)))
+        ⌝ }
 {
     image[0] = 1;
     image[1] = g.slots as u64;
@@ -46,7 +50,12 @@ fn clear_roots(image: &mut [u64], g: Geometry)
 
 // Format with R slots and N nodes: the header, no reel, a clear map. What it goes by is given, and no word of the image is read.
 pub fn format(image: &mut [u64], pool: &mut [u64], slots: u64, nodes: u64) -> Answer
-    ensures { λ r. ⌜ ((heads : List ℕ) → ended (answerOf r) (countOf r) (state (now (image .exit)) (now (pool .exit)) (headsFresh heads r)) noBuffers ≡ ends (format (length (now (pool .entry))) slots nodes) (state (now (image .entry)) (now (pool .entry)) heads) noBuffers) ⌝ }
+    ensures { λ r. ⌜
+        ((heads : List ℕ)
+        → ended (answerOf r) (countOf r) (state (now (image .exit)) (now (pool .exit)) (headsFresh heads r)) noBuffers
+        ≡ ends (format (length (now (pool .entry))) slots nodes)
+        (state (now (image .entry)) (now (pool .entry)) heads) noBuffers)
+        ⌝ }
 {
     let g = Geometry {
         slots: slots as usize,

@@ -28,7 +28,11 @@ use walks::descent::find;
 
 // Does a reel hold a frame? The count is 1 or 0.
 pub fn has(image: &[u64], reel: u64, frame: u64) -> Answer
-    ensures { λ r. ⌜ ((pool ws : List ℕ) → ended (answerOf r) (countOf r) (state (now (image .entry)) pool ws) noBuffers ≡ ends (query (has reel frame)) (state (now (image .entry)) pool ws) noBuffers) ⌝ }
+    ensures { λ r. ⌜
+        ((pool ws : List ℕ)
+        → ended (answerOf r) (countOf r) (state (now (image .entry)) pool ws) noBuffers
+        ≡ ends (query (has reel frame)) (state (now (image .entry)) pool ws) noBuffers)
+        ⌝ }
 {
     let g = match checks(image, Buffer::Absent, Buffer::Absent, Buffer::Absent) {
         Verdict::Passed(g) => g,
@@ -48,7 +52,9 @@ pub fn has(image: &[u64], reel: u64, frame: u64) -> Answer
 // Remove's script: the set word without the place's bit, then the locate word without it.
 fn put_remove(image: &[u64], g: Geometry, script: &mut [u64], t: Spot)
     requires { ⌜ Sized (now image) g × (t .node < g .nodes) × (t .place < 64) × (8 ≤ length (now script)) ⌝ }
-    ensures { λ _. ⌜ now (script .exit) ≡ written (segmented (removeScript g (reads (now (image .entry))) t)) (now (script .entry)) ⌝ }
+    ensures { λ _. ⌜
+        now (script .exit) ≡ written (segmented (removeScript g (reads (now (image .entry))) t)) (now (script .entry))
+        ⌝ }
 {
     let at = 64 + 2 * g.slots + 80 * t.node;
     let place = t.place as u32;
@@ -69,7 +75,13 @@ pub fn remove(
     reel: u64,
     frame: u64,
 ) -> Answer
-    ensures { λ r. ⌜ ((pool ws : List ℕ) → headsIn ws ≡ heads → ended (answerOf r) (countOf r) (state (now (image .entry)) pool ws) (buffers [] (now (script .exit)) []) ≡ ends (remove (length (now (script .entry))) reel frame) (state (now (image .entry)) pool ws) (buffers [] (now (script .entry)) [])) ⌝ }
+    ensures { λ r. ⌜
+        ((pool ws : List ℕ)
+        → headsIn ws ≡ heads
+        → ended (answerOf r) (countOf r) (state (now (image .entry)) pool ws) (buffers [] (now (script .exit)) [])
+        ≡ ends (remove (length (now (script .entry))) reel frame) (state (now (image .entry)) pool ws)
+        (buffers [] (now (script .entry)) []))
+        ⌝ }
 {
     let g = match checks(
         image,

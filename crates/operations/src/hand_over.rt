@@ -69,7 +69,11 @@ pub fn hand_over_head(
     count: &mut u64,
 ) -> u64
     requires { ⌜ HeadInside head answer ⌝ }
-    ensures { λ r. ⌜ (r ≡ headAnswerOf answer) × (now (count .exit) ≡ headCountOf answer) × (now (words .exit) ≡ headsAfter (now (words .entry)) head answer) ⌝ }
+    ensures { λ r. ⌜
+        (r ≡ headAnswerOf answer)
+        × (now (count .exit) ≡ headCountOf answer)
+        × (now (words .exit) ≡ headsAfter (now (words .entry)) head answer)
+        ⌝ }
 {
     match answer {
         HeadAnswer::Done(n, state) => {

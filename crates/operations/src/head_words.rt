@@ -53,7 +53,11 @@ pub fn read_heads(words: &[u64; HEAD_WORDS]) -> [Head; HEADS]
 // Writes the five words of record h. The words come as a slice, whose length a contract may speak of.
 fn write_words(words: &mut [u64], h: usize, state: u64, t: Target)
     requires { ⌜ (h < headCount) × (length (now words) ≡ 5 * headCount) ⌝ }
-    ensures { λ _. ⌜ now (words .exit) ≡ take (5 * h) (now (words .entry)) ++ ((state ∷ t .slot ∷ t .node ∷ t .place ∷ t .frame ∷ []) ++ drop (5 * h + 5) (now (words .entry))) ⌝ }
+    ensures { λ _. ⌜
+        now (words .exit)
+        ≡ take (5 * h) (now (words .entry)) ++
+        ((state ∷ t .slot ∷ t .node ∷ t .place ∷ t .frame ∷ []) ++ drop (5 * h + 5) (now (words .entry)))
+        ⌝ }
 {
     let at = 5 * h;
     words[at] = state;

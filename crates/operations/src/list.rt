@@ -18,7 +18,13 @@ use walks::trees::list_tree;
 
 // List a reel's frames: all of them, or the list stays as it is. Past the checks the scratch map is all 0 in the end.
 pub fn list(image: &[u64], scratch: &mut [u64], list: &mut [u64], reel: u64) -> Answer
-    ensures { λ r. ⌜ ((pool ws : List ℕ) → ended (answerOf r) (countOf r) (state (now (image .entry)) pool ws) (buffers (now (scratch .exit)) [] (now (list .exit))) ≡ ends (query (list-reel (length (now (scratch .entry))) (length (now (list .entry))) reel)) (state (now (image .entry)) pool ws) (buffers (now (scratch .entry)) [] (now (list .entry)))) ⌝ }
+    ensures { λ r. ⌜
+        ((pool ws : List ℕ)
+        → ended (answerOf r) (countOf r) (state (now (image .entry)) pool ws)
+        (buffers (now (scratch .exit)) [] (now (list .exit)))
+        ≡ ends (query (list-reel (length (now (scratch .entry))) (length (now (list .entry))) reel))
+        (state (now (image .entry)) pool ws) (buffers (now (scratch .entry)) [] (now (list .entry))))
+        ⌝ }
 {
     let g = match checks(
         image,

@@ -50,7 +50,13 @@ fn put_open(script: &mut [u64], g: Geometry, slot: usize, n: usize, reel: u64)
 
 // Open a reel: the lowest empty slot, and the lowest free node as its root.
 pub fn open(image: &[u64], pool: &mut [u64], script: &mut [u64], reel: u64) -> Answer
-    ensures { λ r. ⌜ ((heads : List ℕ) → ended (answerOf r) (countOf r) (state (now (image .entry)) (now (pool .exit)) heads) (buffers [] (now (script .exit)) []) ≡ ends (openReel (length (now (pool .entry))) (length (now (script .entry))) reel) (state (now (image .entry)) (now (pool .entry)) heads) (buffers [] (now (script .entry)) [])) ⌝ }
+    ensures { λ r. ⌜
+        ((heads : List ℕ)
+        → ended (answerOf r) (countOf r) (state (now (image .entry)) (now (pool .exit)) heads)
+        (buffers [] (now (script .exit)) [])
+        ≡ ends (openReel (length (now (pool .entry))) (length (now (script .entry))) reel)
+        (state (now (image .entry)) (now (pool .entry)) heads) (buffers [] (now (script .entry)) []))
+        ⌝ }
 {
     let g = match checks(
         image,

@@ -16,7 +16,12 @@ use walks::recovery::recover_image;
 
 // Recover: an image that is not sound stays as it is, and its map is all 0.
 pub fn recover(image: &mut [u64], pool: &mut [u64]) -> Answer
-    ensures { λ r. ⌜ ((heads : List ℕ) → ended (answerOf r) (countOf r) (state (now (image .exit)) (now (pool .exit)) (headsFresh heads r)) noBuffers ≡ ends (recover (length (now (pool .entry)))) (state (now (image .entry)) (now (pool .entry)) heads) noBuffers) ⌝ }
+    ensures { λ r. ⌜
+        ((heads : List ℕ)
+        → ended (answerOf r) (countOf r) (state (now (image .exit)) (now (pool .exit)) (headsFresh heads r)) noBuffers
+        ≡ ends (recover (length (now (pool .entry)))) (state (now (image .entry)) (now (pool .entry)) heads)
+        noBuffers)
+        ⌝ }
 {
     let g = match checks(
         image,

@@ -29,7 +29,15 @@ pub fn retire(
     script: &mut [u64],
     reel: u64,
 ) -> Answer
-    ensures { λ r. ⌜ ((ws : List ℕ) → headsIn ws ≡ heads → ended (answerOf r) (countOf r) (state (now (image .entry)) (now (pool .exit)) ws) (buffers (now (scratch .exit)) (now (script .exit)) []) ≡ ends (retire (length (now (pool .entry))) (length (now (scratch .entry))) (length (now (script .entry))) reel) (state (now (image .entry)) (now (pool .entry)) ws) (buffers (now (scratch .entry)) (now (script .entry)) [])) ⌝ }
+    ensures { λ r. ⌜
+        ((ws : List ℕ)
+        → headsIn ws ≡ heads
+        → ended (answerOf r) (countOf r) (state (now (image .entry)) (now (pool .exit)) ws)
+        (buffers (now (scratch .exit)) (now (script .exit)) [])
+        ≡ ends
+        (retire (length (now (pool .entry))) (length (now (scratch .entry))) (length (now (script .entry))) reel)
+        (state (now (image .entry)) (now (pool .entry)) ws) (buffers (now (scratch .entry)) (now (script .entry)) []))
+        ⌝ }
 {
     let g = match checks(
         image,

@@ -27,7 +27,10 @@ pub fn locate_word(image: &[u64], g: Geometry, node: usize) -> u64
 // in it, so where room is made first, the rest of the script is lent on to this writer.
 pub fn put_locate(script: &mut [u64], g: Geometry, t: Spot, locate: u64)
     requires { ⌜ (4 ≤ length (now script)) × (g .slots ≤ 4096) × (t .node < 65536) × (t .place < 64) ⌝ }
-    ensures { λ _. ⌜ now (script .exit) ≡ written (segmented (((locateAt g (t .node), withBit locate (t .place)) ∷ []) ∷ [])) (now (script .entry)) ⌝ }
+    ensures { λ _. ⌜
+        now (script .exit)
+        ≡ written (segmented (((locateAt g (t .node), withBit locate (t .place)) ∷ []) ∷ [])) (now (script .entry))
+        ⌝ }
 {
     let at = (64 + 2 * g.slots + 80 * t.node + 1) as u64;
     put_fenced(script, at, with_bit(locate, t.place as u32));
@@ -45,7 +48,10 @@ pub fn put_scale_up(script: &mut [u64], g: Geometry, node: usize, size: u64)
 // Adjacent nodes made anew, of size 64.
 fn put_nodes(script: &mut [u64], g: Geometry, start: usize, count: usize, level: u64)
     requires { ⌜ (count ≤ 4) × (10 * count ≤ length (now script)) × (g .slots ≤ 4096) × (start + count ≤ 65536) ⌝ }
-    ensures { λ _. ⌜ now (script .exit) ≡ written (stores (flatMap (λ n. newNode g n level 64) (range start count))) (now (script .entry)) ⌝ }
+    ensures { λ _. ⌜
+        now (script .exit)
+        ≡ written (stores (flatMap (λ n. newNode g n level 64) (range start count))) (now (script .entry))
+        ⌝ }
 {
     let mut i = 0;
     while i < count {
@@ -63,8 +69,20 @@ pub fn put_branch_out(
     start: usize,
     count: usize,
 )
-    requires { ⌜ (depth < 31) × (count ≡ fanout depth) × (count ≤ 4) × (10 * count + 6 ≤ length (now script)) × (g .slots ≤ 4096) × (start + count ≤ 65536) × (parent < 65536) ⌝ }
-    ensures { λ _. ⌜ now (script .exit) ≡ written (segmented (flatMap (λ n. newNode g n (suc depth) 64) (range start (fanout depth)) ∷ ((nextAt g parent, start + 1) ∷ []) ∷ [])) (now (script .entry)) ⌝ }
+    requires { ⌜
+        (depth < 31)
+        × (count ≡ fanout depth)
+        × (count ≤ 4)
+        × (10 * count + 6 ≤ length (now script))
+        × (g .slots ≤ 4096)
+        × (start + count ≤ 65536)
+        × (parent < 65536)
+        ⌝ }
+    ensures { λ _. ⌜
+        now (script .exit)
+        ≡ written (segmented (flatMap (λ n. newNode g n (suc depth) 64) (range start (fanout depth)) ∷
+        ((nextAt g parent, start + 1) ∷ []) ∷ [])) (now (script .entry))
+        ⌝ }
 {
     let at = (64 + 2 * g.slots + 80 * parent) as u64;
     put_nodes(script, g, start, count, depth + 1);

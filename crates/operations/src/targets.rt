@@ -41,7 +41,11 @@ fn is_outside(g: Geometry, t: Target) -> bool
 // Fill's script: the frame, then the fingerprint word with its other seven bytes kept.
 fn put_fill(image: &[u64], g: Geometry, script: &mut [u64], t: Target)
     requires { ⌜ Sized (now image) g × (t .node < g .nodes) × (t .place < 64) × (8 ≤ length (now script)) ⌝ }
-    ensures { λ _. ⌜ now (script .exit) ≡ written (segmented (fillScript (ruleOf (reads (now (image .entry)))) g (reads (now (image .entry))) t)) (now (script .entry)) ⌝ }
+    ensures { λ _. ⌜
+        now (script .exit)
+        ≡ written (segmented (fillScript (ruleOf (reads (now (image .entry)))) g (reads (now (image .entry))) t))
+        (now (script .entry))
+        ⌝ }
 {
     let at = 64 + 2 * g.slots + 80 * (t.node as usize);
     let place = t.place as usize;
@@ -58,7 +62,11 @@ fn put_fill(image: &[u64], g: Geometry, script: &mut [u64], t: Target)
 // Commit's script: the set word with the place's bit.
 fn put_commit(image: &[u64], g: Geometry, script: &mut [u64], t: Target)
     requires { ⌜ Sized (now image) g × (t .node < g .nodes) × (t .place < 64) × (4 ≤ length (now script)) ⌝ }
-    ensures { λ _. ⌜ now (script .exit) ≡ written (segmented (bitOn (reads (now (image .entry))) (setAt g (t .node)) (t .place) ∷ [])) (now (script .entry)) ⌝ }
+    ensures { λ _. ⌜
+        now (script .exit)
+        ≡ written (segmented (bitOn (reads (now (image .entry))) (setAt g (t .node)) (t .place) ∷ []))
+        (now (script .entry))
+        ⌝ }
 {
     let at = 64 + 2 * g.slots + 80 * (t.node as usize) + 2;
     put_fenced(script, at as u64, with_bit(image[at], t.place as u32));
@@ -67,14 +75,25 @@ fn put_commit(image: &[u64], g: Geometry, script: &mut [u64], t: Target)
 // Abandon's script: the locate word without it.
 fn put_abandon(image: &[u64], g: Geometry, script: &mut [u64], t: Target)
     requires { ⌜ Sized (now image) g × (t .node < g .nodes) × (t .place < 64) × (4 ≤ length (now script)) ⌝ }
-    ensures { λ _. ⌜ now (script .exit) ≡ written (segmented (bitOff (reads (now (image .entry))) (locateAt g (t .node)) (t .place) ∷ [])) (now (script .entry)) ⌝ }
+    ensures { λ _. ⌜
+        now (script .exit)
+        ≡ written (segmented (bitOff (reads (now (image .entry))) (locateAt g (t .node)) (t .place) ∷ []))
+        (now (script .entry))
+        ⌝ }
 {
     let at = 64 + 2 * g.slots + 80 * (t.node as usize) + 1;
     put_fenced(script, at as u64, without_bit(image[at], t.place as u32));
 }
 
 pub fn fill(image: &[u64], heads: [Head; HEADS], script: &mut [u64], head: u64) -> HeadAnswer
-    ensures { λ r. ⌜ ((pool ws : List ℕ) → headsIn ws ≡ heads → ended (headAnswerOf r) (headCountOf r) (state (now (image .entry)) pool (headsAfter ws head r)) (buffers [] (now (script .exit)) []) ≡ ends (fill (length (now (script .entry))) head) (state (now (image .entry)) pool ws) (buffers [] (now (script .entry)) [])) ⌝ }
+    ensures { λ r. ⌜
+        ((pool ws : List ℕ)
+        → headsIn ws ≡ heads
+        → ended (headAnswerOf r) (headCountOf r) (state (now (image .entry)) pool (headsAfter ws head r))
+        (buffers [] (now (script .exit)) [])
+        ≡ ends (fill (length (now (script .entry))) head) (state (now (image .entry)) pool ws)
+        (buffers [] (now (script .entry)) []))
+        ⌝ }
 {
     let g = match checks(
         image,
@@ -99,7 +118,14 @@ pub fn fill(image: &[u64], heads: [Head; HEADS], script: &mut [u64], head: u64) 
 }
 
 pub fn commit(image: &[u64], heads: [Head; HEADS], script: &mut [u64], head: u64) -> HeadAnswer
-    ensures { λ r. ⌜ ((pool ws : List ℕ) → headsIn ws ≡ heads → ended (headAnswerOf r) (headCountOf r) (state (now (image .entry)) pool (headsAfter ws head r)) (buffers [] (now (script .exit)) []) ≡ ends (commit (length (now (script .entry))) head) (state (now (image .entry)) pool ws) (buffers [] (now (script .entry)) [])) ⌝ }
+    ensures { λ r. ⌜
+        ((pool ws : List ℕ)
+        → headsIn ws ≡ heads
+        → ended (headAnswerOf r) (headCountOf r) (state (now (image .entry)) pool (headsAfter ws head r))
+        (buffers [] (now (script .exit)) [])
+        ≡ ends (commit (length (now (script .entry))) head) (state (now (image .entry)) pool ws)
+        (buffers [] (now (script .entry)) []))
+        ⌝ }
 {
     let g = match checks(
         image,
@@ -124,7 +150,14 @@ pub fn commit(image: &[u64], heads: [Head; HEADS], script: &mut [u64], head: u64
 }
 
 pub fn abandon(image: &[u64], heads: [Head; HEADS], script: &mut [u64], head: u64) -> HeadAnswer
-    ensures { λ r. ⌜ ((pool ws : List ℕ) → headsIn ws ≡ heads → ended (headAnswerOf r) (headCountOf r) (state (now (image .entry)) pool (headsAfter ws head r)) (buffers [] (now (script .exit)) []) ≡ ends (abandon (length (now (script .entry))) head) (state (now (image .entry)) pool ws) (buffers [] (now (script .entry)) [])) ⌝ }
+    ensures { λ r. ⌜
+        ((pool ws : List ℕ)
+        → headsIn ws ≡ heads
+        → ended (headAnswerOf r) (headCountOf r) (state (now (image .entry)) pool (headsAfter ws head r))
+        (buffers [] (now (script .exit)) [])
+        ≡ ends (abandon (length (now (script .entry))) head) (state (now (image .entry)) pool ws)
+        (buffers [] (now (script .entry)) []))
+        ⌝ }
 {
     let g = match checks(
         image,

@@ -1,13 +1,15 @@
 // The C interface: thin wrappers, in which numbers and the driver's words meet the proved operations.
 //
-// A script's first `used` words are to be carried out, each barrier passed where it stands, before the next call; the map and the head records have changed
-// when the call returns. The driver passes a barrier after Format and after Recover. After power-up it calls Recover, and nothing else until that answers 0.
-// `reelbook_apply` passes no barriers: it is for images that need no crash safety while it runs. No buffer may overlap another. Buffers lent to be read stay.
+// A script's first `used` words are to be carried out, each barrier passed where it stands, before the next call; the map
+// and the head records have changed when the call returns. The driver passes a barrier after Format and after Recover.
+// After power-up it calls Recover, and nothing else until that answers 0. `reelbook_apply` passes no barriers: it is for
+// images that need no crash safety while it runs. No buffer may overlap another. Buffers lent to be read stay.
 ghost use mathlib.Core.Path.{_≡_};
 ghost use mathlib.Core.List.{List, []};
 ghost use Prim.Native.Nat.{ℕ};
 ghost use lib.ListN.{length};
-ghost use Rattle.book.specs.State.{format, recover, openReel, claim, fill, commit, abandon, remove, retire, query, has, list as list-reel};
+ghost use Rattle.book.specs.State.{format, recover, openReel, claim, fill, commit, abandon, remove, retire};
+ghost use Rattle.book.specs.State.{query, has, list as list-reel};
 ghost use Rattle.book.specs.CarryOut.{carry, carried};
 ghost use Rattle.operations.specs.Ends.{buffers, noBuffers, state, ended, ends};
 use book::HEAD_WORDS;
@@ -37,7 +39,11 @@ pub extern "C" fn reelbook_format(
     slots: u64,
     nodes: u64,
 ) -> u64
-    ensures { λ r. ⌜ ended r 0 (state (now (image .exit)) (now (map .exit)) (now (heads .exit))) noBuffers ≡ ends (format (length (now (map .entry))) slots nodes) (state (now (image .entry)) (now (map .entry)) (now (heads .entry))) noBuffers ⌝ }
+    ensures { λ r. ⌜
+        ended r 0 (state (now (image .exit)) (now (map .exit)) (now (heads .exit))) noBuffers
+        ≡ ends (format (length (now (map .entry))) slots nodes)
+        (state (now (image .entry)) (now (map .entry)) (now (heads .entry))) noBuffers
+        ⌝ }
 {
     hand_over_fresh(format::format(image, map, slots, nodes), heads)
 }
@@ -49,7 +55,11 @@ pub extern "C" fn reelbook_recover(
     map: &mut [u64],
     heads: &mut [u64; HEAD_WORDS],
 ) -> u64
-    ensures { λ r. ⌜ ended r 0 (state (now (image .exit)) (now (map .exit)) (now (heads .exit))) noBuffers ≡ ends (recover (length (now (map .entry)))) (state (now (image .entry)) (now (map .entry)) (now (heads .entry))) noBuffers ⌝ }
+    ensures { λ r. ⌜
+        ended r 0 (state (now (image .exit)) (now (map .exit)) (now (heads .exit))) noBuffers
+        ≡ ends (recover (length (now (map .entry))))
+        (state (now (image .entry)) (now (map .entry)) (now (heads .entry))) noBuffers
+        ⌝ }
 {
     hand_over_fresh(recover::recover(image, map), heads)
 }
@@ -63,7 +73,13 @@ pub extern "C" fn reelbook_open(
     reel: u64,
     used: &mut u64,
 ) -> u64
-    ensures { λ r. ⌜ ((heads : List ℕ) → ended r (now (used .exit)) (state (now (image .entry)) (now (map .exit)) heads) (buffers [] (now (script .exit)) []) ≡ ends (openReel (length (now (map .entry))) (length (now (script .entry))) reel) (state (now (image .entry)) (now (map .entry)) heads) (buffers [] (now (script .entry)) [])) ⌝ }
+    ensures { λ r. ⌜
+        ((heads : List ℕ)
+        → ended r (now (used .exit)) (state (now (image .entry)) (now (map .exit)) heads)
+        (buffers [] (now (script .exit)) [])
+        ≡ ends (openReel (length (now (map .entry))) (length (now (script .entry))) reel)
+        (state (now (image .entry)) (now (map .entry)) heads) (buffers [] (now (script .entry)) []))
+        ⌝ }
 {
     hand_over(open::open(image, map, script, reel), used)
 }
@@ -80,7 +96,12 @@ pub extern "C" fn reelbook_claim(
     frame: u64,
     used: &mut u64,
 ) -> u64
-    ensures { λ r. ⌜ ended r (now (used .exit)) (state (now (image .entry)) (now (map .exit)) (now (heads .exit))) (buffers [] (now (script .exit)) []) ≡ ends (claim (length (now (map .entry))) (length (now (script .entry))) head reel frame) (state (now (image .entry)) (now (map .entry)) (now (heads .entry))) (buffers [] (now (script .entry)) []) ⌝ }
+    ensures { λ r. ⌜
+        ended r (now (used .exit)) (state (now (image .entry)) (now (map .exit)) (now (heads .exit)))
+        (buffers [] (now (script .exit)) [])
+        ≡ ends (claim (length (now (map .entry))) (length (now (script .entry))) head reel frame)
+        (state (now (image .entry)) (now (map .entry)) (now (heads .entry))) (buffers [] (now (script .entry)) [])
+        ⌝ }
 {
     let answer = claim::claim(image, map, read_heads(heads), script, head, reel, frame);
     hand_over_head(answer, heads, head, used)
@@ -95,7 +116,13 @@ pub extern "C" fn reelbook_fill(
     head: u64,
     used: &mut u64,
 ) -> u64
-    ensures { λ r. ⌜ ((pool : List ℕ) → ended r (now (used .exit)) (state (now (image .entry)) pool (now (heads .exit))) (buffers [] (now (script .exit)) []) ≡ ends (fill (length (now (script .entry))) head) (state (now (image .entry)) pool (now (heads .entry))) (buffers [] (now (script .entry)) [])) ⌝ }
+    ensures { λ r. ⌜
+        ((pool : List ℕ)
+        → ended r (now (used .exit)) (state (now (image .entry)) pool (now (heads .exit)))
+        (buffers [] (now (script .exit)) [])
+        ≡ ends (fill (length (now (script .entry))) head) (state (now (image .entry)) pool (now (heads .entry)))
+        (buffers [] (now (script .entry)) []))
+        ⌝ }
 {
     let answer = targets::fill(image, read_heads(heads), script, head);
     hand_over_head(answer, heads, head, used)
@@ -110,7 +137,13 @@ pub extern "C" fn reelbook_commit(
     head: u64,
     used: &mut u64,
 ) -> u64
-    ensures { λ r. ⌜ ((pool : List ℕ) → ended r (now (used .exit)) (state (now (image .entry)) pool (now (heads .exit))) (buffers [] (now (script .exit)) []) ≡ ends (commit (length (now (script .entry))) head) (state (now (image .entry)) pool (now (heads .entry))) (buffers [] (now (script .entry)) [])) ⌝ }
+    ensures { λ r. ⌜
+        ((pool : List ℕ)
+        → ended r (now (used .exit)) (state (now (image .entry)) pool (now (heads .exit)))
+        (buffers [] (now (script .exit)) [])
+        ≡ ends (commit (length (now (script .entry))) head) (state (now (image .entry)) pool (now (heads .entry)))
+        (buffers [] (now (script .entry)) []))
+        ⌝ }
 {
     let answer = targets::commit(image, read_heads(heads), script, head);
     hand_over_head(answer, heads, head, used)
@@ -125,7 +158,13 @@ pub extern "C" fn reelbook_abandon(
     head: u64,
     used: &mut u64,
 ) -> u64
-    ensures { λ r. ⌜ ((pool : List ℕ) → ended r (now (used .exit)) (state (now (image .entry)) pool (now (heads .exit))) (buffers [] (now (script .exit)) []) ≡ ends (abandon (length (now (script .entry))) head) (state (now (image .entry)) pool (now (heads .entry))) (buffers [] (now (script .entry)) [])) ⌝ }
+    ensures { λ r. ⌜
+        ((pool : List ℕ)
+        → ended r (now (used .exit)) (state (now (image .entry)) pool (now (heads .exit)))
+        (buffers [] (now (script .exit)) [])
+        ≡ ends (abandon (length (now (script .entry))) head) (state (now (image .entry)) pool (now (heads .entry)))
+        (buffers [] (now (script .entry)) []))
+        ⌝ }
 {
     let answer = targets::abandon(image, read_heads(heads), script, head);
     hand_over_head(answer, heads, head, used)
@@ -141,7 +180,13 @@ pub extern "C" fn reelbook_remove(
     frame: u64,
     used: &mut u64,
 ) -> u64
-    ensures { λ r. ⌜ ((pool : List ℕ) → ended r (now (used .exit)) (state (now (image .entry)) pool (now (heads .entry))) (buffers [] (now (script .exit)) []) ≡ ends (remove (length (now (script .entry))) reel frame) (state (now (image .entry)) pool (now (heads .entry))) (buffers [] (now (script .entry)) [])) ⌝ }
+    ensures { λ r. ⌜
+        ((pool : List ℕ)
+        → ended r (now (used .exit)) (state (now (image .entry)) pool (now (heads .entry)))
+        (buffers [] (now (script .exit)) [])
+        ≡ ends (remove (length (now (script .entry))) reel frame)
+        (state (now (image .entry)) pool (now (heads .entry))) (buffers [] (now (script .entry)) []))
+        ⌝ }
 {
     hand_over(
         frames::remove(image, read_heads(heads), script, reel, frame),
@@ -152,7 +197,11 @@ pub extern "C" fn reelbook_remove(
 // Does a reel hold a frame? 1 or 0.
 #[no_mangle]
 pub extern "C" fn reelbook_has(image: &[u64], reel: u64, frame: u64, yes: &mut u64) -> u64
-    ensures { λ r. ⌜ ((pool heads : List ℕ) → ended r (now (yes .exit)) (state (now (image .entry)) pool heads) noBuffers ≡ ends (query (has reel frame)) (state (now (image .entry)) pool heads) noBuffers) ⌝ }
+    ensures { λ r. ⌜
+        ((pool heads : List ℕ)
+        → ended r (now (yes .exit)) (state (now (image .entry)) pool heads) noBuffers
+        ≡ ends (query (has reel frame)) (state (now (image .entry)) pool heads) noBuffers)
+        ⌝ }
 {
     hand_over(frames::has(image, reel, frame), yes)
 }
@@ -166,7 +215,13 @@ pub extern "C" fn reelbook_list(
     reel: u64,
     count: &mut u64,
 ) -> u64
-    ensures { λ r. ⌜ ((pool heads : List ℕ) → ended r (now (count .exit)) (state (now (image .entry)) pool heads) (buffers (now (scratch .exit)) [] (now (list .exit))) ≡ ends (query (list-reel (length (now (scratch .entry))) (length (now (list .entry))) reel)) (state (now (image .entry)) pool heads) (buffers (now (scratch .entry)) [] (now (list .entry)))) ⌝ }
+    ensures { λ r. ⌜
+        ((pool heads : List ℕ)
+        → ended r (now (count .exit)) (state (now (image .entry)) pool heads)
+        (buffers (now (scratch .exit)) [] (now (list .exit)))
+        ≡ ends (query (list-reel (length (now (scratch .entry))) (length (now (list .entry))) reel))
+        (state (now (image .entry)) pool heads) (buffers (now (scratch .entry)) [] (now (list .entry))))
+        ⌝ }
 {
     hand_over(list::list(image, scratch, list, reel), count)
 }
@@ -182,7 +237,14 @@ pub extern "C" fn reelbook_retire(
     reel: u64,
     used: &mut u64,
 ) -> u64
-    ensures { λ r. ⌜ ended r (now (used .exit)) (state (now (image .entry)) (now (map .exit)) (now (heads .entry))) (buffers (now (scratch .exit)) (now (script .exit)) []) ≡ ends (retire (length (now (map .entry))) (length (now (scratch .entry))) (length (now (script .entry))) reel) (state (now (image .entry)) (now (map .entry)) (now (heads .entry))) (buffers (now (scratch .entry)) (now (script .entry)) []) ⌝ }
+    ensures { λ r. ⌜
+        ended r (now (used .exit)) (state (now (image .entry)) (now (map .exit)) (now (heads .entry)))
+        (buffers (now (scratch .exit)) (now (script .exit)) [])
+        ≡ ends
+        (retire (length (now (map .entry))) (length (now (scratch .entry))) (length (now (script .entry))) reel)
+        (state (now (image .entry)) (now (map .entry)) (now (heads .entry)))
+        (buffers (now (scratch .entry)) (now (script .entry)) [])
+        ⌝ }
 {
     hand_over(
         retire::retire(image, map, read_heads(heads), scratch, script, reel),

@@ -265,7 +265,8 @@ const TABLE: [u8; 256] = [
     102,
 ];
 
-// The table, as a value. A constant is laid out anew wherever it is indexed: whoever folds many frames lays it out once, and lends it.
+// The table, as a value. A constant is laid out anew wherever it is indexed: whoever folds many frames lays it out once,
+// and lends it.
 pub fn table() -> [u8; 256]
     ensures { λ r. ⌜ r ≡ theTable ⌝ }
 {

@@ -17,7 +17,11 @@ use memory::words::without_bit;
 // 8 × (p mod 8) + p div 8 is place p's.
 fn candidates(image: &[u64], g: Geometry, n: usize, print: u64) -> u64
     requires { ⌜ Sized (now image) g × (n < g .nodes) × (print < 256) ⌝ }
-    ensures { λ r. ⌜ ((p : ℕ) → p < 64 → isSet r (8 * (p % 8) + p / 8) ≡ eqb (storedFingerprint g (reads (now (image .entry))) n p) print) ⌝ }
+    ensures { λ r. ⌜
+        ((p : ℕ)
+        → p < 64
+        → isSet r (8 * (p % 8) + p / 8) ≡ eqb (storedFingerprint g (reads (now (image .entry))) n p) print)
+        ⌝ }
 {
     let at = 64 + 2 * g.slots + 80 * n + 8;
     let mut found: u64 = 0;
@@ -31,7 +35,13 @@ fn candidates(image: &[u64], g: Geometry, n: usize, print: u64) -> u64
 
 // Does a place that has the frame's fingerprint hold the frame? The caller has read the node's set word.
 fn is_match(image: &[u64], g: Geometry, n: usize, frame: u64, set: u64, p: usize) -> bool
-    requires { ⌜ Sized (now image) g × (n < g .nodes) × (p < 64) × (set ≡ reads (now image) (setAt g n)) × (storedFingerprint g (reads (now image)) n p ≡ fingerprint editionOne frame) ⌝ }
+    requires { ⌜
+        Sized (now image) g
+        × (n < g .nodes)
+        × (p < 64)
+        × (set ≡ reads (now image) (setAt g n))
+        × (storedFingerprint g (reads (now image)) n p ≡ fingerprint editionOne frame)
+        ⌝ }
     ensures { λ r. ⌜ r ≡ matches editionOne g (reads (now (image .entry))) frame n p ⌝ }
 {
     is_set(set, p as u32) & (image[64 + 2 * g.slots + 80 * n + 16 + p] == frame)

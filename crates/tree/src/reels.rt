@@ -23,7 +23,9 @@ pub fn is_filled(image: &[u64], g: Geometry, s: usize) -> bool
 // is rarely the reel's.
 fn is_reel(image: &[u64], g: Geometry, s: usize, reel: u64) -> bool
     requires { ⌜ Sized (now image) g × (s < g .slots) ⌝ }
-    ensures { λ r. ⌜ r ≡ holds (is (filled (reads (now (image .entry))) s) and eq (reads (now (image .entry)) (reelAt s)) reel) ⌝ }
+    ensures { λ r. ⌜
+        r ≡ holds (is (filled (reads (now (image .entry))) s) and eq (reads (now (image .entry)) (reelAt s)) reel)
+        ⌝ }
 {
     if image[64 + 2 * s] != reel {
         return false;
@@ -44,7 +46,11 @@ fn none_of_four(image: &[u64], g: Geometry, s: usize, reel: u64) -> bool
 // Slots that are not the reel's, passed over in fours; the rest is for a search slot by slot.
 fn passed_in_fours(image: &[u64], g: Geometry, reel: u64) -> usize
     requires { ⌜ Sized (now image) g ⌝ }
-    ensures { λ r. ⌜ (r ≤ g .slots) × NoneBelow (λ (s : ℕ). holds (is (filled (reads (now (image .entry))) s) and eq (reads (now (image .entry)) (reelAt s)) reel)) r ⌝ }
+    ensures { λ r. ⌜
+        (r ≤ g .slots)
+        × NoneBelow (λ (s : ℕ). holds
+        (is (filled (reads (now (image .entry))) s) and eq (reads (now (image .entry)) (reelAt s)) reel)) r
+        ⌝ }
 {
     let mut s = 0;
     while s + 4 <= g.slots {

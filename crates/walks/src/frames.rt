@@ -53,7 +53,13 @@ fn settled_at(
     unit: u64,
     p: usize,
 ) -> bool
-    requires { ⌜ Sized (now image) g × Formed g (reads (now image)) left n × (unit ≡ 2 ^ bitsTo (levels - left)) × (p < 64) × (now table ≡ theTable) ⌝ }
+    requires { ⌜
+        Sized (now image) g
+        × Formed g (reads (now image)) left n
+        × (unit ≡ 2 ^ bitsTo (levels - left))
+        × (p < 64)
+        × (now table ≡ theTable)
+        ⌝ }
     ensures { λ r. ⌜ r ≡ settledAt g (reads (now (image .entry))) left (levels - left) n suffix p ⌝ }
 {
     let frame = image[64 + 2 * g.slots + 80 * n + 16 + p];
@@ -77,7 +83,12 @@ fn settled_node(
     suffix: u64,
     unit: u64,
 ) -> bool
-    requires { ⌜ Sized (now image) g × Formed g (reads (now image)) left n × (unit ≡ 2 ^ bitsTo (levels - left)) × (now table ≡ theTable) ⌝ }
+    requires { ⌜
+        Sized (now image) g
+        × Formed g (reads (now image)) left n
+        × (unit ≡ 2 ^ bitsTo (levels - left))
+        × (now table ≡ theTable)
+        ⌝ }
     ensures { λ r. ⌜ r ≡ settledNode g (reads (now (image .entry))) left (levels - left) n suffix ⌝ }
 {
     // The set bits of the places not yet tested.
@@ -102,7 +113,13 @@ fn settled_tree(
     suffix: u64,
     unit: u64,
 ) -> bool
-    requires { ⌜ Sized (now image) g × Formed g (reads (now image)) left n × (unit ≡ 2 ^ bitsTo (levels - left)) × (suffix < unit) × (now table ≡ theTable) ⌝ }
+    requires { ⌜
+        Sized (now image) g
+        × Formed g (reads (now image)) left n
+        × (unit ≡ 2 ^ bitsTo (levels - left))
+        × (suffix < unit)
+        × (now table ≡ theTable)
+        ⌝ }
     ensures { λ r. ⌜ r ≡ settledTree g (reads (now (image .entry))) left (levels - left) n suffix ⌝ }
 {
     if !settled_node(image, table, g, left, n, suffix, unit) {
@@ -135,7 +152,13 @@ fn settled_group(
     suffix: u64,
     unit: u64,
 ) -> bool
-    requires { ⌜ Sized (now image) g × ((c : ℕ) → c < count → Formed g (reads (now image)) left (start + c)) × (count * unit ≡ 2 ^ bitsTo (levels - left)) × (suffix < unit) × (now table ≡ theTable) ⌝ }
+    requires { ⌜
+        Sized (now image) g
+        × ((c : ℕ) → c < count → Formed g (reads (now image)) left (start + c))
+        × (count * unit ≡ 2 ^ bitsTo (levels - left))
+        × (suffix < unit)
+        × (now table ≡ theTable)
+        ⌝ }
     ensures { λ r. ⌜ r ≡ settledGroup g (reads (now (image .entry))) left (levels - left) start count unit suffix ⌝ }
 {
     let mut own = suffix;
@@ -153,7 +176,9 @@ fn settled_group(
 // Does the lookup find each frame of a slot's tree, which is known to be sound, where it is held?
 pub fn frames_in_place(image: &[u64], g: Geometry, slot: usize) -> bool
     requires { ⌜ Sized (now image) g × Filled g (reads (now image)) slot × (isSoundTree g (reads (now image)) slot ≡ true) ⌝ }
-    ensures { λ r. ⌜ r ≡ every (inPlace editionOne g (reads (now (image .entry))) slot) (tree g (reads (now (image .entry))) slot) ⌝ }
+    ensures { λ r. ⌜
+        r ≡ every (inPlace editionOne g (reads (now (image .entry))) slot) (tree g (reads (now (image .entry))) slot)
+        ⌝ }
 {
     let root = image[64 + 2 * slot + 1] as usize;
     let table = table();

@@ -1,4 +1,5 @@
-// The walks: along a frame's path, and over a reel's tree. Each function computes a definition of tree's specs/ or of this crate's.
+// The walks: along a frame's path, and over a reel's tree. Each function computes a definition of tree's specs/ or of this
+// crate's.
 pub mod descent;
 pub mod frames;
 pub mod listing;

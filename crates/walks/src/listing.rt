@@ -32,7 +32,10 @@ fn copy_words(image: &[u64], list: &mut [u64], first: usize, count: usize)
 // Writes the words at a bitmap's set bits, places rising, to the start of a list; answers how many.
 fn list_words(image: &[u64], list: &mut [u64], first: usize, set: u64) -> usize
     requires { ⌜ (first + 64 ≤ length (now image)) × (length (wordsAt (now image) first (setPlaces set)) ≤ length (now list)) ⌝ }
-    ensures { λ r. ⌜ (r ≡ length (wordsAt (now (image .entry)) first (setPlaces set))) × (now (list .exit) ≡ listed (wordsAt (now (image .entry)) first (setPlaces set)) (now (list .entry))) ⌝ }
+    ensures { λ r. ⌜
+        (r ≡ length (wordsAt (now (image .entry)) first (setPlaces set)))
+        × (now (list .exit) ≡ listed (wordsAt (now (image .entry)) first (setPlaces set)) (now (list .entry)))
+        ⌝ }
 {
     // The set bits of the places not yet listed.
     let mut left = set;
@@ -50,7 +53,10 @@ fn list_words(image: &[u64], list: &mut [u64], first: usize, set: u64) -> usize
 // places from 0 on without a gap: these are copied in one piece.
 fn list_places(image: &[u64], list: &mut [u64], g: Geometry, n: usize) -> usize
     requires { ⌜ Sized (now image) g × (n < g .nodes) × (length (framesIn g (reads (now image)) n) ≤ length (now list)) ⌝ }
-    ensures { λ r. ⌜ (r ≡ length (framesIn g (reads (now (image .entry))) n)) × (now (list .exit) ≡ listed (framesIn g (reads (now (image .entry))) n) (now (list .entry))) ⌝ }
+    ensures { λ r. ⌜
+        (r ≡ length (framesIn g (reads (now (image .entry))) n))
+        × (now (list .exit) ≡ listed (framesIn g (reads (now (image .entry))) n) (now (list .entry)))
+        ⌝ }
 {
     let at = 64 + 2 * g.slots + 80 * n;
     let set = image[at + 2];
@@ -65,8 +71,23 @@ fn list_places(image: &[u64], list: &mut [u64], g: Geometry, n: usize) -> usize
 
 // Writes the frames of a node and of all below it, levels left, to the start of a list; answers how many.
 fn list_node(image: &[u64], list: &mut [u64], g: Geometry, left: u64, n: usize) -> usize
-    requires { ⌜ Sized (now image) g × (1 ≤ left) × (left ≤ 32) × (every (formedAt g (reads (now image))) (stops g (reads (now image)) left (levels - left) n) ≡ true) × (length (framesAt g (reads (now image)) (stops g (reads (now image)) left (levels - left) n)) ≤ length (now list)) ⌝ }
-    ensures { λ r. ⌜ (r ≡ length (framesAt g (reads (now (image .entry))) (stops g (reads (now (image .entry))) left (levels - left) n))) × (now (list .exit) ≡ listed (framesAt g (reads (now (image .entry))) (stops g (reads (now (image .entry))) left (levels - left) n)) (now (list .entry))) ⌝ }
+    requires { ⌜
+        Sized (now image) g
+        × (1 ≤ left)
+        × (left ≤ 32)
+        × (every (formedAt g (reads (now image))) (stops g (reads (now image)) left (levels - left) n) ≡ true)
+        × (length (framesAt g (reads (now image)) (stops g (reads (now image)) left (levels - left) n)) ≤ length
+        (now list))
+        ⌝ }
+    ensures { λ r. ⌜
+        (r
+        ≡ length
+        (framesAt g (reads (now (image .entry))) (stops g (reads (now (image .entry))) left (levels - left) n)))
+        × (now (list .exit)
+        ≡ listed
+        (framesAt g (reads (now (image .entry))) (stops g (reads (now (image .entry))) left (levels - left) n))
+        (now (list .entry)))
+        ⌝ }
 {
     let own = list_places(image, list, g, n);
     let next = image[64 + 2 * g.slots + 80 * n] as usize;
@@ -93,8 +114,24 @@ fn list_group(
     start: usize,
     count: usize,
 ) -> usize
-    requires { ⌜ Sized (now image) g × (1 ≤ left) × (left ≤ 32) × (start + count ≤ 65536) × (every (formedAt g (reads (now image))) (groupStops g (reads (now image)) left (levels - left) start count) ≡ true) × (length (framesAt g (reads (now image)) (groupStops g (reads (now image)) left (levels - left) start count)) ≤ length (now list)) ⌝ }
-    ensures { λ r. ⌜ (r ≡ length (framesAt g (reads (now (image .entry))) (groupStops g (reads (now (image .entry))) left (levels - left) start count))) × (now (list .exit) ≡ listed (framesAt g (reads (now (image .entry))) (groupStops g (reads (now (image .entry))) left (levels - left) start count)) (now (list .entry))) ⌝ }
+    requires { ⌜
+        Sized (now image) g
+        × (1 ≤ left)
+        × (left ≤ 32)
+        × (start + count ≤ 65536)
+        × (every (formedAt g (reads (now image))) (groupStops g (reads (now image)) left (levels - left) start count)
+        ≡ true)
+        × (length (framesAt g (reads (now image)) (groupStops g (reads (now image)) left (levels - left) start count))
+        ≤ length (now list))
+        ⌝ }
+    ensures { λ r. ⌜
+        (r
+        ≡ length (framesAt g (reads (now (image .entry)))
+        (groupStops g (reads (now (image .entry))) left (levels - left) start count)))
+        × (now (list .exit)
+        ≡ listed (framesAt g (reads (now (image .entry)))
+        (groupStops g (reads (now (image .entry))) left (levels - left) start count)) (now (list .entry)))
+        ⌝ }
 {
     let mut written = 0;
     let mut c = 0;
@@ -107,8 +144,16 @@ fn list_group(
 
 // Writes the frames of a filled slot's tree, which is known to be well formed, to the start of a list; answers how many.
 pub fn list_slot(image: &[u64], list: &mut [u64], g: Geometry, slot: usize) -> usize
-    requires { ⌜ Sized (now image) g × Filled g (reads (now image)) slot × (isSoundTree g (reads (now image)) slot ≡ true) × (length (listing g (reads (now image)) slot) ≤ length (now list)) ⌝ }
-    ensures { λ r. ⌜ (r ≡ length (listing g (reads (now (image .entry))) slot)) × (now (list .exit) ≡ listed (listing g (reads (now (image .entry))) slot) (now (list .entry))) ⌝ }
+    requires { ⌜
+        Sized (now image) g
+        × Filled g (reads (now image)) slot
+        × (isSoundTree g (reads (now image)) slot ≡ true)
+        × (length (listing g (reads (now image)) slot) ≤ length (now list))
+        ⌝ }
+    ensures { λ r. ⌜
+        (r ≡ length (listing g (reads (now (image .entry))) slot))
+        × (now (list .exit) ≡ listed (listing g (reads (now (image .entry))) slot) (now (list .entry)))
+        ⌝ }
 {
     let root = image[64 + 2 * slot + 1] as usize;
     list_node(image, list, g, 32, root - 1)

@@ -40,7 +40,9 @@ fn visit_reel(image: &[u64], pool: &mut [u64], g: Geometry, slot: usize) -> bool
 // Walks the trees of all filled slots.
 fn visit_slots(image: &[u64], pool: &mut [u64], g: Geometry) -> bool
     requires { ⌜ Sized (now image) g × (length (now pool) ≡ mapWords g) ⌝ }
-    ensures { λ r. ⌜ kept r (now (pool .exit)) ≡ walkedSlots g (reads (now (image .entry))) (upTo (g .slots)) (now (pool .entry)) ⌝ }
+    ensures { λ r. ⌜
+        kept r (now (pool .exit)) ≡ walkedSlots g (reads (now (image .entry))) (upTo (g .slots)) (now (pool .entry))
+        ⌝ }
 {
     let mut s = 0;
     while s < g.slots {
@@ -77,7 +79,15 @@ fn mend(image: &mut [u64], pool: &[u64], g: Geometry)
 // reached. Else the image stays, and the map is all 0.
 pub fn recover_image(image: &mut [u64], pool: &mut [u64], g: Geometry) -> bool
     requires { ⌜ Sized (now image) g × (length (now pool) ≡ mapWords g) ⌝ }
-    ensures { λ r. ⌜ (r ≡ isSound editionOne g (reads (now (image .entry)))) × (now (image .exit) ≡ cond (isSound editionOne g (reads (now (image .entry)))) (apply (now (image .entry)) (stores (recoverStores g (reads (now (image .entry)))))) (now (image .entry))) × (now (pool .exit) ≡ cond (isSound editionOne g (reads (now (image .entry)))) (mapOf g (nodesOf (allTrees g (reads (now (image .entry)))))) (clearMap (mapWords g))) ⌝ }
+    ensures { λ r. ⌜
+        (r ≡ isSound editionOne g (reads (now (image .entry))))
+        × (now (image .exit)
+        ≡ cond (isSound editionOne g (reads (now (image .entry))))
+        (apply (now (image .entry)) (stores (recoverStores g (reads (now (image .entry)))))) (now (image .entry)))
+        × (now (pool .exit)
+        ≡ cond (isSound editionOne g (reads (now (image .entry))))
+        (mapOf g (nodesOf (allTrees g (reads (now (image .entry)))))) (clearMap (mapWords g)))
+        ⌝ }
 {
     clear_map(pool);
     if !visit_slots(image, pool, g) {

@@ -30,7 +30,11 @@ pub enum Listing {
 // Is no node of a filled slot's tree malformed or met twice? Then the scratch map, whatever it held, marks exactly its nodes.
 fn check_tree(image: &[u64], scratch: &mut [u64], g: Geometry, slot: usize) -> bool
     requires { ⌜ Sized (now image) g × Filled g (reads (now image)) slot × (length (now scratch) ≡ mapWords g) ⌝ }
-    ensures { λ r. ⌜ kept r (now (scratch .exit)) ≡ kept (isSoundTree g (reads (now (image .entry))) slot) (mapOf g (nodesOf (tree g (reads (now (image .entry))) slot))) ⌝ }
+    ensures { λ r. ⌜
+        kept r (now (scratch .exit))
+        ≡ kept (isSoundTree g (reads (now (image .entry))) slot)
+        (mapOf g (nodesOf (tree g (reads (now (image .entry))) slot)))
+        ⌝ }
 {
     clear_map(scratch);
     visit_slot(image, scratch, g, slot)
@@ -38,8 +42,16 @@ fn check_tree(image: &[u64], scratch: &mut [u64], g: Geometry, slot: usize) -> b
 
 // Writes the frames of a checked tree, whose nodes are marked, to a list that has room for all of them.
 fn list_checked(image: &[u64], marks: &[u64], list: &mut [u64], g: Geometry, slot: usize) -> Listing
-    requires { ⌜ Sized (now image) g × Filled g (reads (now image)) slot × (isSoundTree g (reads (now image)) slot ≡ true) × (now marks ≡ mapOf g (nodesOf (tree g (reads (now image)) slot))) ⌝ }
-    ensures { λ r. ⌜ (r ≡ listingFrom g (reads (now (image .entry))) slot (length (now (list .entry)))) × (now (list .exit) ≡ listAfter g (reads (now (image .entry))) slot (now (list .entry))) ⌝ }
+    requires { ⌜
+        Sized (now image) g
+        × Filled g (reads (now image)) slot
+        × (isSoundTree g (reads (now image)) slot ≡ true)
+        × (now marks ≡ mapOf g (nodesOf (tree g (reads (now image)) slot)))
+        ⌝ }
+    ensures { λ r. ⌜
+        (r ≡ listingFrom g (reads (now (image .entry))) slot (length (now (list .entry))))
+        × (now (list .exit) ≡ listAfter g (reads (now (image .entry))) slot (now (list .entry)))
+        ⌝ }
 {
     if list.len() < count_frames(image, marks, g) {
         return Listing::Short;
@@ -56,7 +68,11 @@ pub fn list_tree(
     slot: usize,
 ) -> Listing
     requires { ⌜ Sized (now image) g × Filled g (reads (now image)) slot × (length (now scratch) ≡ mapWords g) ⌝ }
-    ensures { λ r. ⌜ (r ≡ listingFrom g (reads (now (image .entry))) slot (length (now (list .entry)))) × (now (list .exit) ≡ listAfter g (reads (now (image .entry))) slot (now (list .entry))) × (now (scratch .exit) ≡ clearMap (mapWords g)) ⌝ }
+    ensures { λ r. ⌜
+        (r ≡ listingFrom g (reads (now (image .entry))) slot (length (now (list .entry))))
+        × (now (list .exit) ≡ listAfter g (reads (now (image .entry))) slot (now (list .entry)))
+        × (now (scratch .exit) ≡ clearMap (mapWords g))
+        ⌝ }
 {
     if !check_tree(image, scratch, g, slot) {
         clear_map(scratch);
@@ -75,8 +91,19 @@ pub fn free_tree(
     g: Geometry,
     slot: usize,
 ) -> bool
-    requires { ⌜ Sized (now image) g × Filled g (reads (now image)) slot × (length (now pool) ≡ mapWords g) × (length (now scratch) ≡ mapWords g) ⌝ }
-    ensures { λ r. ⌜ (r ≡ isSoundTree g (reads (now (image .entry))) slot) × (now (pool .exit) ≡ cond (isSoundTree g (reads (now (image .entry))) slot) (unmarkAll (now (pool .entry)) (nodesOf (tree g (reads (now (image .entry))) slot))) (now (pool .entry))) × (now (scratch .exit) ≡ clearMap (mapWords g)) ⌝ }
+    requires { ⌜
+        Sized (now image) g
+        × Filled g (reads (now image)) slot
+        × (length (now pool) ≡ mapWords g)
+        × (length (now scratch) ≡ mapWords g)
+        ⌝ }
+    ensures { λ r. ⌜
+        (r ≡ isSoundTree g (reads (now (image .entry))) slot)
+        × (now (pool .exit)
+        ≡ cond (isSoundTree g (reads (now (image .entry))) slot)
+        (unmarkAll (now (pool .entry)) (nodesOf (tree g (reads (now (image .entry))) slot))) (now (pool .entry)))
+        × (now (scratch .exit) ≡ clearMap (mapWords g))
+        ⌝ }
 {
     if !check_tree(image, scratch, g, slot) {
         clear_map(scratch);

@@ -16,7 +16,11 @@ use tree::pool_map::mark;
 // Marks a node and, levels left, all below it. A node met a second time ends the walk, so it marks each node once.
 fn visit_node(image: &[u64], pool: &mut [u64], g: Geometry, left: u64, n: usize) -> bool
     requires { ⌜ Sized (now image) g × (length (now pool) ≡ mapWords g) × (1 ≤ left) × (left ≤ 32) ⌝ }
-    ensures { λ r. ⌜ kept r (now (pool .exit)) ≡ walked (formedAt g (reads (now (image .entry)))) (stops g (reads (now (image .entry))) left (levels - left) n) (now (pool .entry)) ⌝ }
+    ensures { λ r. ⌜
+        kept r (now (pool .exit))
+        ≡ walked (formedAt g (reads (now (image .entry))))
+        (stops g (reads (now (image .entry))) left (levels - left) n) (now (pool .entry))
+        ⌝ }
 {
     let depth = 32 - left;
     if !well_formed(image, g, depth, n) {
@@ -43,7 +47,11 @@ fn visit_group(
     count: usize,
 ) -> bool
     requires { ⌜ Sized (now image) g × (length (now pool) ≡ mapWords g) × (1 ≤ left) × (left ≤ 32) × (start + count ≤ 65536) ⌝ }
-    ensures { λ r. ⌜ kept r (now (pool .exit)) ≡ walked (formedAt g (reads (now (image .entry)))) (groupStops g (reads (now (image .entry))) left (levels - left) start count) (now (pool .entry)) ⌝ }
+    ensures { λ r. ⌜
+        kept r (now (pool .exit))
+        ≡ walked (formedAt g (reads (now (image .entry))))
+        (groupStops g (reads (now (image .entry))) left (levels - left) start count) (now (pool .entry))
+        ⌝ }
 {
     let mut c = 0;
     while c < count {

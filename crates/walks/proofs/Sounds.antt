@@ -157,11 +157,10 @@ slots-end g m k s pool h = let none-left : k - s ≡ 0 = omega arith in rw none-
 -- ---- the whole image
 
 module _ (g : Geometry) (image : List ℕ) where
-  -- what recovery answers and leaves
-  abbrev Recovers : Bool → (after pool : List ℕ) → Type 0
-  Recovers r after pool =
+  -- what the check answers and leaves
+  abbrev Checks : Bool → (pool : List ℕ) → Type 0
+  Checks r pool =
       (r ≡ isSound editionOne g (reads image))
-      × (after ≡ cond (isSound editionOne g (reads image)) (apply image (stores (recoverStores g (reads image)))) image)
       × (pool ≡ cond (isSound editionOne g (reads image)) (mapOf g (nodesOf (allTrees g (reads image)))) (clearMap (mapWords g)))
 
   module _ (pool : List ℕ) (is : pool ≡ clearMap (mapWords g)) (r : Bool) (marks : List ℕ)
@@ -172,11 +171,29 @@ module _ (g : Geometry) (image : List ℕ) where
     end : r ≡ isSound editionOne g (reads image)
     end = same-end r (isSound editionOne g (reads image)) marks (mapOf g (nodesOf (allTrees g (reads image)))) whole
 
-    pub image-refused : not r ≡ true → (pool' : List ℕ) → pool' ≡ clearMap (mapWords g) → Recovers false image pool'
-    image-refused e pool' c = rw (sym end ∙ not-true r e) (refl, refl, c)
+    pub image-unsound : not r ≡ true → (pool' : List ℕ) → pool' ≡ clearMap (mapWords g) → Checks false pool'
+    image-unsound e pool' c = rw (sym end ∙ not-true r e) (refl, c)
+
+    pub image-sound : not r ≡ false → Checks true marks
+    image-sound e =
+        let t = same-kept r (isSound editionOne g (reads image)) marks (mapOf g (nodesOf (allTrees g (reads image)))) whole (not-false r e) in
+        rw (sym end ∙ not-false r e) (refl, t)
+
+  -- what recovery answers and leaves
+  abbrev Recovers : Bool → (after pool : List ℕ) → Type 0
+  Recovers r after pool =
+      (r ≡ isSound editionOne g (reads image))
+      × (after ≡ cond (isSound editionOne g (reads image)) (apply image (stores (recoverStores g (reads image)))) image)
+      × (pool ≡ cond (isSound editionOne g (reads image)) (mapOf g (nodesOf (allTrees g (reads image)))) (clearMap (mapWords g)))
+
+  module _ {r : Bool} {marks : List ℕ} (c : Checks r marks) where
+    pub image-refused : not r ≡ true → Recovers false image marks
+    image-refused e =
+        let d : isSound editionOne g (reads image) ≡ false = sym (c .0) ∙ not-true r e in
+        (sym d, rw d refl, c .1)
 
     pub image-mended : not r ≡ false → Sized image g → (after : List ℕ) → after ≡ mendedBelow g marks image (g .nodes) → Recovers true after marks
     image-mended e sized after q =
-        let d : isSound editionOne g (reads image) ≡ true = sym end ∙ not-false r e in
-        let t = same-kept r (isSound editionOne g (reads image)) marks (mapOf g (nodesOf (allTrees g (reads image)))) whole (not-false r e) in
-        rw d (refl, q ∙ ap (λ p. mendedBelow g p image (g .nodes)) t ∙ mend-law g image sized d, t)
+        let d : isSound editionOne g (reads image) ≡ true = sym (c .0) ∙ not-false r e in
+        let t : marks ≡ mapOf g (nodesOf (allTrees g (reads image))) = rw d at (c .1) in
+        (sym d, rw d (q ∙ ap (λ p. mendedBelow g p image (g .nodes)) t ∙ mend-law g image sized d), c .1)

@@ -75,8 +75,26 @@ fn mend(image: &mut [u64], pool: &[u64], g: Geometry)
     }
 }
 
-// Is the image sound? Then each differing locate word of a reached node is set to its set word, and the map marks exactly the nodes
-// reached. Else the image stays, and the map is all 0.
+// Is the image sound? Then the map marks exactly the nodes reached, else it is all 0. The image is only read.
+pub fn check_image(image: &[u64], pool: &mut [u64], g: Geometry) -> bool
+    requires { ⌜ Sized (now image) g × (length (now pool) ≡ mapWords g) ⌝ }
+    ensures { λ r. ⌜
+        (r ≡ isSound editionOne g (reads (now (image .entry))))
+        × (now (pool .exit)
+        ≡ cond (isSound editionOne g (reads (now (image .entry))))
+        (mapOf g (nodesOf (allTrees g (reads (now (image .entry)))))) (clearMap (mapWords g)))
+        ⌝ }
+{
+    clear_map(pool);
+    if !visit_slots(image, pool, g) {
+        clear_map(pool);
+        return false;
+    }
+    true
+}
+
+// The same, and each differing locate word of a reached node of a sound image is set to its set word. Else the image
+// stays.
 pub fn recover_image(image: &mut [u64], pool: &mut [u64], g: Geometry) -> bool
     requires { ⌜ Sized (now image) g × (length (now pool) ≡ mapWords g) ⌝ }
     ensures { λ r. ⌜
@@ -89,9 +107,7 @@ pub fn recover_image(image: &mut [u64], pool: &mut [u64], g: Geometry) -> bool
         (mapOf g (nodesOf (allTrees g (reads (now (image .entry)))))) (clearMap (mapWords g)))
         ⌝ }
 {
-    clear_map(pool);
-    if !visit_slots(image, pool, g) {
-        clear_map(pool);
+    if !check_image(image, pool, g) {
         return false;
     }
     mend(image, pool, g);

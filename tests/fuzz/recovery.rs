@@ -7,7 +7,7 @@ use crate::model::call::{Call, Function, Lent};
 use crate::model::ending::Ending;
 use crate::model::fault::Fault;
 use crate::model::image::*;
-use crate::model::node::{LEVEL_AT, LOCATE, SET};
+use crate::model::node::{LEVEL_AT, LOCATE, PLACES, SET};
 use crate::model::script::{carry_out, Entry, BARRIER};
 use crate::model::table::{self, Reels, Table};
 use crate::model::tree;
@@ -82,7 +82,7 @@ fn check_locate(lent: &Lent, nodes: &BTreeSet<u64>) -> Result<(), String> {
     let heads: Vec<Head> = (0..HEADS).map(|head| Head::read(&lent.heads, head)).collect();
     for &node in nodes {
         let word = |word: u64| lent.image[(node_index(lent.image[1], node) + word) as usize];
-        let claims = heads.iter().filter(|head| head.state != State::Idle && head.node == node);
+        let claims = heads.iter().filter(|head| head.state != State::Idle && head.node == node && head.place < PLACES);
         let expected = claims.fold(word(SET), |places, head| places | 1 << head.place);
         if word(LOCATE) != expected {
             return Err(format!("node {}: expected locate {:x}, found {:x}", node, expected, word(LOCATE)));

@@ -7,9 +7,8 @@ import sys
 NAME = r"[^\s(){}.,;⌜⌝λ→]+"
 DECLARED = re.compile(rf"^(?:  )*(?:pub |abbrev |unfoldable )*({NAME}(?: {NAME})*?) :(?: |$)")
 IMPORT = re.compile(r"^(?:pub |unfoldable )*use [^{\s]+\.\{(.*)\}$")
-AS = re.compile(rf"^use [^{{\s]+ as ({NAME})$")
-# what the checker itself looks for, and what stands for a crate's theorems
-KEPT = re.compile(r".*-spec$|^(Inv|μ)-.*")
+# what the checker itself looks for, and theorems that nothing is derived from
+KEPT = re.compile(r".*-spec$|^(Inv|μ)-.*|^(witnesses|every-starred|walk-laws|clear-grows-nothing)$")
 WORDS = re.compile(NAME)
 
 
@@ -43,6 +42,13 @@ def imports(path, body):
                     yield f"{path}: {name} is brought in and not used"
 
 
+def defines(line, name, declaration):
+    """A line that declares the name, or begins one of its clauses."""
+    depth = len(declaration) - len(declaration.lstrip())
+    start = rf"^ {{{depth}}}(?:pub |abbrev |unfoldable )*{re.escape(name)}( .*)? (:|=)( |$)"
+    return re.match(start, line) is not None
+
+
 def main():
     files = sorted(pathlib.Path("crates").glob("*/specs/**/*.antt")) + sorted(pathlib.Path("crates").glob("*/proofs/**/*.antt"))
     bodies = {path: lines(path) for path in files}
@@ -56,7 +62,7 @@ def main():
             if not declared or "=" in declared.group(1) or line.startswith("   "):
                 continue
             for name in declared.group(1).split():
-                own = sum(words(other).count(name) for other in body if re.match(rf"^(?:  )*(?:pub |abbrev |unfoldable )*{re.escape(name)}(?: |$)", other))
+                own = sum(words(other).count(name) for other in body if defines(other, name, line))
                 if everywhere.get(name, 0) <= own and not KEPT.match(name) and "_" not in name:
                     found.append(f"{path}: {name} is used by nothing")
     print("\n".join(found), end="\n" if found else "")

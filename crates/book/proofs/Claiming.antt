@@ -22,8 +22,7 @@ use Rattle.book.specs.Agrees.{Reached, Shows, Claims, HeadAgrees, both-c
 use Rattle.book.specs.Ways.{SlotHas}
 use Rattle.book.proofs.Reading.{sizesOf}
 use Rattle.book.proofs.Claims.{SameClaim, head-on, agrees-of}
-use Rattle.book.proofs.Level31.{one-target}
-use Rattle.book.proofs.Heads.{length-with, head-written, head-stays, idle-nothing, table-head-written, table-head-stays, length-with-table}
+use Rattle.book.proofs.Heads.{length-with, head-written, head-stays, one-target, idle-nothing, table-head-written, table-head-stays, length-with-table}
 
 -- what the tests of a granted claim say
 pub record Asked (s : State) (t : Table) (h reel f slot : ℕ) : Type 0 where

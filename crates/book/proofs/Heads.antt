@@ -138,11 +138,6 @@ one-target a b = sym (target-about a .1) ∙ target-about b .1
 pub idle-nothing : {t : Target} {x : HeadState} → isIdle x ≡ true → About t x → ⊥
 idle-nothing h a = true-not-false h (target-about a .0)
 
-pub idle-is : (x : HeadState) → isIdle x ≡ true → x ≡ Idle
-idle-is Idle h = refl
-idle-is (Claimed t) h = absurd (true-not-false h refl)
-idle-is (Filled t) h = absurd (true-not-false h refl)
-
 pub claimed-is : (x : HeadState) → isClaimed x ≡ true → x ≡ Claimed (targetOf x)
 claimed-is Idle h = absurd (true-not-false h refl)
 claimed-is (Claimed t) h = refl

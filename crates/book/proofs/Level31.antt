@@ -24,23 +24,18 @@ use Rattle.tree.specs.Laws.{FreeRun}
 use Rattle.tree.proofs.Memory.{first-laws}
 use Rattle.tree.proofs.Cases.{true-not-false, not-false}
 use Rattle.tree.proofs.Laws.{room, level-laws, child-laws, reach-laws, run-laws}
-use Rattle.book.specs.declared.Target.{Target}
-use Rattle.book.specs.declared.HeadState.{HeadState}
 use Rattle.book.specs.Heads.{headCount}
 use Rattle.book.specs.State.{State, openReel, claim}
 use Rattle.tree.specs.declared.path.Room.{Room}
 use Rattle.tree.specs.declared.path.Room.the-variants.{Clear, ScaleUp, BranchOut}
 use Rattle.tree.specs.Room.{roomOn, needs, atLevel31}
 use Rattle.book.specs.Table.{Table}
-use Rattle.book.specs.Agrees.{About, by-claim, by-fill, ClaimsPlace, Agrees}
+use Rattle.book.specs.Agrees.{ClaimsPlace, Agrees}
 use Rattle.book.specs.Ways.{UnreachedRun, LowestRun, FullPath, SlotHas, Lacks, no-node, no-run}
+use Rattle.book.proofs.Heads.{one-target}
 use Rattle.book.proofs.Rooms.{RoomIs, room-is, room-branches}
 
 -- a head is about one target, so it claims one place
-pub one-target : {a b : Target} {x : HeadState} → About a x → About b x → a ≡ b
-one-target by-claim by-claim = refl
-one-target by-fill by-fill = refl
-
 pub one-place : {ws : List ℕ} {h n n' p q : ℕ} → ClaimsPlace ws h n p → ClaimsPlace ws h n' q → p ≡ q
 one-place c c' = sym (c .place) ∙ ap (λ t. t .place) (one-target (c .about) (c' .about)) ∙ c' .place
 

@@ -21,6 +21,7 @@ use Rattle.tree.specs.declared.path.Spot.{Spot}
 use Rattle.tree.specs.Lookup.{pathFrom, clearAt, clearSpot}
 use Rattle.tree.specs.Laws.{WellFormed, FirstAt}
 use Rattle.tree.proofs.Memory.{first-laws}
+use Rattle.tree.proofs.Lookup.{of-index}
 use Rattle.tree.proofs.Cases.{test, true-not-false, seen, nothing, just, some-inj, none-some}
 use Rattle.tree.proofs.Laws.{child-laws, reach-laws, node-laws, path-laws, spot-laws}
 use Rattle.tree.specs.declared.path.Room.{Room}
@@ -29,11 +30,6 @@ use Rattle.tree.specs.Room.{lastOf, fullRoom, roomOn}
 use Rattle.book.specs.Ways.{Full, FullAbove, FullPath}
 
 -- ---- elements of a list by their numbers
-
-pub of-index : (ns : List ℕ) (i : ℕ) {n : ℕ} → getElem? ns i ≡ some n → List·Memᴰ n ns
-of-index [] i h = none-some h
-of-index (x ∷ ns) zero h = List·Memᴰ·head (sym (some-inj h))
-of-index (x ∷ ns) (suc i) h = List·Memᴰ·tail (of-index ns i h)
 
 pub at-split : (xs ys : List ℕ) (n : ℕ) → getElem? (xs ++ n ∷ ys) (length xs) ≡ some n
 at-split [] ys n = refl

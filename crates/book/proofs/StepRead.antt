@@ -2,7 +2,6 @@
 use mathlib.Core.Path.{_≡_, refl}
 use mathlib.Core.Logic.{inl}
 use mathlib.Core.List.{[]}
-use Prim.Native.Nat.{ℕ}
 use Rattle.tree.proofs.Memory.{apply-none, crash-none}
 use Rattle.book.specs.State.{State, Operation, query, Query}
 use Rattle.book.specs.Perform.{granted}

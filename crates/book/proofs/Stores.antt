@@ -1,10 +1,10 @@
 -- What each answered operation stores, over any state.
 use mathlib.Core.Path.{_≡_, refl, sym, _∙_, ap, subst}
-use mathlib.Core.Bool.{true, false, not}
-use mathlib.Core.Logic.{_⊎_, inl, inr, _↔_, _≢_}
+use mathlib.Core.Bool.{true, false}
+use mathlib.Core.Logic.{_⊎_, inl, inr, _↔_}
 use mathlib.Core.Option.{Option, none, some}
-use mathlib.Core.List.{List, [], _∷_}
-use Prim.Native.Nat.{ℕ, suc, _+_, _*_, _%_, _≤_, _<_}
+use mathlib.Core.List.{List, _∷_}
+use Prim.Native.Nat.{ℕ, _+_, _*_, _%_, _≤_, _<_}
 use native.Mathlib.Omega.{arith}
 use lib.ListN.{length, getElem?}
 use borrow.Author.Tests.{eqb-false, not-false}
@@ -24,10 +24,9 @@ use Rattle.tree.specs.Laws.{FirstAt}
 use Rattle.tree.specs.Subtree.{tree, nodesOf}
 use Rattle.tree.proofs.Memory.{bit-laws, byte-laws, first-laws}
 use Rattle.tree.proofs.Cases.{true-not-false, seen, nothing, just}
-use Rattle.tree.proofs.Lookup.{match-facts}
+use Rattle.tree.proofs.Lookup.{of-index, match-facts}
 use Rattle.tree.proofs.Laws.{child-laws, path-laws, spot-laws, run-laws, pool-laws}
 use Rattle.book.specs.declared.Target.{Target}
-use Rattle.book.specs.declared.HeadState.{HeadState}
 use Rattle.book.specs.declared.HeadState.the-variants as heads
 use Rattle.book.specs.Heads.{headCount, headAt, wordsOf, withHead, targetOf}
 use Rattle.book.specs.State.{State, Operation, claim, fill, commit, abandon, remove, retire, query, has, memory, shape}
@@ -41,7 +40,7 @@ use Rattle.book.proofs.Heads.{word-written, word-stays, claimed-is, fil
 use Rattle.book.proofs.Inside.{fingerprint-lt}
 use Rattle.book.proofs.DueWords.{reel-slot}
 use Rattle.book.proofs.StepRetire.{tree-nodes}
-use Rattle.book.proofs.Rooms.{RoomIs, room-is, at-split, in-front, of-index}
+use Rattle.book.proofs.Rooms.{RoomIs, room-is, at-split, in-front}
 
 -- ---- words and records
 

@@ -1,7 +1,7 @@
 -- The refusal that is due: each number in its sequence with what it means, by words and ways and not by the book's own searches.
 -- Statements alone, over any state.
 use mathlib.Core.Path.{_≡_}
-use mathlib.Core.Bool.{true, false}
+use mathlib.Core.Bool.{false}
 use mathlib.Core.Logic.{_⊎_, _≢_}
 use mathlib.Core.List.{List, [], _∷_, List·Memᴰ}
 use Prim.Native.Nat.{ℕ, _+_, _*_, _/_, _≤_, _<_}

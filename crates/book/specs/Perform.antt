@@ -1,14 +1,13 @@
 -- The operations, over any contents, any numbers and any lengths.
-use mathlib.Core.Bool.{Bool, true, false, cond, not, _&&_, _||_}
+use mathlib.Core.Bool.{Bool, true, false, cond, _&&_, _||_}
 use mathlib.Core.Option.{Option, none, some}
 use mathlib.Core.List.{List, [], _∷_, _++_, map, flatMap}
 use Prim.Native.Nat.{ℕ, suc, _+_, _*_, _%_}
-use lib.ListN.{length}
 use lib.Dec.{eqb, ltb}
 use Rattle.tree.specs.Memory.{Memory, reads, withBit, withoutBit, withByte, Store, stores, apply, isSome}
 use Rattle.tree.specs.declared.layout.Geometry.{Geometry}
 use Rattle.tree.specs.Layout.{mapWords, reelAt, rootAt, nextAt, locateAt, setAt, levelAt, sizeAt, fingerprintsAt, frameAt, geometryOf}
-use Rattle.tree.specs.Lists.{range, upTo, keep}
+use Rattle.tree.specs.Lists.{range, upTo}
 use Rattle.tree.specs.Path.{fanout, child}
 use Rattle.tree.specs.Fingerprint.{Rule, fingerprint, ruleOf}
 use Rattle.tree.specs.Slots.{slotOf, emptySlot}

@@ -16,7 +16,7 @@ use Rattle.tree.specs.Pool.{used}
 use Rattle.book.specs.declared.Target.{Target}
 use Rattle.book.specs.declared.HeadState.the-variants.{Claimed, Filled}
 use Rattle.book.specs.Heads.{headAt}
-use Rattle.book.specs.State.{State, Operation, claim, fill, commit, abandon, remove, retire, memory, shape}
+use Rattle.book.specs.State.{State, Operation, memory, shape}
 use Rattle.book.specs.Perform.{newNode, group, perform}
 use Rattle.book.specs.Agrees.{About}
 use Rattle.book.specs.Ways.{Full, FullAbove, FullPath, ReelAt, Matches}

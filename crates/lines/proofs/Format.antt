@@ -7,7 +7,6 @@ use mathlib.Core.List.{List, [], _∷_, _++_}
 use Prim.Native.Nat.{ℕ, _^_, _≤_, _<_}
 use native.Mathlib.Omega.{arith}
 use lib.ListN.{length, drop}
-use lib.Seq.{drop-append-seam}
 use lib.Dec.{ltb}
 use borrow.Author.Tests.{ltb-false, le-ltb}
 use Rattle.lines.specs.Decimal.{decimal}
@@ -17,13 +16,9 @@ use Rattle.lines.specs.declared.line.Line.{Line}
 use Rattle.lines.specs.declared.line.Line.the-variants.{Open, Claim, Fill, Commit, Abandon, Remove, Has, List as ListOf, Retire, Other}
 use Rattle.lines.specs.Laws.{LineLaws}
 use Rattle.lines.proofs.Numbers.{decimal-read, read-decimal}
-use Rattle.lines.proofs.Places.{begins-own, begins-is}
+use Rattle.lines.proofs.Places.{begins-is}
 
 -- ---- a text and its number
-
-field-own : (t : List ℕ) (n : ℕ) (x : List ℕ) → n < 2 ^ 64 → 10 ≤ digitAt x → field t (t ++ (decimal n ++ x)) ≡ some (n, x)
-unfolding field
-field-own t n x h d = rw (begins-own t (decimal n ++ x), drop-append-seam) (decimal-read n x h d)
 
 field-is : (t bs : List ℕ) (p : ℕ × List ℕ) → field t bs ≡ some p → (bs ≡ t ++ (decimal (p .0) ++ p .1)) × (p .0 < 2 ^ 64)
 unfolding field

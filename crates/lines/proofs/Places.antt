@@ -62,11 +62,6 @@ module _ (line : List ℕ) (at d : ℕ) (e : d ≡ digitAt (drop at line)) where
 
 -- ---- texts
 
-pub begins-own : (t x : List ℕ) → begins t (t ++ x) ≡ true
-unfolding begins
-begins-own [] x = refl
-begins-own (a ∷ t) x = rw (eq-eqb a a refl) (begins-own t x)
-
 pub begins-is : (t bs : List ℕ) → begins t bs ≡ true → bs ≡ t ++ drop (length t) bs
 unfolding begins
 begins-is [] bs e = refl

@@ -13,7 +13,7 @@ use lib.Dec.{ltb}
 use borrow.Author.Tests.{eqb-false}
 use borrow.Rule.Slice.PartMut.{midOf, putMid}
 use Rattle.tree.specs.Memory.{Memory, Store, isSome, withBit, segmented, written}
-use Rattle.tree.specs.Test.{is, _and_, _or_, holds}
+use Rattle.tree.specs.Test.{is, _or_, holds}
 use Rattle.tree.specs.declared.layout.Geometry.{Geometry}
 use Rattle.tree.specs.Layout.{nextAt, locateAt, sizeAt}
 use Rattle.tree.specs.Lists.{range}

@@ -1,13 +1,13 @@
 -- Claim: how each way through the code ends.
 use mathlib.Core.Path.{_≡_, refl, sym, _∙_}
-use mathlib.Core.Bool.{Bool, true, false, cond, not}
+use mathlib.Core.Bool.{true, cond, not}
 use mathlib.Core.Logic.{_⊎_, inl, inr, _≢_}
 use mathlib.Core.List.{List, [], _∷_, _++_}
 use Prim.Native.Nat.{ℕ, _+_, _≤_, _<_}
 use native.Mathlib.Omega.{arith}
 use lib.ListN.{length}
-use lib.Dec.{eqb, ltb, leb}
-use borrow.Author.Tests.{ltb-true, ltb-false, leb-false, eqb-false, lt-ltb, not-true}
+use lib.Dec.{ltb, leb}
+use borrow.Author.Tests.{ltb-true, ltb-false, leb-false, lt-ltb}
 use Rattle.tree.specs.Memory.{reads, isSome}
 use Rattle.tree.specs.Test.{lt, le, is, _and_, _or_, holds}
 use Rattle.tree.specs.declared.layout.Geometry.{Geometry}

@@ -13,7 +13,7 @@ use Rattle.tree.proofs.Memory.{segment-laws}
 use Rattle.tree.proofs.Cases.{some-inj, test}
 use Rattle.tree.proofs.Laws.{pool-laws}
 use Rattle.book.specs.Refusals.{refusal}
-use Rattle.book.specs.State.{State, Operation, format, recover, Work}
+use Rattle.book.specs.State.{State, Operation, recover, Work}
 use Rattle.book.specs.Checks.{refusals}
 use Rattle.book.specs.Perform.{granted, leaves, perform}
 use Rattle.book.specs.Table.{Table}

@@ -1,16 +1,14 @@
 -- Open: what its checks leave, and how it ends.
 use mathlib.Core.Path.{_≡_, refl, sym, _∙_, ap}
-use mathlib.Core.Bool.{Bool, false, not}
+use mathlib.Core.Bool.{false}
 use mathlib.Core.Option.{none, some}
 use mathlib.Core.List.{List, [], _∷_}
 use Prim.Native.Nat.{ℕ, _≤_, _<_}
 use native.Mathlib.Omega.{arith}
 use lib.ListN.{length}
-use lib.Dec.{eqb}
 use Rattle.tree.specs.Memory.{reads, segmented, written}
 use Rattle.tree.specs.Test.{lt, le}
 use Rattle.tree.specs.declared.layout.Geometry.{Geometry}
-use Rattle.tree.specs.Layout.{geometryOf}
 use Rattle.tree.specs.Slots.{slotOf, emptySlot}
 use Rattle.tree.specs.Lookup.{freeRun}
 use Rattle.tree.specs.Subtree.{listed}

@@ -1,14 +1,13 @@
 -- The checks that come first, passed or not: 1, 2 and 3 as every operation but Format makes them.
 use mathlib.Core.Path.{_≡_, refl, sym, _∙_, ap}
-use mathlib.Core.Bool.{Bool, true, false, cond, not}
+use mathlib.Core.Bool.{true, false}
 use mathlib.Core.Logic.{inl, inr, _≢_}
 use mathlib.Core.Option.{Option, none, some}
-use mathlib.Core.List.{List, []}
+use mathlib.Core.List.{List}
 use Prim.Native.Nat.{ℕ, _≤_}
 use native.Mathlib.Omega.{arith}
 use lib.ListN.{length}
-use lib.Dec.{eqb}
-use borrow.Author.Tests.{eqb-true, eqb-false, ne-eqb, le-ltb, not-true, not-false}
+use borrow.Author.Tests.{ne-eqb, le-ltb}
 use Rattle.tree.specs.Memory.{reads}
 use Rattle.tree.specs.Test.{Test, ne, _or_, holds}
 use Rattle.tree.specs.declared.layout.Geometry.{Geometry}
@@ -18,7 +17,7 @@ use Rattle.book.specs.Refusals.{Refusal, refusal}
 use Rattle.book.specs.State.{State, Operation, format, recover, openReel, claim, fill, commit, abandon, remove, retire, query, has, list, scratchAfter}
 use Rattle.book.specs.Checks.{checked, refusals}
 use Rattle.book.specs.Perform.{leaves, clears}
-use Rattle.book.proofs.Refusals.{Denies, Passes, passes, denies, denied}
+use Rattle.book.proofs.Refusals.{Denies, denies}
 use Rattle.book.proofs.Inside.{sized}
 use Rattle.operations.specs.declared.checks.Buffer.{Buffer}
 use Rattle.operations.specs.declared.checks.Buffer.the-variants.{Absent, Words}

@@ -1,12 +1,11 @@
 -- An operation's tests past the first checks, and how it ends by them: one form for all that leave the state as it was where they refuse.
 use mathlib.Core.Path.{_≡_, refl, sym, _∙_}
-use mathlib.Core.Bool.{Bool, true, cond, not}
+use mathlib.Core.Bool.{Bool, true, cond}
 use mathlib.Core.Option.{Option}
 use mathlib.Core.List.{List, _∷_}
 use Prim.Native.Nat.{ℕ, _≤_, _<_}
 use native.Mathlib.Omega.{arith}
 use lib.ListN.{length}
-use lib.Dec.{eqb}
 use borrow.Author.Tests.{lt-ltb, ne-eqb, le-leb, lt-leb}
 use Rattle.tree.specs.Memory.{reads}
 use Rattle.tree.specs.Test.{le}

@@ -13,7 +13,7 @@ use Rattle.book.specs.State.{State, Operation, query, list, Work, leaving}
 use Rattle.book.specs.Refusals.{refusal}
 use Rattle.book.specs.Checks.{refusals}
 use Rattle.book.specs.Perform.{perform, granted}
-use Rattle.operations.specs.Ends.{Buffers, Ends, ended, countIn, found, ends}
+use Rattle.operations.specs.Ends.{Buffers, Ends, ended, found, ends}
 use Rattle.reelbook.specs.Laws.{CountsScript, CountLaws}
 
 -- a buffer that is as long with other words at its start in place of its own has room for them

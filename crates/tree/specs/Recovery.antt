@@ -7,7 +7,7 @@ use Rattle.memory.specs.Script.{Store}
 use Rattle.tree.specs.Lists.{keep}
 use Rattle.tree.specs.declared.layout.Geometry.{Geometry}
 use Rattle.tree.specs.Layout.{locateAt, setAt}
-use Rattle.tree.specs.Subtree.{Visit, allTrees}
+use Rattle.tree.specs.Subtree.{allTrees}
 
 -- Recover: every differing locate word of a reached node becomes its set word
 unfoldable pub recoverStores : Geometry → Memory → List Store

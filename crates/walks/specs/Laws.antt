@@ -12,7 +12,6 @@ use Rattle.tree.specs.declared.layout.Geometry.{Geometry}
 use Rattle.tree.specs.Layout.{mapWords, Sized}
 use Rattle.tree.specs.Lists.{upTo}
 use Rattle.tree.specs.Fingerprint.{editionOne}
-use Rattle.tree.specs.Slots.{Filled}
 use Rattle.tree.specs.Subtree.{tree, allTrees, nodesOf, listing}
 use Rattle.tree.specs.Check.{isSoundTree, isSound}
 use Rattle.tree.specs.Recovery.{recoverStores}

@@ -39,7 +39,10 @@ fn put_header(image: &mut [u64], g: Geometry)
 // Every slot is empty; the reel numbers stay, for nothing reads them.
 fn clear_roots(image: &mut [u64], g: Geometry)
     requires { ⌜ Sized (now image) g ⌝ }
-    ensures { λ _. ⌜ now (image .exit) ≡ apply (now (image .entry)) (stores (map (λ s. (rootAt s, 0)) (upTo (g .slots)))) ⌝ }
+    ensures { λ _. ⌜
+        now (image .exit)
+        ≡ apply (now (image .entry)) (stores (map (λ s. (rootAt s, 0)) (upTo (g .slots))))
+        ⌝ }
 {
     let mut s = 0;
     while s < g.slots {

@@ -1,11 +1,12 @@
 // The image's geometry: where words stand, and the refusals that the header decides.
 ghost use mathlib.Core.Path.{_≡_};
 ghost use mathlib.Core.Bool.{not};
-ghost use Prim.Native.Nat.{_≤_};
+ghost use Prim.Native.Nat.{_+_, _≤_, _<_};
 ghost use lib.Dec.{eqb};
 ghost use Rattle.memory.specs.Words.{reads};
 ghost use Rattle.tree.specs.Test.{holds};
-ghost use Rattle.tree.specs.Layout.{imageWords, mapWords, badImage, editionAt, geometryOf};
+ghost use Rattle.tree.specs.Layout.{Sized, imageWords, mapWords, badImage, editionAt, geometryOf};
+ghost use Rattle.tree.specs.Layout.{reelAt, rootAt, nodeAt};
 
 // How many reel slots and nodes an image has: the paper's R and N.
 pub struct Geometry {
@@ -72,4 +73,67 @@ pub fn bad_edition(image: &[u64]) -> bool
     ensures { λ r. ⌜ r ≡ not (eqb (reads (now (image .entry)) editionAt) 1) ⌝ }
 {
     word(image, 0) != 1
+}
+
+// The words of a node that have a meaning, by their offset; a place's fingerprint is a byte of word FINGERPRINTS + p / 8.
+pub const NEXT: usize = 0;
+
+pub const LOCATE: usize = 1;
+
+pub const SET: usize = 2;
+
+pub const LEVEL: usize = 3;
+
+pub const SIZE: usize = 4;
+
+pub const FINGERPRINTS: usize = 8;
+
+pub const FRAMES: usize = 16;
+
+// Where a slot's reel number stands.
+pub fn reel_at(slot: usize) -> usize
+    requires { ⌜ slot < 4096 ⌝ }
+    ensures { λ r. ⌜ r ≡ reelAt slot ⌝ }
+{
+    64 + 2 * slot
+}
+
+// Where a slot's root stands.
+pub fn root_at(slot: usize) -> usize
+    requires { ⌜ slot < 4096 ⌝ }
+    ensures { λ r. ⌜ r ≡ rootAt slot ⌝ }
+{
+    64 + 2 * slot + 1
+}
+
+// Where a node's words start.
+pub fn node_at(g: Geometry, n: usize) -> usize
+    requires { ⌜ (g .slots ≤ 4096) × (n < 65536) ⌝ }
+    ensures { λ r. ⌜ r ≡ nodeAt g n ⌝ }
+{
+    64 + 2 * g.slots + 80 * n
+}
+
+// A slot's reel number.
+pub fn reel_of(image: &[u64], g: Geometry, slot: usize) -> u64
+    requires { ⌜ Sized (now image) g × (slot < g .slots) ⌝ }
+    ensures { λ r. ⌜ r ≡ reads (now (image .entry)) (reelAt slot) ⌝ }
+{
+    image[reel_at(slot)]
+}
+
+// A slot's root.
+pub fn root_of(image: &[u64], g: Geometry, slot: usize) -> u64
+    requires { ⌜ Sized (now image) g × (slot < g .slots) ⌝ }
+    ensures { λ r. ⌜ r ≡ reads (now (image .entry)) (rootAt slot) ⌝ }
+{
+    image[root_at(slot)]
+}
+
+// A word of a node, by its offset.
+pub fn word_of(image: &[u64], g: Geometry, n: usize, offset: usize) -> u64
+    requires { ⌜ Sized (now image) g × (n < g .nodes) × (offset < 80) ⌝ }
+    ensures { λ r. ⌜ r ≡ reads (now (image .entry)) (nodeAt g n + offset) ⌝ }
+{
+    image[node_at(g, n) + offset]
 }

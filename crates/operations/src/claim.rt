@@ -37,14 +37,14 @@ use book::HEADS;
 use book::Head;
 use book::HeadState;
 use book::Target;
+use nodes::reels::slot_of;
+use pool::pool_map::free_run;
+use pool::pool_map::mark_run;
 use tree::layout::Geometry;
 use tree::path::Room;
 use tree::path::Spot;
 use tree::path::child;
 use tree::path::fanout;
-use tree::pool_map::free_run;
-use tree::pool_map::mark_run;
-use tree::reels::slot_of;
 use walks::descent::Placement;
 use walks::descent::room_for;
 

@@ -12,10 +12,10 @@ ghost use Rattle.operations.specs.HeadLists.{headsFresh};
 ghost use Rattle.operations.specs.Ends.{noBuffers, state, ended, ends};
 use crate::answer::Answer;
 use crate::answer::Refusal;
+use pool::pool_map::clear_map;
 use tree::layout::Geometry;
 use tree::layout::bad_image;
 use tree::layout::map_words;
-use tree::pool_map::clear_map;
 
 // Words 0 to 63: edition, R, N, and zeros.
 fn put_header(image: &mut [u64], g: Geometry)

@@ -18,11 +18,11 @@ use crate::checks::checks;
 use crate::heads::is_busy;
 use book::HEADS;
 use book::Head;
+use nodes::reels::slot_of;
 use tree::layout::Geometry;
 use tree::path::Spot;
 use tree::persistent::put_fenced_pair;
 use tree::persistent::without_bit;
-use tree::reels::slot_of;
 use walks::descent::Found;
 use walks::descent::find;
 

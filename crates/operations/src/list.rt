@@ -11,8 +11,8 @@ use crate::answer::Refusal;
 use crate::checks::Buffer;
 use crate::checks::Verdict;
 use crate::checks::checks;
-use tree::pool_map::clear_map;
-use tree::reels::slot_of;
+use nodes::reels::slot_of;
+use pool::pool_map::clear_map;
 use walks::trees::Listing;
 use walks::trees::list_tree;
 

@@ -13,12 +13,12 @@ use crate::answer::Refusal;
 use crate::checks::Buffer;
 use crate::checks::Verdict;
 use crate::checks::checks;
+use nodes::reels::empty_slot;
+use nodes::reels::slot_of;
+use pool::pool_map::free_node;
+use pool::pool_map::mark;
 use tree::layout::Geometry;
 use tree::persistent::put_fenced_pair;
-use tree::pool_map::free_node;
-use tree::pool_map::mark;
-use tree::reels::empty_slot;
-use tree::reels::slot_of;
 
 // The five stores of a node made anew.
 pub fn put_node(script: &mut [u64], g: Geometry, n: usize, level: u64, size: u64)

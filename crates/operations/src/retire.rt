@@ -15,9 +15,9 @@ use crate::checks::checks;
 use crate::heads::is_busy;
 use book::HEADS;
 use book::Head;
+use nodes::reels::slot_of;
+use pool::pool_map::clear_map;
 use tree::persistent::put_fenced;
-use tree::pool_map::clear_map;
-use tree::reels::slot_of;
 use walks::trees::free_tree;
 
 // Retire a reel: its root becomes 0. Past the checks the scratch map is all 0 in the end.

@@ -24,7 +24,7 @@ use book::HEADS;
 use book::Head;
 use book::HeadState;
 use book::Target;
-use tree::fingerprint::fingerprint_word;
+use nodes::fingerprint::fingerprint_word;
 use tree::layout::Geometry;
 use tree::persistent::put_fenced;
 use tree::persistent::put_fenced_pair;

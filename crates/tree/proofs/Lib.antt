@@ -27,6 +27,4 @@ pub mod Pool
 pub mod Bits
 pub mod Memory
 pub mod Laws
-pub mod NodeCode
-pub mod PoolLoops
-pub mod Places
+pub mod PathCode

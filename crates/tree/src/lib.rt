@@ -1,9 +1,4 @@
-// The suffix bit tree, in code: each function computes a definition of specs/.
-pub mod fingerprint;
+// The suffix bit tree: the types that its definitions and all code share, where words stand, and what is passed on of the layer below.
 pub mod layout;
-pub mod node;
 pub mod path;
 pub mod persistent;
-pub mod place;
-pub mod pool_map;
-pub mod reels;

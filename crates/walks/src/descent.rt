@@ -12,14 +12,14 @@ ghost use Rattle.tree.specs.Lookup.{lookup, clearSpot};
 ghost use Rattle.tree.specs.Room.{atLevel31};
 ghost use Rattle.walks.specs.Answers.{foundAs, foundFrom, placementFrom};
 ghost use Rattle.walks.specs.Descent.{stepFrom, orElse, roomAt, placementAs};
-use tree::fingerprint::fingerprint;
+use nodes::fingerprint::fingerprint;
+use nodes::node::clear_place;
+use nodes::node::well_formed;
+use nodes::place::found_place;
 use tree::layout::Geometry;
-use tree::node::clear_place;
-use tree::node::well_formed;
 use tree::path::Room;
 use tree::path::Spot;
 use tree::path::child;
-use tree::place::found_place;
 
 // Where the lookup finds a frame.
 pub enum Found {

@@ -14,11 +14,11 @@ ghost use Rattle.walks.specs.Settled.{Formed, absentBelow, settledAt, se
 use crate::descent::Step;
 use crate::descent::step_from;
 use memory::words::without_bit;
-use tree::fingerprint::fold;
-use tree::fingerprint::table;
+use nodes::fingerprint::fold;
+use nodes::fingerprint::table;
+use nodes::place::found_place;
 use tree::layout::Geometry;
 use tree::path::fanout;
-use tree::place::found_place;
 
 // Does the lookup find a frame in no node of its path below this one?
 fn absent_below(image: &[u64], g: Geometry, left: u64, n: usize, frame: u64, print: u64) -> bool

@@ -17,11 +17,11 @@ ghost use Rattle.walks.specs.Walk.{kept, walkedReel, walkedSlots};
 ghost use Rattle.walks.specs.Marked.{mendedBelow};
 use crate::frames::frames_in_place;
 use crate::visit::visit_slot;
+use nodes::reels::is_filled;
+use nodes::reels::slot_of;
+use pool::pool_map::clear_map;
+use pool::pool_map::next_used;
 use tree::layout::Geometry;
-use tree::pool_map::clear_map;
-use tree::pool_map::next_used;
-use tree::reels::is_filled;
-use tree::reels::slot_of;
 
 // Walks a filled slot's tree and marks its nodes. The slot must be its reel's lowest, and each frame where the lookup finds it.
 fn visit_reel(image: &[u64], pool: &mut [u64], g: Geometry, slot: usize) -> bool

@@ -14,8 +14,8 @@ use crate::listing::list_slot;
 use crate::marked::count_frames;
 use crate::marked::take_out;
 use crate::visit::visit_slot;
+use pool::pool_map::clear_map;
 use tree::layout::Geometry;
-use tree::pool_map::clear_map;
 
 // What listing a tree comes to.
 pub enum Listing {

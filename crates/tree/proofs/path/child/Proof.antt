@@ -1,4 +1,4 @@
-use Rattle.tree.proofs.NodeCode.{bit-small, child-low, child-high}
+use Rattle.tree.proofs.PathCode.{bit-small, child-low, child-high}
 use native.Mathlib.Omega.{arith}
 use borrow.Author.Needs.{needs}
 use Rattle.tree.proofs.path.child.Statement.{statement}

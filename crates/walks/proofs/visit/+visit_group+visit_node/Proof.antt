@@ -18,9 +18,9 @@ use Rattle.walks.proofs.visit.visit_node.Reads as visit-node
 use Rattle.walks.proofs.visit.visit_node.Kinds as visit-node-kinds
 use Rattle.walks.proofs.visit.+visit_group+visit_node.Lts-visit_node as visit-node-lts
 use Rattle.tree.proofs.path.fanout.Reads as fanout-reads
-use Rattle.tree.proofs.pool_map.is_used.Reads as is-used-reads
-use Rattle.tree.proofs.pool_map.mark.Reads as mark-reads
-use Rattle.tree.proofs.node.well_formed.Reads as well-formed-reads
+use Rattle.pool.proofs.pool_map.is_used.Reads as is-used-reads
+use Rattle.pool.proofs.pool_map.mark.Reads as mark-reads
+use Rattle.nodes.proofs.node.well_formed.Reads as well-formed-reads
 use Rattle.walks.proofs.visit.+visit_group+visit_node.{statement}
 use Rattle.walks.proofs.visit.+visit_group+visit_node.Tie.{close}
 

@@ -1,0 +1,3 @@
+pub mod NodeCode
+pub mod Places
+pub mod ReelCode

@@ -1,0 +1,95 @@
+-- What the code of fingerprints and nodes computes, step by step, in the code's own terms.
+use mathlib.Core.Path.{_≡_, refl, sym, _∙_}
+use mathlib.Core.Bool.{Bool, true, false, _&&_, and-assoc}
+use mathlib.Core.Logic.{inl, inr}
+use mathlib.Core.List.{List}
+use Prim.Native.Nat.{ℕ, _+_, _-_, _*_, _/_, _^_, _≤_, _<_}
+use native.Mathlib.Numerals.{add-one}
+use native.Mathlib.Omega.{arith}
+use native.Mathlib.Nat.{lt-of-lt-of-le, div-eq-of-lt, div-lt-iff-lt-mul, one-mul}
+use native.Mathlib.Decide.{decLt}
+use borrow.Author.Tests.{lt-ltb, le-ltb, le-leb, lt-leb, eq-eqb, ne-eqb}
+use lib.Dec.{eqb, ltb, leb}
+use lib.ListN.{length, getD}
+use lib.Pow.{pow-mono, pow-pos}
+use lib.Bits.{bitXor, xor-lt}
+use Rattle.memory.specs.Words.{Memory, byte}
+use Rattle.memory.proofs.Laws.{byte-laws}
+use Rattle.tree.specs.declared.layout.Geometry.{Geometry}
+use Rattle.tree.specs.Test.{Test, lt, le, eq, _and_, _or_, holds}
+use Rattle.tree.specs.Layout.{nextAt, locateAt, setAt, levelAt, sizeAt}
+use Rattle.tree.specs.Node.{sizeAllowed, formed, wellFormed}
+use Rattle.tree.specs.Path.{fanout}
+use Rattle.tree.specs.Fingerprint.{folded, tableEntry, theTable, fingerprint, editionOne}
+use Rattle.tree.proofs.Fingerprints.{table-at, table-length, fingerprint-laws}
+use Rattle.tree.proofs.Cases.{not-false}
+use Rattle.tree.proofs.Tests.{says}
+use Rattle.tree.proofs.Ways.{child-lt}
+
+-- ---- the fingerprint
+
+pub byte-small : {b : ℕ} (w j : ℕ) → b ≡ byte w j → b < 256
+byte-small w j e = rw e (byte-laws .byte-fits w j)
+
+pub folded-small : {h : ℕ} (k f : ℕ) → h ≡ folded tableEntry k f → h < 256
+folded-small k f e = rw e (fingerprint-laws .fits (fingerprint-laws .table-once) k f)
+
+-- a step by a table that is lent: inside it, and to the next h
+module _ {t : List ℕ} (is : t ≡ theTable) (k f : ℕ) {h b : ℕ} (p : h ≡ folded tableEntry k f) (q : b ≡ byte f k) where
+  pub entry-inside : bitXor h b < length t
+  entry-inside = rw (is, table-length) (xor-lt 8 h b (folded-small k f p) (byte-small f k q))
+
+  pub folded-step : getD t (bitXor h b) 0 ≡ folded tableEntry (k + 1) f
+  unfolding folded
+  folded-step = rw (add-one, ← p, ← q, is) (table-at (bitXor h b) (xor-lt 8 h b (folded-small k f p) (byte-small f k q)))
+
+pub fingerprint-small : {h : ℕ} (f : ℕ) → h ≡ fingerprint editionOne f → h < 256
+unfolding fingerprint editionOne
+fingerprint-small f e = folded-small 4 f e
+
+-- ---- nodes
+
+-- a bitmap has no bit at or above a size: by the size of a word, or by a shift
+pub within-word : (w size : ℕ) → w < 2 ^ 64 → 64 ≤ size → true ≡ ltb w (2 ^ size)
+within-word w size h l = sym (lt-ltb w (2 ^ size) (lt-of-lt-of-le h (pow-mono l)))
+
+pub shifted-out : (w size : ℕ) → eqb (w / 2 ^ size) 0 ≡ ltb w (2 ^ size)
+shifted-out w size = elim (decLt w (2 ^ size)) [
+  | yes l ↦ eq-eqb (w / 2 ^ size) 0 (div-eq-of-lt l) ∙ sym (lt-ltb w (2 ^ size) l)
+  | no h ↦
+      ne-eqb (w / 2 ^ size) 0 (λ z. let l : w < 1 * 2 ^ size = div-lt-iff-lt-mul (pow-pos size) .0 (omega arith) in h (rw one-mul at l))
+      ∙ sym (le-ltb w (2 ^ size) (omega arith))
+]
+
+-- a node's children are inside the pool
+module _ (nodes d size next : ℕ) where
+  abbrev pub childrenInside : Test
+  childrenInside = eq next 0 or (eq size 64 and lt d 31 and le (next - 1 + fanout d) nodes)
+
+  pub no-children : next ≡ 0 → true ≡ holds childrenInside
+  no-children z = simp (eq-eqb next 0 z)
+
+  pub children-past : (next ≡ 0 → ⊥) → nodes ≤ next - 1 → false ≡ holds childrenInside
+  children-past z l = sym (not-false (λ h. elim (says childrenInside h) [ inl q ↦ z q | inr t ↦ omega (arith, child-lt d 0 (t .1 .0)) ]))
+
+  pub children-within : {r : ℕ} → (next ≡ 0 → ⊥) → next - 1 < nodes → r ≡ fanout d
+      → eqb size 64 && (ltb d 31 && leb r (nodes - (next - 1))) ≡ holds childrenInside
+  children-within z l e = let q = less-by (next - 1) (fanout d) nodes (omega arith) in rw (e, ne-eqb next 0 z, q) refl
+    where
+      less-by : (b f n : ℕ) → b ≤ n → leb f (n - b) ≡ leb (b + f) n
+      less-by b f n h = elim (decLt n (b + f)) [
+        | yes l ↦ lt-leb f (n - b) (omega arith) ∙ sym (lt-leb (b + f) n l)
+        | no l ↦ le-leb f (n - b) (omega arith) ∙ sym (le-leb (b + f) n (omega arith))
+      ]
+
+module _ (g : Geometry) (m : Memory) (d n : ℕ) where
+  pub formed-outside : g .nodes ≤ n → false ≡ wellFormed g m d n
+  unfolding wellFormed formed
+  formed-outside h = simp (le-ltb n (g .nodes) h)
+
+  pub formed-inside : {sized locate set next : Bool} → n < g .nodes → sized ≡ holds (sizeAllowed d (m (sizeAt g n)))
+      → locate ≡ ltb (m (locateAt g n)) (2 ^ m (sizeAt g n)) → set ≡ ltb (m (setAt g n)) (2 ^ m (sizeAt g n))
+      → next ≡ holds (childrenInside (g .nodes) d (m (sizeAt g n)) (m (nextAt g n)))
+      → eqb (m (levelAt g n)) d && sized && locate && set && next ≡ wellFormed g m d n
+  unfolding wellFormed formed
+  formed-inside h p q r s = rw (p, q, r, s) (simp (lt-ltb n (g .nodes) h, and-assoc))

@@ -1,0 +1,24 @@
+use borrow.Author.Needs.{needs}
+use Rattle.memory.specs.Words.{reads as readsWords}
+use Rattle.nodes.proofs.ReelCode.{in-four}
+use Rattle.nodes.proofs.reels.none_of_four.Statement.{statement}
+use Rattle.nodes.proofs.reels.none_of_four.Tie as tie
+
+pub none-of-four-spec : {M : Type 1} → statement M
+none-of-four-spec =
+    tie.close
+    (tie.spec
+    (λ c. search needs)
+    (λ c. search needs)
+    (λ c. search needs)
+    (λ c. search needs)
+    (λ c. search needs)
+    (λ c. search needs)
+    (λ c. search needs)
+    (λ c. search needs)
+    (λ c. search needs)
+    (λ c. search needs)
+    (λ c. search needs)
+    (λ c. search needs)
+    (λ c. search needs)
+    (λ c. let a = c .before .before .before .before .args in in-four (readsWords (a .image .now)) (a .s) (a .reel)))

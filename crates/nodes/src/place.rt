@@ -1,0 +1,68 @@
+// The place of a node where the lookup finds a frame.
+ghost use mathlib.Core.Path.{_≡_};
+ghost use Prim.Native.Nat.{ℕ, _+_, _*_, _/_, _%_, _<_};
+ghost use lib.Dec.{eqb};
+ghost use Rattle.memory.specs.Words.{reads, isSet};
+ghost use Rattle.tree.specs.Layout.{Sized, setAt};
+ghost use Rattle.tree.specs.Fingerprint.{editionOne, fingerprint};
+ghost use Rattle.tree.specs.Node.{storedFingerprint};
+ghost use Rattle.tree.specs.Lookup.{matches, foundAt};
+use memory::words::equal_bytes;
+use memory::words::is_set;
+use memory::words::without_bit;
+use tree::layout::Geometry;
+
+// The places of a node that have a fingerprint, a word of eight at a time and without a branch. A word's answers
+// are the highest bits of the bytes, and move down a bit with each word after it: in the end bit
+// 8 × (p mod 8) + p div 8 is place p's.
+fn candidates(image: &[u64], g: Geometry, n: usize, print: u64) -> u64
+    requires { ⌜ Sized (now image) g × (n < g .nodes) × (print < 256) ⌝ }
+    ensures { λ r. ⌜
+        ((p : ℕ)
+        → p < 64
+        → isSet r (8 * (p % 8) + p / 8) ≡ eqb (storedFingerprint g (reads (now (image .entry))) n p) print)
+        ⌝ }
+{
+    let at = 64 + 2 * g.slots + 80 * n + 8;
+    let mut found: u64 = 0;
+    let mut j = 0;
+    while j < 8 {
+        found = (found >> 1) | equal_bytes(image[at + j], print);
+        j += 1;
+    }
+    found
+}
+
+// Does a place that has the frame's fingerprint hold the frame? The caller has read the node's set word.
+fn is_match(image: &[u64], g: Geometry, n: usize, frame: u64, set: u64, p: usize) -> bool
+    requires { ⌜
+        Sized (now image) g
+        × (n < g .nodes)
+        × (p < 64)
+        × (set ≡ reads (now image) (setAt g n))
+        × (storedFingerprint g (reads (now image)) n p ≡ fingerprint editionOne frame)
+        ⌝ }
+    ensures { λ r. ⌜ r ≡ matches editionOne g (reads (now (image .entry))) frame n p ⌝ }
+{
+    is_set(set, p as u32) & (image[64 + 2 * g.slots + 80 * n + 16 + p] == frame)
+}
+
+// The lowest place of a node of the pool that holds the frame, or 64. Mostly no place has its fingerprint; the few
+// that have are tested in any order. The caller has the fingerprint, once for all nodes of a path.
+pub fn found_place(image: &[u64], g: Geometry, n: usize, frame: u64, print: u64) -> usize
+    requires { ⌜ Sized (now image) g × (n < g .nodes) × (print ≡ fingerprint editionOne frame) ⌝ }
+    ensures { λ r. ⌜ r ≡ foundAt editionOne g (reads (now (image .entry))) frame n ⌝ }
+{
+    let set = image[64 + 2 * g.slots + 80 * n + 2];
+    let mut left = candidates(image, g, n, print);
+    let mut lowest = 64;
+    while left != 0 {
+        let i = u64::trailing_zeros(left);
+        let p = (8 * (i % 8) + i / 8) as usize;
+        left = without_bit(left, i);
+        if is_match(image, g, n, frame, set, p) & (p < lowest) {
+            lowest = p;
+        }
+    }
+    lowest
+}

@@ -1,0 +1,46 @@
+use mathlib.Core.Path.{_≡_, refl, _∙_, ap}
+use mathlib.Core.List.{List}
+use Prim.Native.Nat.{ℕ, _+_, _-_, _≤_}
+use native.Mathlib.Omega.{arith}
+use lib.ListN.{length}
+use borrow.Author.Needs.{needs}
+use Rattle.tree.specs.Lists.{range}
+use Rattle.tree.specs.Pool.{mark, markAll}
+use Rattle.pool.proofs.PoolLoops.{mark-none, mark-more}
+use Rattle.pool.proofs.pool_map.mark_run.Statement.{statement}
+use Rattle.pool.proofs.pool_map.mark_run.Tie as tie
+
+abbrev Inv-loop : tie.InvT-loop
+Inv-loop pool₀ start k i₀ pool i = (i ≤ k) × (length pool ≡ length pool₀) × (pool ≡ markAll pool₀ (range start i))
+
+abbrev μ-loop : tie.MeasureT-loop
+μ-loop pool₀ start k i₀ pool i = k - i
+
+loop-again : tie.Need-loop-again Inv-loop μ-loop
+loop-again c =
+    let b = c .before .before in
+    let l = b .before .before .before .loop in
+    let a = b .before .before .before .before .before .args in
+    (search needs, b .mark .kept .0 ∙ l .inv .1, b .mark .ensures ∙ ap (λ (p : List ℕ). mark p (a .start + l .i)) (l .inv .2) ∙ mark-more _ _ _)
+
+returns : tie.Need-returns Inv-loop μ-loop
+returns c =
+    let l = c .before .loop in
+    let a = c .before .before .before .args in
+    let e : l .i ≡ a .k = omega arith in
+    l .inv .2 ∙ ap (λ (i : ℕ). markAll (a .pool .now) (range (a .start) i)) e
+
+pub mark-run-spec : {M : Type 1} → statement M
+mark-run-spec =
+    tie.close
+    (tie.spec
+    Inv-loop
+    μ-loop
+    (λ c. (search needs, refl, mark-none _ _))
+    (λ c. search needs)
+    (λ c κs. search needs)
+    (λ c. search needs)
+    (λ c. search needs)
+    loop-again
+    (λ c. search needs)
+    returns)

@@ -1,0 +1,2 @@
+// The pool map, in code: each function computes a definition of tree's specs/.
+pub mod pool_map;

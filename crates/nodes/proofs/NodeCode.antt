@@ -87,9 +87,10 @@ module _ (g : Geometry) (m : Memory) (d n : ℕ) where
   unfolding wellFormed formed
   formed-outside h = simp (le-ltb n (g .nodes) h)
 
-  pub formed-inside : {sized locate set next : Bool} → n < g .nodes → sized ≡ holds (sizeAllowed d (m (sizeAt g n)))
-      → locate ≡ ltb (m (locateAt g n)) (2 ^ m (sizeAt g n)) → set ≡ ltb (m (setAt g n)) (2 ^ m (sizeAt g n))
-      → next ≡ holds (childrenInside (g .nodes) d (m (sizeAt g n)) (m (nextAt g n)))
-      → eqb (m (levelAt g n)) d && sized && locate && set && next ≡ wellFormed g m d n
+  -- the words read, and what each test says of them
+  pub formed-inside : {size level locate set next : ℕ} {sized located held linked : Bool} → n < g .nodes → size ≡ m (sizeAt g n)
+      → level ≡ m (levelAt g n) → sized ≡ holds (sizeAllowed d size) → locate ≡ m (locateAt g n) → located ≡ ltb locate (2 ^ size)
+      → set ≡ m (setAt g n) → held ≡ ltb set (2 ^ size) → next ≡ m (nextAt g n)
+      → linked ≡ holds (childrenInside (g .nodes) d size next) → eqb level d && sized && located && held && linked ≡ wellFormed g m d n
   unfolding wellFormed formed
-  formed-inside h p q r s = rw (p, q, r, s) (simp (lt-ltb n (g .nodes) h, and-assoc))
+  formed-inside h z l p i q t r k s = rw (p, q, r, s, z, l, i, t, k) (simp (lt-ltb n (g .nodes) h, and-assoc))

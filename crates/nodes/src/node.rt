@@ -11,6 +11,12 @@ ghost use Rattle.tree.specs.Node.{sizeAllowed, wellFormed};
 ghost use Rattle.tree.specs.Lookup.{clearAt};
 use memory::search::lowest_clear;
 use tree::layout::Geometry;
+use tree::layout::LEVEL;
+use tree::layout::LOCATE;
+use tree::layout::SET;
+use tree::layout::SIZE;
+use tree::layout::next_of;
+use tree::layout::word_of;
 use tree::path::fanout;
 
 // A root may have size 16 or 32, every node 64.
@@ -54,13 +60,12 @@ pub fn well_formed(image: &[u64], g: Geometry, depth: u64, n: usize) -> bool
     if nodes <= n {
         return false;
     }
-    let at = 64 + 2 * g.slots + 80 * n;
-    let size = image[at + 4];
-    (image[at + 3] == depth)
+    let size = word_of(image, g, n, SIZE);
+    (word_of(image, g, n, LEVEL) == depth)
         & size_allowed(depth, size)
-        & below_size(image[at + 1], size)
-        & below_size(image[at + 2], size)
-        & children_inside(nodes, depth, size, image[at])
+        & below_size(word_of(image, g, n, LOCATE), size)
+        & below_size(word_of(image, g, n, SET), size)
+        & children_inside(nodes, depth, size, next_of(image, g, n))
 }
 
 // The lowest clear place of a node of the pool: its locate bit is 0. Its size where there is none.
@@ -68,7 +73,6 @@ pub fn clear_place(image: &[u64], g: Geometry, n: usize) -> usize
     requires { ⌜ Sized (now image) g × (n < g .nodes) × (reads (now image) (sizeAt g n) ≤ 64) ⌝ }
     ensures { λ r. ⌜ r ≡ clearAt g (reads (now (image .entry))) n ⌝ }
 {
-    let at = 64 + 2 * g.slots + 80 * n;
-    let size = image[at + 4] as u32;
-    lowest_clear(image[at + 1], size) as usize
+    let size = word_of(image, g, n, SIZE) as u32;
+    lowest_clear(word_of(image, g, n, LOCATE), size) as usize
 }

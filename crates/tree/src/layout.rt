@@ -6,7 +6,7 @@ ghost use lib.Dec.{eqb};
 ghost use Rattle.memory.specs.Words.{reads};
 ghost use Rattle.tree.specs.Test.{holds};
 ghost use Rattle.tree.specs.Layout.{Sized, imageWords, mapWords, badImage, editionAt, geometryOf};
-ghost use Rattle.tree.specs.Layout.{reelAt, rootAt, nodeAt};
+ghost use Rattle.tree.specs.Layout.{reelAt, rootAt, nodeAt, nextAt};
 
 // How many reel slots and nodes an image has: the paper's R and N.
 pub struct Geometry {
@@ -75,9 +75,8 @@ pub fn bad_edition(image: &[u64]) -> bool
     word(image, 0) != 1
 }
 
-// The words of a node that have a meaning, by their offset; a place's fingerprint is a byte of word FINGERPRINTS + p / 8.
-pub const NEXT: usize = 0;
-
+// The words of a node by their offset; its first word is next. A place's fingerprint is a byte of word FINGERPRINTS + p / 8,
+// its frame is word FRAMES + p.
 pub const LOCATE: usize = 1;
 
 pub const SET: usize = 2;
@@ -106,7 +105,7 @@ pub fn root_at(slot: usize) -> usize
     64 + 2 * slot + 1
 }
 
-// Where a node's words start.
+// Where a node's words start; next is the first.
 pub fn node_at(g: Geometry, n: usize) -> usize
     requires { ⌜ (g .slots ≤ 4096) × (n < 65536) ⌝ }
     ensures { λ r. ⌜ r ≡ nodeAt g n ⌝ }
@@ -136,4 +135,12 @@ pub fn word_of(image: &[u64], g: Geometry, n: usize, offset: usize) -> u64
     ensures { λ r. ⌜ r ≡ reads (now (image .entry)) (nodeAt g n + offset) ⌝ }
 {
     image[node_at(g, n) + offset]
+}
+
+// A node's next.
+pub fn next_of(image: &[u64], g: Geometry, n: usize) -> u64
+    requires { ⌜ Sized (now image) g × (n < g .nodes) ⌝ }
+    ensures { λ r. ⌜ r ≡ reads (now (image .entry)) (nextAt g n) ⌝ }
+{
+    image[node_at(g, n)]
 }

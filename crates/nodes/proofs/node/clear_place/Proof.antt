@@ -5,23 +5,15 @@ use Rattle.nodes.proofs.node.clear_place.Tie as tie
 
 returns : tie.Need-returns
 unfolding clearAt
-returns c = c .lowest-clear .ensures
+returns c = rw (← c .before .word-of2 .ensures, ← c .before .before .word-of .ensures) (c .lowest-clear .ensures)
 
 pub clear-place-spec : {M : Type 1} → statement M
 clear-place-spec =
     tie.close
     (tie.spec
+    (λ c κs. search needs)
     (λ c. search needs)
-    (λ c. search needs)
-    (λ c. search needs)
-    (λ c. search needs)
-    (λ c. search needs)
-    (λ c. search needs)
-    (λ c. search needs)
-    (λ c. search needs)
-    (λ c. search needs)
-    (λ c. search needs)
-    (λ c. search needs)
+    (λ c κs. search needs)
     (λ c κs. search needs)
     (λ c. search needs)
     returns)

@@ -77,10 +77,10 @@ module _ (g : Geometry) (m : Memory) (f n : ℕ) where
   match p = matches editionOne g m f n p
 
   -- where the fingerprint is the frame's, set bit and frame decide
-  pub match-held : (p : ℕ) {set : ℕ} {s : Bool} → set ≡ m (setAt g n) → storedFingerprint g m n p ≡ fingerprint editionOne f → s ≡ isSet set p
-      → s && eqb (m (frameAt g n p)) f ≡ match p
+  pub match-held : (p : ℕ) {set x : ℕ} {s : Bool} → set ≡ m (setAt g n) → x ≡ m (frameAt g n p)
+      → storedFingerprint g m n p ≡ fingerprint editionOne f → s ≡ isSet set p → s && eqb x f ≡ match p
   unfolding matches
-  match-held p a e h = rw (h, a, eq-eqb (storedFingerprint g m n p) (fingerprint editionOne f) e, and-true) refl
+  match-held p a b e h = rw (h, a, b, eq-eqb (storedFingerprint g m n p) (fingerprint editionOne f) e, and-true) refl
 
   -- what the loop knows: the lowest match so far, and that every match below it is among those left
   pub record Seeking (left lowest : ℕ) : Type 0 where

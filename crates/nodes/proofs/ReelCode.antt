@@ -15,16 +15,10 @@ use Rattle.tree.specs.Slots.{filled}
 use Rattle.tree.proofs.Lists.{upTo-members, every-at}
 
 -- none of four adjacent slots has a number, as the code compares them
-pub in-four : (m : Memory) (s reel : ℕ)
-    → not (eqb (m (64 + 2 * s)) reel) && (not (eqb (m (64 + 2 * s + 2)) reel) && (not (eqb (m (64 + 2 * s + 4)) reel) && not (eqb (m (64 + 2 * s + 6)) reel)))
-    ≡ every (λ k. not (eqb (m (reelAt (s + k))) reel)) (upTo 4)
+pub in-four : (m : Memory) (s reel : ℕ) {a b c d : ℕ} → a ≡ m (reelAt s) → b ≡ m (reelAt (s + 1)) → c ≡ m (reelAt (s + 2)) → d ≡ m (reelAt (s + 3))
+    → not (eqb a reel) && (not (eqb b reel) && (not (eqb c reel) && not (eqb d reel))) ≡ every (λ k. not (eqb (m (reelAt (s + k))) reel)) (upTo 4)
 unfolding every upTo range
-in-four m s reel =
-    let a : reelAt (s + 0) ≡ 64 + 2 * s = omega arith in
-    let b : reelAt (s + 1) ≡ 64 + 2 * s + 2 = omega arith in
-    let c : reelAt (s + 2) ≡ 64 + 2 * s + 4 = omega arith in
-    let d : reelAt (s + 3) ≡ 64 + 2 * s + 6 = omega arith in
-    rw (a, b, c, d, and-true) refl
+in-four m s reel p q r t = let z : s + 0 ≡ s = omega arith in rw (p, q, r, t, z, and-true) refl
 
 -- then none of them is the reel's
 pub past-four : (m : Memory) (s reel : ℕ) → NoneBelow (λ (k : ℕ). holds (is (filled m k) and eq (m (reelAt k)) reel)) s

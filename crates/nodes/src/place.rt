@@ -11,6 +11,10 @@ use memory::words::equal_bytes;
 use memory::words::is_set;
 use memory::words::without_bit;
 use tree::layout::Geometry;
+use tree::layout::SET;
+use tree::layout::fingerprints_of;
+use tree::layout::frame_of;
+use tree::layout::word_of;
 
 // The places of a node that have a fingerprint, a word of eight at a time and without a branch. A word's answers
 // are the highest bits of the bytes, and move down a bit with each word after it: in the end bit
@@ -23,11 +27,10 @@ fn candidates(image: &[u64], g: Geometry, n: usize, print: u64) -> u64
         → isSet r (8 * (p % 8) + p / 8) ≡ eqb (storedFingerprint g (reads (now (image .entry))) n p) print)
         ⌝ }
 {
-    let at = 64 + 2 * g.slots + 80 * n + 8;
     let mut found: u64 = 0;
     let mut j = 0;
     while j < 8 {
-        found = (found >> 1) | equal_bytes(image[at + j], print);
+        found = (found >> 1) | equal_bytes(fingerprints_of(image, g, n, j), print);
         j += 1;
     }
     found
@@ -44,7 +47,7 @@ fn is_match(image: &[u64], g: Geometry, n: usize, frame: u64, set: u64, p: usize
         ⌝ }
     ensures { λ r. ⌜ r ≡ matches editionOne g (reads (now (image .entry))) frame n p ⌝ }
 {
-    is_set(set, p as u32) & (image[64 + 2 * g.slots + 80 * n + 16 + p] == frame)
+    is_set(set, p as u32) & (frame_of(image, g, n, p) == frame)
 }
 
 // The lowest place of a node of the pool that holds the frame, or 64. Mostly no place has its fingerprint; the few
@@ -53,7 +56,7 @@ pub fn found_place(image: &[u64], g: Geometry, n: usize, frame: u64, print: u64)
     requires { ⌜ Sized (now image) g × (n < g .nodes) × (print ≡ fingerprint editionOne frame) ⌝ }
     ensures { λ r. ⌜ r ≡ foundAt editionOne g (reads (now (image .entry))) frame n ⌝ }
 {
-    let set = image[64 + 2 * g.slots + 80 * n + 2];
+    let set = word_of(image, g, n, SET);
     let mut left = candidates(image, g, n, print);
     let mut lowest = 64;
     while left != 0 {

@@ -10,13 +10,15 @@ ghost use Rattle.tree.specs.Lists.{upTo, every};
 ghost use Rattle.tree.specs.Layout.{Sized, reelAt};
 ghost use Rattle.tree.specs.Slots.{filled, slotOf, emptySlot};
 use tree::layout::Geometry;
+use tree::layout::reel_of;
+use tree::layout::root_of;
 
 // Does slot s have a root?
 pub fn is_filled(image: &[u64], g: Geometry, s: usize) -> bool
     requires { ⌜ Sized (now image) g × (s < g .slots) ⌝ }
     ensures { λ r. ⌜ r ≡ filled (reads (now (image .entry))) s ⌝ }
 {
-    image[64 + 2 * s + 1] != 0
+    root_of(image, g, s) != 0
 }
 
 // Is slot s filled with this reel's number? An empty slot's number means nothing. The number comes first: it
@@ -27,7 +29,7 @@ fn is_reel(image: &[u64], g: Geometry, s: usize, reel: u64) -> bool
         r ≡ holds (is (filled (reads (now (image .entry))) s) and eq (reads (now (image .entry)) (reelAt s)) reel)
         ⌝ }
 {
-    if image[64 + 2 * s] != reel {
+    if reel_of(image, g, s) != reel {
         return false;
     }
     is_filled(image, g, s)
@@ -38,9 +40,9 @@ fn none_of_four(image: &[u64], g: Geometry, s: usize, reel: u64) -> bool
     requires { ⌜ Sized (now image) g × (s + 4 ≤ g .slots) ⌝ }
     ensures { λ r. ⌜ r ≡ every (λ k. not (eqb (reads (now (image .entry)) (reelAt (s + k))) reel)) (upTo 4) ⌝ }
 {
-    let at = 64 + 2 * s;
-    (image[at] != reel)
-        & ((image[at + 2] != reel) & ((image[at + 4] != reel) & (image[at + 6] != reel)))
+    (reel_of(image, g, s) != reel)
+        & ((reel_of(image, g, s + 1) != reel)
+            & ((reel_of(image, g, s + 2) != reel) & (reel_of(image, g, s + 3) != reel)))
 }
 
 // Slots that are not the reel's, passed over in fours; the rest is for a search slot by slot.

@@ -6,7 +6,7 @@ ghost use lib.Dec.{eqb};
 ghost use Rattle.memory.specs.Words.{reads};
 ghost use Rattle.tree.specs.Test.{holds};
 ghost use Rattle.tree.specs.Layout.{Sized, imageWords, mapWords, badImage, editionAt, geometryOf};
-ghost use Rattle.tree.specs.Layout.{reelAt, rootAt, nodeAt, nextAt};
+ghost use Rattle.tree.specs.Layout.{reelAt, rootAt, nodeAt, nextAt, frameAt};
 
 // How many reel slots and nodes an image has: the paper's R and N.
 pub struct Geometry {
@@ -143,4 +143,20 @@ pub fn next_of(image: &[u64], g: Geometry, n: usize) -> u64
     ensures { λ r. ⌜ r ≡ reads (now (image .entry)) (nextAt g n) ⌝ }
 {
     image[node_at(g, n)]
+}
+
+// The fingerprints of eight places, from place 8 × j on.
+pub fn fingerprints_of(image: &[u64], g: Geometry, n: usize, j: usize) -> u64
+    requires { ⌜ Sized (now image) g × (n < g .nodes) × (j < 8) ⌝ }
+    ensures { λ r. ⌜ r ≡ reads (now (image .entry)) (nodeAt g n + 8 + j) ⌝ }
+{
+    image[node_at(g, n) + FINGERPRINTS + j]
+}
+
+// The frame of a place.
+pub fn frame_of(image: &[u64], g: Geometry, n: usize, p: usize) -> u64
+    requires { ⌜ Sized (now image) g × (n < g .nodes) × (p < 64) ⌝ }
+    ensures { λ r. ⌜ r ≡ reads (now (image .entry)) (frameAt g n p) ⌝ }
+{
+    image[node_at(g, n) + FRAMES + p]
 }

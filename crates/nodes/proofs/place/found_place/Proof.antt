@@ -1,4 +1,3 @@
-use mathlib.Core.Path.{refl}
 use Prim.Native.Nat.{_<_}
 use native.Mathlib.Omega.{arith}
 use lib.Count.{trailingZeros}
@@ -26,7 +25,7 @@ is-match-requires c κs =
       search needs,
       search needs,
       omega (arith, low (c .before)),
-      refl,
+      c .before .before .before .before .word-of .ensures,
       l .inv .print _ (low (c .before)) (lowest-set _ (c .before .loop-test .taken) (l .inv .fits)),
     )
 
@@ -50,15 +49,9 @@ found-place-spec =
     (tie.spec
     Inv-loop
     μ-loop
-    (λ c. search needs)
-    (λ c. search needs)
-    (λ c. search needs)
-    (λ c. search needs)
-    (λ c. search needs)
-    (λ c. search needs)
-    (λ c. search needs)
-    (λ c κs. (search needs, search needs, fingerprint-small _ (c .before .before .before .pre .2)))
-    (λ c. seek-all _ _ _ _ _ _ (c .candidates .ok) (c .before .before .before .before .pre .2) (c .candidates .ensures))
+    (λ c κs. search needs)
+    (λ c κs. (search needs, search needs, fingerprint-small _ (c .before .before .pre .2)))
+    (λ c. seek-all _ _ _ _ _ _ (c .candidates .ok) (c .before .before .before .pre .2) (c .candidates .ensures))
     (λ c. search (needs, low c))
     (λ c. search (needs, low c))
     (λ c. search (needs, low c))

@@ -8,10 +8,7 @@ pub is-reel-spec : {M : Type 1} → statement M
 is-reel-spec =
     tie.close
     (tie.spec
-    (λ c. search needs)
-    (λ c. search needs)
-    (λ c. search needs)
-    (λ c. search needs)
-    (λ c. rw (ne-eqb _ _ (c .if1 .taken), and-false))
     (λ c κs. search needs)
-    (λ c. rw (eq-eqb _ _ (c .before .if1 .left), and-true) (c .is-filled .ensures)))
+    (λ c. rw (← c .before .reel-of .ensures, ne-eqb _ _ (c .if1 .taken), and-false))
+    (λ c κs. search needs)
+    (λ c. rw (← c .before .before .reel-of .ensures, eq-eqb _ _ (c .before .if1 .left), and-true) (c .is-filled .ensures)))

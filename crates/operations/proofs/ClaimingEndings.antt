@@ -44,9 +44,8 @@ use Rattle.operations.specs.declared.answer.Refusal as enums
 use Rattle.operations.specs.Answers.{numberOf}
 use Rattle.operations.specs.Ends.{Buffers, buffers, state, ended, found, ends}
 use Rattle.operations.proofs.Endings.{refused, done}
-use Rattle.operations.proofs.Passed.{same-checks, buffersBad, past-checks, ended-early}
+use Rattle.operations.proofs.Passed.{same-checks, buffersBad, past-checks, OpenChecked, ended-early}
 use Rattle.operations.proofs.HeadRecords.{state-read, busy-read}
-use Rattle.operations.proofs.Opening.{OpenChecked}
 use Rattle.operations.proofs.Claiming.{placement-says, takes-nodes, targetIn, Taken}
 
 -- ---- tests after tests

@@ -19,20 +19,10 @@ use Rattle.book.specs.State.{Operation, State, openReel, scratchAfter}
 use Rattle.book.specs.Checks.{refusals}
 use Rattle.book.specs.Perform.{openScript, granted, leaves, clears}
 use Rattle.book.proofs.Refusals.{denied, passed-all, refused-here, refused-later}
-use Rattle.operations.specs.declared.checks.Verdict.{Verdict}
-use Rattle.operations.specs.declared.checks.Verdict.the-variants.{Passed}
 use Rattle.operations.specs.Ends.{Buffers, buffers, state, ended, found, ends}
 use Rattle.operations.proofs.ScriptWords.{words-of}
-use Rattle.operations.proofs.Passed.{checksOn, Checked, all-checked, same-checks}
+use Rattle.operations.proofs.Passed.{OpenChecked, same-checks}
 use Rattle.operations.proofs.Tested.{Tested, refused-past, done-past}
-
--- what the checks leave; it is the same for Claim
-abbrev pub OpenChecked : (im pool script : List ℕ) → Geometry → Type 0
-OpenChecked im pool script = Checked im (some pool) none (some script)
-
-pub open-checked : (im pool script : List ℕ) {g : Geometry} {v : Verdict} → v ≡ checksOn im (some pool) none (some script) → v ≡ Passed g
-    → OpenChecked im pool script g
-open-checked im pool script = all-checked im (some pool) none (some script)
 
 module _ (im pool script heads : List ℕ) (reel : ℕ) where
   abbrev op : Operation

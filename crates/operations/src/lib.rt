@@ -9,6 +9,7 @@ pub mod hand_over;
 pub mod head_words;
 pub mod heads;
 pub mod list;
+pub mod node_script;
 pub mod open;
 pub mod recover;
 pub mod retire;

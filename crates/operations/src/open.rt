@@ -3,8 +3,8 @@ ghost use mathlib.Core.Path.{_≡_};
 ghost use mathlib.Core.List.{List, []};
 ghost use Prim.Native.Nat.{ℕ, _≤_, _<_};
 ghost use lib.ListN.{length};
-ghost use Rattle.tree.specs.Memory.{stores, segmented, written};
-ghost use Rattle.book.specs.Perform.{newNode, openScript};
+ghost use Rattle.tree.specs.Memory.{segmented, written};
+ghost use Rattle.book.specs.Perform.{openScript};
 ghost use Rattle.book.specs.State.{openReel};
 ghost use Rattle.operations.specs.Answers.{answerOf, countOf};
 ghost use Rattle.operations.specs.Ends.{buffers, state, ended, ends};
@@ -13,30 +13,13 @@ use crate::answer::Refusal;
 use crate::checks::Buffer;
 use crate::checks::Verdict;
 use crate::checks::checks;
+use crate::node_script::put_node;
 use tree::layout::Geometry;
 use tree::persistent::put_fenced_pair;
 use tree::pool_map::free_node;
 use tree::pool_map::mark;
 use tree::reels::empty_slot;
 use tree::reels::slot_of;
-
-// The five stores of a node made anew.
-pub fn put_node(script: &mut [u64], g: Geometry, n: usize, level: u64, size: u64)
-    requires { ⌜ (10 ≤ length (now script)) × (g .slots ≤ 4096) × (n < 65536) ⌝ }
-    ensures { λ _. ⌜ now (script .exit) ≡ written (stores (newNode g n level size)) (now (script .entry)) ⌝ }
-{
-    let at = (64 + 2 * g.slots + 80 * n) as u64;
-    script[0] = at;
-    script[1] = 0;
-    script[2] = at + 1;
-    script[3] = 0;
-    script[4] = at + 2;
-    script[5] = 0;
-    script[6] = at + 3;
-    script[7] = level;
-    script[8] = at + 4;
-    script[9] = size;
-}
 
 // The root node and the reel number, then the root.
 fn put_open(script: &mut [u64], g: Geometry, slot: usize, n: usize, reel: u64)

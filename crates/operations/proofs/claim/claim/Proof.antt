@@ -6,8 +6,7 @@ use Rattle.tree.specs.Slots.{Filled}
 use Rattle.tree.proofs.Laws.{slot-laws}
 use Rattle.operations.specs.Answers.{numberOf, admissionNumber}
 use Rattle.operations.specs.HeadLists.{headsIn}
-use Rattle.operations.proofs.Passed.{number-some}
-use Rattle.operations.proofs.Opening.{OpenChecked, open-checked}
+use Rattle.operations.proofs.Passed.{number-some, OpenChecked, open-checked}
 use Rattle.operations.proofs.ClaimingEndings.{HeadPassed, slot-below, run-fits, claim-early, head-refused, head-passed, path-malformed, path-full, frame-held, no-run, claimed}
 use borrow.Author.Needs.{needs}
 use Rattle.operations.proofs.claim.claim.Statement.{statement}

@@ -2,7 +2,8 @@ use mathlib.Core.List.{[]}
 use borrow.Author.Needs.{needs}
 use Rattle.operations.specs.Ends.{buffers}
 use Rattle.operations.proofs.Tested.{check-bad}
-use Rattle.operations.proofs.Opening.{OpenChecked, open-checked, on-open, already-open, no-slot, no-node, opened}
+use Rattle.operations.proofs.Passed.{OpenChecked, open-checked}
+use Rattle.operations.proofs.Opening.{on-open, already-open, no-slot, no-node, opened}
 use Rattle.operations.proofs.open.open.Statement.{statement}
 use Rattle.operations.proofs.open.open.Tie as tie
 

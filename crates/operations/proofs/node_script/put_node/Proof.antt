@@ -6,8 +6,8 @@ use Rattle.tree.specs.Memory.{storeWords}
 use Rattle.tree.proofs.Memory.{segment-laws}
 use Rattle.book.specs.Perform.{newNode}
 use borrow.Author.Needs.{needs}
-use Rattle.operations.proofs.open.put_node.Statement.{statement}
-use Rattle.operations.proofs.open.put_node.Tie as tie
+use Rattle.operations.proofs.node_script.put_node.Statement.{statement}
+use Rattle.operations.proofs.node_script.put_node.Tie as tie
 
 returns : tie.Need-returns
 returns c =

@@ -1,4 +1,3 @@
-pub mod Formatting
 pub mod Opening
 pub mod ScriptWords
 pub mod Endings
@@ -7,7 +6,6 @@ pub mod Tested
 pub mod HeadRecords
 pub mod TargetsEndings
 pub mod HandedOver
-pub mod Recovering
 pub mod Listing
 pub mod Retiring
 pub mod FrameLookups

@@ -1,9 +1,7 @@
 // The operations in code: each computes what book's `perform` says.
 pub mod answer;
-pub mod apply;
 pub mod checks;
 pub mod claim;
-pub mod format;
 pub mod frames;
 pub mod hand_over;
 pub mod head_words;
@@ -11,7 +9,6 @@ pub mod heads;
 pub mod list;
 pub mod node_script;
 pub mod open;
-pub mod recover;
 pub mod retire;
 pub mod room_script;
 pub mod targets;

@@ -8,10 +8,10 @@ use Rattle.tree.specs.Memory.{stores, apply}
 use Rattle.tree.specs.Test.{holds}
 use Rattle.tree.specs.Lists.{upTo}
 use Rattle.tree.specs.Layout.{Sized, badImage, rootAt}
 use Rattle.operations.proofs.Passed.{sized-image}
-use Rattle.operations.proofs.Formatting.{zeros, given, sized-still, image-refused, map-refused, formatted}
-use Rattle.operations.proofs.format.format.Statement.{statement}
-use Rattle.operations.proofs.format.format.Tie as tie
+use Rattle.images.proofs.Formatting.{zeros, given, sized-still, image-refused, map-refused, formatted}
+use Rattle.images.proofs.format.format.Statement.{statement}
+use Rattle.images.proofs.format.format.Tie as tie
 
 -- 1 was tested, and does not hold
 fine : (c : tie.Else1)

@@ -4,14 +4,14 @@ ghost use mathlib.Core.List.{List};
 ghost use Prim.Native.Nat.{ℕ};
 ghost use lib.ListN.{length};
 ghost use Rattle.book.specs.State.{recover};
 ghost use Rattle.operations.specs.Answers.{answerOf, countOf};
 ghost use Rattle.operations.specs.HeadLists.{headsFresh};
 ghost use Rattle.operations.specs.Ends.{noBuffers, state, ended, ends};
-use crate::answer::Answer;
-use crate::answer::Refusal;
-use crate::checks::Buffer;
-use crate::checks::Verdict;
-use crate::checks::checks;
+use operations::answer::Answer;
+use operations::answer::Refusal;
+use operations::checks::Buffer;
+use operations::checks::Verdict;
+use operations::checks::checks;
 use walks::recovery::recover_image;
 
 // Recover: an image that is not sound stays as it is, and its map is all 0.

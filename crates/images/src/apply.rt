@@ -1,9 +1,9 @@
 // Carry out: the driver's own call.
 ghost use mathlib.Core.Path.{_≡_};
 ghost use Rattle.book.specs.CarryOut.{carry, carried};
 ghost use Rattle.operations.specs.Answers.{answerOf};
-use crate::answer::Answer;
-use crate::answer::Refusal;
+use operations::answer::Answer;
+use operations::answer::Refusal;
 use tree::layout::bad_image;
 use tree::layout::geometry_in;
 use tree::persistent::carry_out;

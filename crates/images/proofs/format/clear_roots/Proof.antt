@@ -6,9 +6,9 @@ use borrow.Author.Needs.{needs}
 use Rattle.tree.specs.Memory.{stores, apply}
 use Rattle.tree.specs.Lists.{range, upTo}
 use Rattle.tree.specs.Layout.{rootAt}
-use Rattle.operations.proofs.Formatting.{zeros, zeroed-none, zeroed-more}
-use Rattle.operations.proofs.format.clear_roots.Statement.{statement}
-use Rattle.operations.proofs.format.clear_roots.Tie as tie
+use Rattle.images.proofs.Formatting.{zeros, zeroed-none, zeroed-more}
+use Rattle.images.proofs.format.clear_roots.Statement.{statement}
+use Rattle.images.proofs.format.clear_roots.Tie as tie
 
 abbrev Inv-loop : tie.InvT-loop
 Inv-loop image₀ g s₀ image s = (s ≤ g .slots) × (length image ≡ length image₀) × (image ≡ apply image₀ (stores (zeros rootAt (range 0 s))))

@@ -1,9 +1,9 @@
 use mathlib.Core.Option.{none, some}
 use borrow.Author.Needs.{needs}
 use Rattle.operations.proofs.Passed.{Checked, all-checked}
-use Rattle.operations.proofs.Recovering.{recover-early, unsound, recovered}
-use Rattle.operations.proofs.recover.recover.Statement.{statement}
-use Rattle.operations.proofs.recover.recover.Tie as tie
+use Rattle.images.proofs.Recovering.{recover-early, unsound, recovered}
+use Rattle.images.proofs.recover.recover.Statement.{statement}
+use Rattle.images.proofs.recover.recover.Tie as tie
 
 -- the checks are passed
 fine : (c : tie.After-known-told)

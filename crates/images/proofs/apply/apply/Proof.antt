@@ -10,8 +10,8 @@ use Rattle.tree.specs.declared.layout.Geometry.{Geometry}
 use Rattle.tree.specs.Layout.{badImage, geometryOf}
 use Rattle.book.specs.CarryOut.{carried, carry}
 use borrow.Author.Needs.{needs}
-use Rattle.operations.proofs.apply.apply.Statement.{statement}
-use Rattle.operations.proofs.apply.apply.Tie as tie
+use Rattle.images.proofs.apply.apply.Statement.{statement}
+use Rattle.images.proofs.apply.apply.Tie as tie
 
 module _ (image script : List ℕ) (g : Geometry) (is : g ≡ geometryOf (readsWords image)) where
   refused-1 : holds (badImage (length image) g) ≡ true → carried 1 image ≡ carry image script

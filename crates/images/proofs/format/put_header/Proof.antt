@@ -5,9 +5,9 @@ use lib.ListN.{length, length-set}
 use borrow.Author.Needs.{needs}
 use Rattle.tree.specs.Memory.{stores, apply}
 use Rattle.tree.specs.Lists.{range}
-use Rattle.operations.proofs.Formatting.{zeros, zeroed-none, zeroed-more, header-first}
-use Rattle.operations.proofs.format.put_header.Statement.{statement}
-use Rattle.operations.proofs.format.put_header.Tie as tie
+use Rattle.images.proofs.Formatting.{zeros, zeroed-none, zeroed-more, header-first}
+use Rattle.images.proofs.format.put_header.Statement.{statement}
+use Rattle.images.proofs.format.put_header.Tie as tie
 
 abbrev Inv-loop : tie.InvT-loop
 Inv-loop image₀ i₀ image i = (3 ≤ i) × (i ≤ 64) × (length image ≡ length image₀) × (image ≡ apply image₀ (stores (zeros (λ j. j) (range 3 (i - 3)))))

@@ -8,7 +8,6 @@ pub mod TargetsEndings
 pub mod HandedOver
 pub mod Listing
 pub mod Retiring
-pub mod FrameLookups
 pub mod Claiming
 pub mod ClaimingScripts
 pub mod ClaimingEndings

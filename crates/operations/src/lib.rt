@@ -2,7 +2,6 @@
 pub mod answer;
 pub mod checks;
 pub mod claim;
-pub mod frames;
 pub mod hand_over;
 pub mod head_words;
 pub mod heads;

@@ -1,8 +1,8 @@
 use Rattle.book.specs.Perform.{removeScript}
 use Rattle.operations.proofs.ScriptWords.{pair-written}
 use borrow.Author.Needs.{needs}
-use Rattle.operations.proofs.frames.put_remove.Statement.{statement}
-use Rattle.operations.proofs.frames.put_remove.Tie as tie
+use Rattle.lookups.proofs.frames.put_remove.Statement.{statement}
+use Rattle.lookups.proofs.frames.put_remove.Tie as tie
 
 returns : tie.Need-returns
 unfolding removeScript

@@ -1,12 +1,12 @@
 use mathlib.Core.Path.{refl}
 use mathlib.Core.Option.{none}
 use Rattle.operations.specs.Ends.{noBuffers, state}
 use Rattle.operations.proofs.Passed.{Checked, all-checked}
 use Rattle.operations.proofs.Tested.{SlotRead, filled-slot, check-bad, no-reel}
-use Rattle.operations.proofs.FrameLookups.{Looked, on-has, has-malformed, has-said}
+use Rattle.lookups.proofs.FrameLookups.{Looked, on-has, has-malformed, has-said}
 use borrow.Author.Needs.{needs}
-use Rattle.operations.proofs.frames.has.Statement.{statement}
-use Rattle.operations.proofs.frames.has.Tie as tie
+use Rattle.lookups.proofs.frames.has.Statement.{statement}
+use Rattle.lookups.proofs.frames.has.Tie as tie
 
 -- the checks are passed
 fine : (c : tie.After-known-told) → Checked (c .before .before .before .before .before .args .image .now) none none none (c .before .g .given .0 .0)

@@ -4,15 +4,15 @@ use mathlib.Core.List.{List, []}
 use Prim.Native.Nat.{ℕ}
 use native.Mathlib.Omega.{arith}
 use Rattle.book.specs.Heads.{busy}
 use Rattle.operations.specs.HeadLists.{headsIn}
 use Rattle.operations.specs.Ends.{buffers, state}
 use Rattle.operations.proofs.Passed.{Checked, all-checked}
 use Rattle.operations.proofs.Tested.{SlotRead, filled-slot, check-bad, no-reel}
 use Rattle.operations.proofs.HeadRecords.{busy-read}
-use Rattle.operations.proofs.FrameLookups.{Looked, found-inside, on-remove, remove-busy, remove-malformed, remove-absent, removed}
+use Rattle.lookups.proofs.FrameLookups.{Looked, found-inside, on-remove, remove-busy, remove-malformed, remove-absent, removed}
 use borrow.Author.Needs.{needs}
-use Rattle.operations.proofs.frames.remove.Statement.{statement}
-use Rattle.operations.proofs.frames.remove.Tie as tie
+use Rattle.lookups.proofs.frames.remove.Statement.{statement}
+use Rattle.lookups.proofs.frames.remove.Tie as tie
 
 -- the checks are passed
 fine : (c : tie.After-known-told)

@@ -1,4 +1,3 @@
-pub mod Opening
 pub mod ScriptWords
 pub mod Endings
 pub mod Passed
@@ -6,8 +5,6 @@ pub mod Tested
 pub mod HeadRecords
 pub mod TargetsEndings
 pub mod HandedOver
-pub mod Listing
-pub mod Retiring
 pub mod Claiming
 pub mod ClaimingScripts
 pub mod ClaimingEndings

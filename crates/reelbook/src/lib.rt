@@ -23,10 +23,10 @@ use operations::hand_over::hand_over;
 use operations::hand_over::hand_over_fresh;
 use operations::hand_over::hand_over_head;
 use operations::head_words::read_heads;
-use operations::list;
-use operations::open;
-use operations::retire;
 use operations::targets;
+use reels::list;
+use reels::open;
+use reels::retire;
 // how many stores a script has, for those who print it
 pub use tree::persistent::count_stores;
 

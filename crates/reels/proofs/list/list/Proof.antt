@@ -7,13 +7,13 @@ use borrow.Author.Needs.{needs}
 use Rattle.walks.specs.declared.trees.Listing.{Listing}
 use Rattle.walks.specs.declared.trees.Listing.the-variants.{Malformed, Short, Listed}
 use Rattle.book.specs.State.{query, list}
 use Rattle.operations.specs.Answers.{answerOf, countOf}
 use Rattle.operations.specs.Ends.{buffers, state, ended, ends}
 use Rattle.operations.proofs.Passed.{Checked, all-checked}
 use Rattle.operations.proofs.Tested.{SlotRead, filled-slot, check-bad, no-reel}
-use Rattle.operations.proofs.Listing.{answered, on-list, list-ended}
-use Rattle.operations.proofs.list.list.Statement.{statement}
-use Rattle.operations.proofs.list.list.Tie as tie
+use Rattle.reels.proofs.Listing.{answered, on-list, list-ended}
+use Rattle.reels.proofs.list.list.Statement.{statement}
+use Rattle.reels.proofs.list.list.Tie as tie
 
 -- the checks are passed
 fine : (c : tie.After-known-told)

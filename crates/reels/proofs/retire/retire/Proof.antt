@@ -4,12 +4,12 @@ use mathlib.Core.List.{[]}
 use Prim.Native.Nat.{_<_}
 use native.Mathlib.Omega.{arith}
 use borrow.Author.Needs.{needs}
 use Rattle.operations.specs.Ends.{buffers}
 use Rattle.operations.proofs.Passed.{Checked, all-checked}
 use Rattle.operations.proofs.Tested.{SlotRead, filled-slot, check-bad, no-reel}
-use Rattle.operations.proofs.Retiring.{on-retire, slot-busy, tree-bad, retired}
-use Rattle.operations.proofs.retire.retire.Statement.{statement}
-use Rattle.operations.proofs.retire.retire.Tie as tie
+use Rattle.reels.proofs.Retiring.{on-retire, slot-busy, tree-bad, retired}
+use Rattle.reels.proofs.retire.retire.Statement.{statement}
+use Rattle.reels.proofs.retire.retire.Tie as tie
 
 -- the checks are passed
 fine : (c : tie.After-known-told)

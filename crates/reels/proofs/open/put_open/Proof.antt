@@ -6,10 +6,10 @@ use Rattle.tree.specs.declared.layout.Geometry.{Geometry}
 use Rattle.tree.specs.Layout.{reelAt, rootAt}
 use Rattle.tree.proofs.Memory.{written-rest, segment-laws}
 use Rattle.book.specs.Perform.{newNode, openScript}
 use Rattle.operations.proofs.ScriptWords.{stores-before}
 use borrow.Author.Needs.{needs}
-use Rattle.operations.proofs.open.put_open.Statement.{statement}
-use Rattle.operations.proofs.open.put_open.Tie as tie
+use Rattle.reels.proofs.open.put_open.Statement.{statement}
+use Rattle.reels.proofs.open.put_open.Tie as tie
 
 -- the node's stores, and the two of its slot, each with its barrier
 in-two : (g : Geometry) (slot n reel : ℕ)

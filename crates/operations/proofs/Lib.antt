@@ -3,7 +3,6 @@ pub mod Endings
 pub mod Passed
 pub mod Tested
 pub mod HeadRecords
-pub mod TargetsEndings
 pub mod HandedOver
 pub mod Claiming
 pub mod ClaimingScripts

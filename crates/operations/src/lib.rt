@@ -7,4 +7,3 @@ pub mod head_words;
 pub mod heads;
 pub mod node_script;
 pub mod room_script;
-pub mod targets;

@@ -23,7 +23,6 @@ use operations::hand_over::hand_over;
 use operations::hand_over::hand_over_fresh;
 use operations::hand_over::hand_over_head;
 use operations::head_words::read_heads;
-use operations::targets;
 use reels::list;
 use reels::open;
 use reels::retire;

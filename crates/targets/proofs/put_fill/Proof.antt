@@ -1,9 +1,9 @@
 use Rattle.tree.specs.Fingerprint.{ruleOf}
 use Rattle.book.specs.Perform.{fillScript}
 use Rattle.operations.proofs.ScriptWords.{pair-written}
 use borrow.Author.Needs.{needs}
-use Rattle.operations.proofs.targets.put_fill.Statement.{statement}
-use Rattle.operations.proofs.targets.put_fill.Tie as tie
+use Rattle.targets.proofs.put_fill.Statement.{statement}
+use Rattle.targets.proofs.put_fill.Tie as tie
 
 returns : tie.Need-returns
 unfolding fillScript ruleOf

@@ -6,15 +6,15 @@ use native.Mathlib.Omega.{arith}
 use Rattle.book.specs.Heads.{headAt}
 use Rattle.book.specs.Checks.{outside}
 use Rattle.book.proofs.Refusals.{denies}
 use Rattle.operations.specs.HeadLists.{headsIn}
 use Rattle.operations.specs.Ends.{buffers, state}
 use Rattle.operations.proofs.Passed.{Checked, all-checked}
 use Rattle.operations.proofs.Tested.{check-bad}
 use Rattle.operations.proofs.HeadRecords.{state-read}
-use Rattle.operations.proofs.TargetsEndings.{on-commit, number-bad, state-bad, target-bad, all-done, not-filled, bit-words}
+use Rattle.targets.proofs.TargetsEndings.{on-commit, number-bad, state-bad, target-bad, all-done, not-filled, bit-words}
 use borrow.Author.Needs.{needs}
-use Rattle.operations.proofs.targets.commit.Statement.{statement}
-use Rattle.operations.proofs.targets.commit.Tie as tie
+use Rattle.targets.proofs.commit.Statement.{statement}
+use Rattle.targets.proofs.commit.Tie as tie
 
 -- the checks are passed
 fine : (c : tie.After-known-told)

@@ -1,7 +1,7 @@
 use Rattle.operations.proofs.ScriptWords.{fenced-written}
 use borrow.Author.Needs.{needs}
-use Rattle.operations.proofs.targets.put_abandon.Statement.{statement}
-use Rattle.operations.proofs.targets.put_abandon.Tie as tie
+use Rattle.targets.proofs.put_abandon.Statement.{statement}
+use Rattle.targets.proofs.put_abandon.Tie as tie
 
 returns : tie.Need-returns
 returns c = rw (← c .before .before .before .without-bit .ensures) (fenced-written _ _ _ (c .before .before .put-fenced .ensures))

@@ -4,8 +4,5 @@ pub mod Passed
 pub mod Tested
 pub mod HeadRecords
 pub mod HandedOver
-pub mod Claiming
-pub mod ClaimingScripts
-pub mod ClaimingEndings
 pub mod Chain
 pub mod Driver

@@ -4,13 +4,14 @@ use Prim.Native.Nat.{ℕ, _<_}
 use Rattle.tree.specs.Memory.{reads as readsWords}
 use Rattle.tree.specs.Slots.{Filled}
 use Rattle.tree.proofs.Laws.{slot-laws}
-use Rattle.operations.specs.Answers.{numberOf, admissionNumber}
+use Rattle.operations.specs.Answers.{numberOf}
 use Rattle.operations.specs.HeadLists.{headsIn}
 use Rattle.operations.proofs.Passed.{number-some, OpenChecked, open-checked}
-use Rattle.operations.proofs.ClaimingEndings.{HeadPassed, slot-below, run-fits, claim-early, head-refused, head-passed, path-malformed, path-full, frame-held, no-run, claimed}
+use Rattle.claims.specs.Admissions.{admissionNumber}
+use Rattle.claims.proofs.ClaimingEndings.{HeadPassed, slot-below, run-fits, claim-early, head-refused, head-passed, path-malformed, path-full, frame-held, no-run, claimed}
 use borrow.Author.Needs.{needs}
-use Rattle.operations.proofs.claim.claim.Statement.{statement}
-use Rattle.operations.proofs.claim.claim.Tie as tie
+use Rattle.claims.proofs.claim.claim.Statement.{statement}
+use Rattle.claims.proofs.claim.claim.Tie as tie
 
 -- the checks are passed
 fine : (c : tie.After-known-told)

@@ -8,7 +8,7 @@ ghost use Rattle.tree.specs.Layout.{Sized, nextAt, locateAt, sizeAt};
 ghost use Rattle.tree.specs.Lists.{range};
 ghost use Rattle.tree.specs.Path.{fanout};
 ghost use Rattle.book.specs.Perform.{newNode};
-use crate::node_script::put_node;
+use operations::node_script::put_node;
 use tree::layout::Geometry;
 use tree::path::Spot;
 use tree::persistent::put_barrier;

@@ -34,19 +34,19 @@ use Rattle.book.specs.Checks.{noPath, refusals}
 use Rattle.book.specs.Perform.{roomScript, claimScript, taken, writing, granted, leaves, clears}
 use Rattle.book.proofs.Refusals.{Named, denies, passes, passed-all, refused-here, refused-later}
 use Rattle.book.proofs.Inside.{run-inside}
 use Rattle.operations.specs.declared.answer.HeadAnswer.{HeadAnswer}
 use Rattle.operations.specs.declared.checks.Buffer.the-variants.{Absent, Words}
 use Rattle.operations.specs.Checked.{firstChecks}
 use Rattle.operations.specs.HeadLists.{headsIn, stateIn, busyIn, headAnswerOf, headCountOf, headsAfter}
 use Rattle.operations.specs.declared.checks.Verdict.{Verdict}
 use Rattle.operations.specs.declared.checks.Verdict.the-variants as verdict
 use Rattle.operations.specs.declared.answer.Refusal as enums
 use Rattle.operations.specs.Answers.{numberOf}
 use Rattle.operations.specs.Ends.{Buffers, buffers, state, ended, found, ends}
 use Rattle.operations.proofs.Endings.{refused, done}
 use Rattle.operations.proofs.Passed.{same-checks, buffersBad, past-checks, OpenChecked, ended-early}
 use Rattle.operations.proofs.HeadRecords.{state-read, busy-read}
-use Rattle.operations.proofs.Claiming.{placement-says, takes-nodes, targetIn, Taken}
+use Rattle.claims.proofs.Claiming.{placement-says, takes-nodes, targetIn, Taken}
 
 -- ---- tests after tests
 

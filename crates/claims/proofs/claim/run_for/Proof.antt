@@ -1,9 +1,9 @@
 use mathlib.Core.Path.{refl}
 use borrow.Author.Tests.{lt-ltb, le-ltb}
-use Rattle.operations.proofs.Claiming.{needs-few}
+use Rattle.claims.proofs.Claiming.{needs-few}
 use borrow.Author.Needs.{needs}
-use Rattle.operations.proofs.claim.run_for.Statement.{statement}
-use Rattle.operations.proofs.claim.run_for.Tie as tie
+use Rattle.claims.proofs.claim.run_for.Statement.{statement}
+use Rattle.claims.proofs.claim.run_for.Tie as tie
 
 returns : tie.Need-returns
 returns c =

@@ -1,8 +1,8 @@
 use mathlib.Core.Path.{sym, _∙_, ap}
 use Rattle.tree.specs.Room.{needs as nodesFor}
 use borrow.Author.Needs.{needs}
-use Rattle.operations.proofs.claim.nodes_for.Statement.{statement}
-use Rattle.operations.proofs.claim.nodes_for.Tie as tie
+use Rattle.claims.proofs.claim.nodes_for.Statement.{statement}
+use Rattle.claims.proofs.claim.nodes_for.Tie as tie
 
 pub nodes-for-spec : {M : Type 1} → statement M
 nodes-for-spec =

@@ -3,11 +3,11 @@ use mathlib.Core.Bool.{false, not}
 use borrow.Author.Tests.{le-leb, lt-leb}
 use Rattle.book.specs.Heads.{headCount, isIdle}
 use Rattle.book.proofs.Refusals.{refused-here, refused-later, passed-all}
 use Rattle.operations.specs.HeadLists.{stateIn}
-use Rattle.operations.proofs.Claiming.{not-idle}
+use Rattle.claims.proofs.Claiming.{not-idle}
 use borrow.Author.Needs.{needs}
-use Rattle.operations.proofs.claim.admit.Statement.{statement}
-use Rattle.operations.proofs.claim.admit.Tie as tie
+use Rattle.claims.proofs.claim.admit.Statement.{statement}
+use Rattle.claims.proofs.claim.admit.Tie as tie
 
 -- past 12
 idle : (c : tie.After-struct-known)

@@ -1,8 +1,8 @@
 use Prim.Native.Nat.{_<_}
-use Rattle.operations.proofs.Claiming.{BranchFits, clear-fits, scale-fits, branch-fits, clear-taken, scale-taken, branch-taken}
+use Rattle.claims.proofs.Claiming.{BranchFits, clear-fits, scale-fits, branch-fits, clear-taken, scale-taken, branch-taken}
 use borrow.Author.Needs.{needs}
-use Rattle.operations.proofs.claim.take_room.Statement.{statement}
-use Rattle.operations.proofs.claim.take_room.Tie as tie
+use Rattle.claims.proofs.claim.take_room.Statement.{statement}
+use Rattle.claims.proofs.claim.take_room.Tie as tie
 
 -- the numbers of each room are inside
 clear : (c : tie.After-known-told)

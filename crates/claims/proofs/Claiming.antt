@@ -41,7 +41,7 @@ use Rattle.book.proofs.Inside.{RoomInside, path-room, fanout-few}
 use Rattle.operations.specs.declared.answer.HeadAnswer.{HeadAnswer}
 use Rattle.operations.specs.declared.answer.HeadAnswer.the-variants.{Done}
 use Rattle.operations.proofs.ScriptWords.{words-of}
-use Rattle.claims.proofs.ClaimingScripts.{branched, branched-words, located-words, located-written}
+use Rattle.rooms.proofs.ClaimingScripts.{branched, branched-words, located-words, located-written}
 
 -- a state that the code did not take apart as idle
 pub not-idle : (y : HeadState) → OneOf (1 ∷ 2 ∷ []) (tagOf the-type y) → not (isIdle y) ≡ true

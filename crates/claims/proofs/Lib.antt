@@ -1,3 +1,2 @@
 pub mod Claiming
-pub mod ClaimingScripts
 pub mod ClaimingEndings

@@ -1,3 +1,2 @@
-// Claim, and the parts of its script.
+// The operation that finds or makes a place for a frame: Claim.
 pub mod claim;
-pub mod room_script;

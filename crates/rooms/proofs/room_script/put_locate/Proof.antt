@@ -1,7 +1,7 @@
 use Rattle.operations.proofs.ScriptWords.{fenced-written}
 use borrow.Author.Needs.{needs}
-use Rattle.claims.proofs.room_script.put_locate.Statement.{statement}
-use Rattle.claims.proofs.room_script.put_locate.Tie as tie
+use Rattle.rooms.proofs.room_script.put_locate.Statement.{statement}
+use Rattle.rooms.proofs.room_script.put_locate.Tie as tie
 
 returns : tie.Need-returns
 returns c = rw (← c .before .before .before .with-bit .ensures) (fenced-written _ _ _ (c .before .before .put-fenced .ensures))

@@ -3,10 +3,10 @@ use Prim.Native.Nat.{ℕ, _-_, _≤_}
 use native.Mathlib.Omega.{arith}
 use lib.ListN.{length}
 use Rattle.tree.specs.Memory.{written}
-use Rattle.claims.proofs.ClaimingScripts.{newNodes, nodes-none, nodes-more}
+use Rattle.rooms.proofs.ClaimingScripts.{newNodes, nodes-none, nodes-more}
 use borrow.Author.Needs.{needs}
-use Rattle.claims.proofs.room_script.put_nodes.Statement.{statement}
-use Rattle.claims.proofs.room_script.put_nodes.Tie as tie
+use Rattle.rooms.proofs.room_script.put_nodes.Statement.{statement}
+use Rattle.rooms.proofs.room_script.put_nodes.Tie as tie
 
 abbrev Inv-loop : tie.InvT-loop
 Inv-loop script₀ g start count level i₀ script i =

@@ -1,10 +1,10 @@
 use Prim.Native.Nat.{_+_}
 use native.Mathlib.Numerals.{add-one}
 use Rattle.tree.specs.Layout.{nextAt}
-use Rattle.claims.proofs.ClaimingScripts.{branched-written}
+use Rattle.rooms.proofs.ClaimingScripts.{branched-written}
 use borrow.Author.Needs.{needs}
-use Rattle.claims.proofs.room_script.put_branch_out.Statement.{statement}
-use Rattle.claims.proofs.room_script.put_branch_out.Tie as tie
+use Rattle.rooms.proofs.room_script.put_branch_out.Statement.{statement}
+use Rattle.rooms.proofs.room_script.put_branch_out.Tie as tie
 
 returns : tie.Need-returns
 returns c =

@@ -1,7 +1,7 @@
 use Rattle.operations.proofs.ScriptWords.{fenced-written}
 use borrow.Author.Needs.{needs}
-use Rattle.claims.proofs.room_script.put_scale_up.Statement.{statement}
-use Rattle.claims.proofs.room_script.put_scale_up.Tie as tie
+use Rattle.rooms.proofs.room_script.put_scale_up.Statement.{statement}
+use Rattle.rooms.proofs.room_script.put_scale_up.Tie as tie
 
 returns : tie.Need-returns
 returns c = fenced-written _ _ _ (c .before .before .put-fenced .ensures)

@@ -8,7 +8,9 @@ CXX ?= c++
 CFLAGS ?= -O2
 WARNINGS = -std=c99 -Wall -Wextra -Wpedantic -Wshadow -Wconversion -Werror
 LIBRARY = build/libreelbook.a
-RATTLE_SOURCES = crates.txt $(shell find crates/slices crates/memory crates/tree crates/walks crates/book crates/operations crates/reelbook -name '*.rt' -o -name '*.antt')
+# every crate but the programs, so that none is forgotten; `rt` itself proves only what the library uses and what has changed
+PROGRAMS = $(patsubst %/src/main.rt,%,$(wildcard crates/*/src/main.rt))
+RATTLE_SOURCES = crates.txt $(shell find $(filter-out $(PROGRAMS),$(wildcard crates/*)) -name '*.rt' -o -name '*.antt')
 
 run:
 	@mkdir -p target

@@ -157,6 +157,14 @@ module _ (im : List ℕ) (map scratch script : Option (List ℕ)) {g : Geometry}
   tests-left p rest =
       past-checks im (byLength map) (byLength scratch) (byLength script) (p .all) _ ∙ ap (λ (g : Geometry). refusal (rest g)) (sym (p .geometry))
 
+-- for Open and for Claim
+abbrev pub OpenChecked : (im pool script : List ℕ) → Geometry → Type 0
+OpenChecked im pool script = Checked im (some pool) none (some script)
+
+pub open-checked : (im pool script : List ℕ) {g : Geometry} {v : Verdict} → v ≡ checksOn im (some pool) none (some script) → v ≡ Passed g
+    → OpenChecked im pool script g
+open-checked im pool script = all-checked im (some pool) none (some script)
+
 -- ---- the checks as the code makes them, with the geometry that it has read
 
 module _ (image : List ℕ) (map scratch script : Buffer) (g : Geometry) (is : g ≡ geometryOf (reads image)) where

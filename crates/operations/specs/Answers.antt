@@ -2,8 +2,6 @@
 use Prim.Native.Nat.{ℕ}
 use Rattle.operations.specs.declared.answer.Refusal.{Refusal}
 use Rattle.operations.specs.declared.answer.Refusal.the-variants.{Image, Edition, Buffer, Malformed, NoReel, AlreadyOpen, NoSlot, NoRun, FrameHeld, FrameNotHeld, HeadNumber, HeadState, Busy, ListShort}
-use Rattle.operations.specs.declared.claim.Admission.{Admission}
-use Rattle.operations.specs.declared.claim.Admission.the-variants as admission
 use Rattle.operations.specs.declared.answer.Answer.{Answer}
 use Rattle.operations.specs.declared.answer.Answer.the-variants.{Done, Refused}
 
@@ -32,8 +30,3 @@ answerOf (Refused why) = numberOf why
 abbrev pub countOf : Answer → ℕ
 countOf (Done n) = n
 countOf (Refused why) = 0
-
--- what Claim's tests of head and reel come to: 0, or their number
-abbrev pub admissionNumber : Admission → ℕ
-admissionNumber admission.Admitted = 0
-admissionNumber (admission.Refused why) = numberOf why

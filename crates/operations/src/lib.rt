@@ -1,16 +1,8 @@
-// The operations in code: each computes what book's `perform` says.
+// What every operation in code begins and ends with: the first checks, the heads, what is handed to the driver. The
+// operations themselves are in the crates above; each computes what book's `perform` says.
 pub mod answer;
-pub mod apply;
 pub mod checks;
-pub mod claim;
-pub mod format;
-pub mod frames;
 pub mod hand_over;
 pub mod head_words;
 pub mod heads;
-pub mod list;
-pub mod open;
-pub mod recover;
-pub mod retire;
-pub mod room_script;
-pub mod targets;
+pub mod node_script;

@@ -13,20 +13,19 @@ ghost use Rattle.book.specs.State.{query, has, list as list-reel};
 ghost use Rattle.book.specs.CarryOut.{carry, carried};
 ghost use Rattle.operations.specs.Ends.{buffers, noBuffers, state, ended, ends};
 use book::HEAD_WORDS;
-use operations::apply;
-use operations::claim;
-use operations::format;
-use operations::frames;
+use claims::claim;
+use images::apply;
+use images::format;
+use images::recover;
+use lookups::frames;
 use operations::hand_over::answer_number;
 use operations::hand_over::hand_over;
 use operations::hand_over::hand_over_fresh;
 use operations::hand_over::hand_over_head;
 use operations::head_words::read_heads;
-use operations::list;
-use operations::open;
-use operations::recover;
-use operations::retire;
-use operations::targets;
+use reels::list;
+use reels::open;
+use reels::retire;
 // how many stores a script has, for those who print it
 pub use tree::persistent::count_stores;
 

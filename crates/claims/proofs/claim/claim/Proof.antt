@@ -1,0 +1,145 @@
+use mathlib.Core.Path.{_≡_, sym, _∙_, ap}
+use mathlib.Core.List.{List}
+use Prim.Native.Nat.{ℕ, _<_}
+use Rattle.tree.specs.Memory.{reads as readsWords}
+use Rattle.tree.specs.Slots.{Filled}
+use Rattle.tree.proofs.Laws.{slot-laws}
+use Rattle.operations.specs.Answers.{numberOf}
+use Rattle.operations.specs.HeadLists.{headsIn}
+use Rattle.operations.proofs.Passed.{number-some, OpenChecked, open-checked}
+use Rattle.claims.specs.Admissions.{admissionNumber}
+use Rattle.claims.proofs.ClaimingEndings.{HeadPassed, slot-below, run-fits, claim-early, head-refused, head-passed, path-malformed, path-full, frame-held, no-run, claimed}
+use borrow.Author.Needs.{needs}
+use Rattle.claims.proofs.claim.claim.Statement.{statement}
+use Rattle.claims.proofs.claim.claim.Tie as tie
+
+-- the checks are passed
+fine : (c : tie.After-known-told)
+    → let a = c .before .before .before .before .before .before .before .args in
+    OpenChecked (a .image .now) (a .pool .now) (a .script .now) (c .before .g .given .0 .0)
+fine c =
+    let told = c .before .before .before in
+    let a = told .before .before .before .before .args in
+    open-checked (a .image .now) (a .pool .now) (a .script .now) (told .checks .ensures) (c .before .g .given .1)
+
+-- so are the tests of the head and of the slot
+past : (c : tie.After-enum-told) (ws : List ℕ)
+    → let read = c .before .before .before .before in
+    let a = read .before .before .before .before .before .before .before .args in
+    headsIn ws ≡ a .heads
+    → HeadPassed (a .image .now) (a .pool .now) (a .script .now) ws (a .head) (a .reel) (a .frame) (read .before .g .given .0 .0) (c .before .before .before .slot-of .result)
+past c ws e =
+    let tests = c .before .before in
+    let read = tests .before .before in
+    let a = read .before .before .before .before .before .before .before .args in
+    head-passed (a .image .now) (a .pool .now) (a .script .now) ws (a .head) (a .reel) (a .frame) (a .heads) e _ (fine read) _ (tests .before .slot-of .ensures)
+    (admissionNumber (tests .admit .result)) (tests .admit .ensures) (ap admissionNumber (c .enum-told .given .1))
+
+-- and the slot is filled
+filled : (c : tie.After-enum-told)
+    → let read = c .before .before .before .before in
+    let a = read .before .before .before .before .before .before .before .args in
+    Filled (read .before .g .given .0 .0) (readsWords (a .image .now)) (c .before .before .before .slot-of .result)
+filled c =
+    let tests = c .before .before in
+    let slot = tests .before .slot-of in
+    let read = tests .before .before in
+    let a = read .before .before .before .before .before .before .before .args in
+    let l : slot .result < read .before .g .given .0 .0 .slots =
+    slot-below (a .heads) (a .head) (read .before .g .given .0 .0) (slot .result) (sym (ap admissionNumber (c .enum-told .given .1)) ∙ tests .admit .ensures) in
+    rw (slot .ensures) (slot-laws (read .before .g .given .0 .0) (readsWords (a .image .now)) .reel (a .reel) (rw (← slot .ensures) l) .0)
+
+returns : tie.Need-returns
+returns c ws e =
+    let told = c .before .before .before in
+    let a = told .before .before .before .before .args in
+    claim-early (a .image .now) (a .pool .now) (a .script .now) ws (a .head) (a .reel) (a .frame) (told .checks .ensures) (c .before .why .given .1)
+
+returns-2 : tie.Need-returns-2
+returns-2 c ws e =
+    let tests = c .before .before .before in
+    let read = tests .before .before in
+    let a = read .before .before .before .before .before .before .before .args in
+    head-refused (a .image .now) (a .pool .now) (a .script .now) ws (a .head) (a .reel) (a .frame) (a .heads) e _ (fine read) _ (tests .before .slot-of .ensures)
+    (numberOf (c .before .why2 .given .0 .0)) (sym (ap admissionNumber (c .before .why2 .given .1)) ∙ tests .admit .ensures)
+    (number-some (c .before .why2 .given .0 .0))
+
+returns-3 : tie.Need-returns-3
+returns-3 c ws e =
+    let walked = c .before .before in
+    path-malformed _ _ _ _ _ _ _ (past (walked .before) ws e) (walked .room-for .ensures) (c .enum-told2 .given .1)
+
+returns-4 : tie.Need-returns-4
+returns-4 c ws e =
+    let walked = c .before .before in
+    path-full _ _ _ _ _ _ _ (past (walked .before) ws e) (walked .room-for .ensures) (c .enum-told3 .given .1)
+
+returns-5 : tie.Need-returns-5
+returns-5 c ws e =
+    let walked = c .before .before in
+    frame-held _ _ _ _ _ _ _ (past (walked .before) ws e) (walked .room-for .ensures) (c .enum-told4 .given .1)
+
+run-for-requires : tie.Need-run-for-requires
+run-for-requires c κs = let p = fine (c .before .before .before .before .before .before .before .before .before) in search needs
+
+returns-6 : tie.Need-returns-6
+returns-6 c ws e =
+    let run = c .before .before in
+    let known = run .before .before .before in
+    let walked = known .before .before in
+    no-run _ _ _ _ _ _ _ (past (walked .before) ws e) (walked .room-for .ensures) _ (known .room .given .1) _ (run .run-for .ensures) (c .if1 .taken)
+
+take-room-requires : tie.Need-take-room-requires
+take-room-requires c κs =
+    let left = c .before .before in
+    let run = left .before .before in
+    let known = run .before .before .before in
+    let walked = known .before .before in
+    let read = walked .before .before .before .before .before in
+    let a = read .before .before .before .before .before .before .before .args in
+    let p = fine read in (
+      p .sized,
+      sym (known .room .given .1) ∙ walked .room-for .ensures,
+      p .map-words,
+      p .script-words,
+      run-fits (read .before .g .given .0 .0) (a .pool .now) (known .room .given .0 .0) _ (run .run-for .ensures) (left .if1 .left),
+    )
+
+returns-7 : tie.Need-returns-7
+returns-7 c ws e =
+    let took = c .before .before .before .before in
+    let left = took .before .before .before in
+    let run = left .before .before in
+    let known = run .before .before .before in
+    let walked = known .before .before in
+    claimed _ _ _ _ _ _ _ (past (walked .before) ws e) (walked .room-for .ensures) _ (known .room .given .1) _ (run .run-for .ensures) (left .if1 .left)
+    (took .take-room .last .1 .0) (took .take-room .last .1 .1 .0) (took .take-room .result) (took .take-room .ensures)
+
+pub claim-spec : {M : Type 1} → statement M
+claim-spec =
+    tie.close
+    (tie.spec
+    (λ c κs. search needs)
+    (λ c. search needs)
+    (λ c. search needs)
+    returns
+    (λ c κs. fine c .sized)
+    (λ c κs. search needs)
+    (λ c. search needs)
+    returns-2
+    (λ c. search needs)
+    (λ c κs. (fine (c .before .before .before .before) .sized, filled c))
+    (λ c. search needs)
+    returns-3
+    (λ c. search needs)
+    returns-4
+    (λ c. search needs)
+    returns-5
+    (λ c. search needs)
+    run-for-requires
+    (λ c. search needs)
+    returns-6
+    take-room-requires
+    (λ c. search needs)
+    (λ c. search needs)
+    returns-7)

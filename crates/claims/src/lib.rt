@@ -1,0 +1,2 @@
+// The operation that finds or makes a place for a frame: Claim.
+pub mod claim;

@@ -1,0 +1,65 @@
+// Retire: a reel goes, and its nodes are free.
+ghost use mathlib.Core.Path.{_≡_};
+ghost use mathlib.Core.List.{List, []};
+ghost use Prim.Native.Nat.{ℕ};
+ghost use lib.ListN.{length};
+ghost use Rattle.book.specs.State.{retire};
+ghost use Rattle.operations.specs.Answers.{answerOf, countOf};
+ghost use Rattle.operations.specs.HeadLists.{headsIn};
+ghost use Rattle.operations.specs.Ends.{buffers, state, ended, ends};
+use book::HEADS;
+use book::Head;
+use operations::answer::Answer;
+use operations::answer::Refusal;
+use operations::checks::Buffer;
+use operations::checks::Verdict;
+use operations::checks::checks;
+use operations::heads::is_busy;
+use tree::persistent::put_fenced;
+use pool::pool_map::clear_map;
+use nodes::reels::slot_of;
+use walks::trees::free_tree;
+
+// Retire a reel: its root becomes 0. Past the checks the scratch map is all 0 in the end.
+pub fn retire(
+    image: &[u64],
+    pool: &mut [u64],
+    heads: [Head; HEADS],
+    scratch: &mut [u64],
+    script: &mut [u64],
+    reel: u64,
+) -> Answer
+    ensures { λ r. ⌜
+        ((ws : List ℕ)
+        → headsIn ws ≡ heads
+        → ended (answerOf r) (countOf r) (state (now (image .entry)) (now (pool .exit)) ws)
+        (buffers (now (scratch .exit)) (now (script .exit)) [])
+        ≡ ends
+        (retire (length (now (pool .entry))) (length (now (scratch .entry))) (length (now (script .entry))) reel)
+        (state (now (image .entry)) (now (pool .entry)) ws) (buffers (now (scratch .entry)) (now (script .entry)) []))
+        ⌝ }
+{
+    let g = match checks(
+        image,
+        Buffer::Words(pool.len()),
+        Buffer::Words(scratch.len()),
+        Buffer::Words(script.len()),
+    ) {
+        Verdict::Passed(g) => g,
+        Verdict::Refused(why) => return Answer::Refused(why),
+    };
+    let slot = slot_of(image, g, reel);
+    if g.slots <= slot {
+        clear_map(scratch);
+        return Answer::Refused(Refusal::NoReel);
+    }
+    if is_busy(heads, slot) {
+        clear_map(scratch);
+        return Answer::Refused(Refusal::Busy);
+    }
+    if !free_tree(image, pool, scratch, g, slot) {
+        return Answer::Refused(Refusal::Malformed);
+    }
+    put_fenced(script, (64 + 2 * slot + 1) as u64, 0);
+    Answer::Done(4)
+}

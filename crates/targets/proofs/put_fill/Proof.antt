@@ -1,0 +1,29 @@
+use Rattle.tree.specs.Fingerprint.{ruleOf}
+use Rattle.book.specs.Perform.{fillScript}
+use Rattle.operations.proofs.ScriptWords.{pair-written}
+use borrow.Author.Needs.{needs}
+use Rattle.targets.proofs.put_fill.Statement.{statement}
+use Rattle.targets.proofs.put_fill.Tie as tie
+
+returns : tie.Need-returns
+unfolding fillScript ruleOf
+returns c = rw (← c .before .before .before .fingerprint-word .ensures) (pair-written _ _ _ _ (c .before .before .put-fenced-pair .ensures))
+
+pub put-fill-spec : {M : Type 1} → statement M
+put-fill-spec =
+    tie.close
+    (tie.spec
+    (λ c. search needs)
+    (λ c. search needs)
+    (λ c. search needs)
+    (λ c. search needs)
+    (λ c. search needs)
+    (λ c. search needs)
+    (λ c. search needs)
+    (λ c. search needs)
+    (λ c. search needs)
+    (λ c. search needs)
+    (λ c κs. search needs)
+    (λ c κs. search needs)
+    (λ c. search needs)
+    returns)

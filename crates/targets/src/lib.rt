@@ -1,0 +1,184 @@
+// Fill, Commit and Abandon: what becomes of the place that a head has claimed.
+ghost use mathlib.Core.Path.{_≡_};
+ghost use mathlib.Core.Bool.{cond, not};
+ghost use mathlib.Core.List.{List, [], _∷_};
+ghost use Prim.Native.Nat.{ℕ, _≤_, _<_};
+ghost use lib.ListN.{length};
+ghost use Rattle.tree.specs.Memory.{segmented, written, reads};
+ghost use Rattle.tree.specs.Test.{holds};
+ghost use Rattle.tree.specs.Layout.{Sized, setAt, locateAt};
+ghost use Rattle.tree.specs.Fingerprint.{ruleOf};
+ghost use Rattle.book.specs.Heads.{headCount, isIdle, isFilled, targetOf};
+ghost use Rattle.book.specs.State.{fill, commit, abandon};
+ghost use Rattle.book.specs.Checks.{outside};
+ghost use Rattle.book.specs.Perform.{fillScript, bitOn, bitOff};
+ghost use Rattle.operations.specs.HeadLists.{headsIn, headAnswerOf, headCountOf, headsAfter};
+ghost use Rattle.operations.specs.Ends.{buffers, state, ended, ends};
+use book::HEADS;
+use book::Head;
+use book::HeadState;
+use book::Target;
+use operations::answer::HeadAnswer;
+use operations::answer::Refusal;
+use operations::checks::Buffer;
+use operations::checks::Verdict;
+use operations::checks::checks;
+use operations::heads::state_in;
+use nodes::fingerprint::fingerprint_word;
+use tree::layout::Geometry;
+use tree::persistent::put_fenced;
+use tree::persistent::put_fenced_pair;
+use tree::persistent::with_bit;
+use tree::persistent::without_bit;
+
+// Is the target's node or place outside? Both are words that the driver keeps, of any size.
+fn is_outside(g: Geometry, t: Target) -> bool
+    ensures { λ r. ⌜ r ≡ holds (outside g t) ⌝ }
+{
+    (g.nodes as u64 <= t.node) | (64 <= t.place)
+}
+
+// Fill's script: the frame, then the fingerprint word with its other seven bytes kept.
+fn put_fill(image: &[u64], g: Geometry, script: &mut [u64], t: Target)
+    requires { ⌜ Sized (now image) g × (t .node < g .nodes) × (t .place < 64) × (8 ≤ length (now script)) ⌝ }
+    ensures { λ _. ⌜
+        now (script .exit)
+        ≡ written (segmented (fillScript (ruleOf (reads (now (image .entry)))) g (reads (now (image .entry))) t))
+        (now (script .entry))
+        ⌝ }
+{
+    let at = 64 + 2 * g.slots + 80 * (t.node as usize);
+    let place = t.place as usize;
+    let prints = at + 8 + place / 8;
+    put_fenced_pair(
+        script,
+        (at + 16 + place) as u64,
+        t.frame,
+        prints as u64,
+        fingerprint_word(image[prints], place, t.frame),
+    );
+}
+
+// Commit's script: the set word with the place's bit.
+fn put_commit(image: &[u64], g: Geometry, script: &mut [u64], t: Target)
+    requires { ⌜ Sized (now image) g × (t .node < g .nodes) × (t .place < 64) × (4 ≤ length (now script)) ⌝ }
+    ensures { λ _. ⌜
+        now (script .exit)
+        ≡ written (segmented (bitOn (reads (now (image .entry))) (setAt g (t .node)) (t .place) ∷ []))
+        (now (script .entry))
+        ⌝ }
+{
+    let at = 64 + 2 * g.slots + 80 * (t.node as usize) + 2;
+    put_fenced(script, at as u64, with_bit(image[at], t.place as u32));
+}
+
+// Abandon's script: the locate word without it.
+fn put_abandon(image: &[u64], g: Geometry, script: &mut [u64], t: Target)
+    requires { ⌜ Sized (now image) g × (t .node < g .nodes) × (t .place < 64) × (4 ≤ length (now script)) ⌝ }
+    ensures { λ _. ⌜
+        now (script .exit)
+        ≡ written (segmented (bitOff (reads (now (image .entry))) (locateAt g (t .node)) (t .place) ∷ []))
+        (now (script .entry))
+        ⌝ }
+{
+    let at = 64 + 2 * g.slots + 80 * (t.node as usize) + 1;
+    put_fenced(script, at as u64, without_bit(image[at], t.place as u32));
+}
+
+pub fn fill(image: &[u64], heads: [Head; HEADS], script: &mut [u64], head: u64) -> HeadAnswer
+    ensures { λ r. ⌜
+        ((pool ws : List ℕ)
+        → headsIn ws ≡ heads
+        → ended (headAnswerOf r) (headCountOf r) (state (now (image .entry)) pool (headsAfter ws head r))
+        (buffers [] (now (script .exit)) [])
+        ≡ ends (fill (length (now (script .entry))) head) (state (now (image .entry)) pool ws)
+        (buffers [] (now (script .entry)) []))
+        ⌝ }
+{
+    let g = match checks(
+        image,
+        Buffer::Absent,
+        Buffer::Absent,
+        Buffer::Words(script.len()),
+    ) {
+        Verdict::Passed(g) => g,
+        Verdict::Refused(why) => return HeadAnswer::Refused(why),
+    };
+    if HEADS as u64 <= head {
+        return HeadAnswer::Refused(Refusal::HeadNumber);
+    }
+    let HeadState::Claimed(t) = state_in(heads, head as usize) else {
+        return HeadAnswer::Refused(Refusal::HeadState);
+    };
+    if is_outside(g, t) {
+        return HeadAnswer::Refused(Refusal::Malformed);
+    }
+    put_fill(image, g, script, t);
+    HeadAnswer::Done(8, HeadState::Filled(t))
+}
+
+pub fn commit(image: &[u64], heads: [Head; HEADS], script: &mut [u64], head: u64) -> HeadAnswer
+    ensures { λ r. ⌜
+        ((pool ws : List ℕ)
+        → headsIn ws ≡ heads
+        → ended (headAnswerOf r) (headCountOf r) (state (now (image .entry)) pool (headsAfter ws head r))
+        (buffers [] (now (script .exit)) [])
+        ≡ ends (commit (length (now (script .entry))) head) (state (now (image .entry)) pool ws)
+        (buffers [] (now (script .entry)) []))
+        ⌝ }
+{
+    let g = match checks(
+        image,
+        Buffer::Absent,
+        Buffer::Absent,
+        Buffer::Words(script.len()),
+    ) {
+        Verdict::Passed(g) => g,
+        Verdict::Refused(why) => return HeadAnswer::Refused(why),
+    };
+    if HEADS as u64 <= head {
+        return HeadAnswer::Refused(Refusal::HeadNumber);
+    }
+    let HeadState::Filled(t) = state_in(heads, head as usize) else {
+        return HeadAnswer::Refused(Refusal::HeadState);
+    };
+    if is_outside(g, t) {
+        return HeadAnswer::Refused(Refusal::Malformed);
+    }
+    put_commit(image, g, script, t);
+    HeadAnswer::Done(4, HeadState::Idle)
+}
+
+pub fn abandon(image: &[u64], heads: [Head; HEADS], script: &mut [u64], head: u64) -> HeadAnswer
+    ensures { λ r. ⌜
+        ((pool ws : List ℕ)
+        → headsIn ws ≡ heads
+        → ended (headAnswerOf r) (headCountOf r) (state (now (image .entry)) pool (headsAfter ws head r))
+        (buffers [] (now (script .exit)) [])
+        ≡ ends (abandon (length (now (script .entry))) head) (state (now (image .entry)) pool ws)
+        (buffers [] (now (script .entry)) []))
+        ⌝ }
+{
+    let g = match checks(
+        image,
+        Buffer::Absent,
+        Buffer::Absent,
+        Buffer::Words(script.len()),
+    ) {
+        Verdict::Passed(g) => g,
+        Verdict::Refused(why) => return HeadAnswer::Refused(why),
+    };
+    if HEADS as u64 <= head {
+        return HeadAnswer::Refused(Refusal::HeadNumber);
+    }
+    let t = match state_in(heads, head as usize) {
+        HeadState::Idle => return HeadAnswer::Refused(Refusal::HeadState),
+        HeadState::Claimed(t) => t,
+        HeadState::Filled(t) => t,
+    };
+    if is_outside(g, t) {
+        return HeadAnswer::Refused(Refusal::Malformed);
+    }
+    put_abandon(image, g, script, t);
+    HeadAnswer::Done(4, HeadState::Idle)
+}

@@ -8,7 +8,7 @@ CXX ?= c++
 CFLAGS ?= -O2
 WARNINGS = -std=c99 -Wall -Wextra -Wpedantic -Wshadow -Wconversion -Werror
 LIBRARY = build/libreelbook.a
-RATTLE_SOURCES = crates.txt $(shell find crates/slices crates/memory crates/tree crates/walks crates/book crates/operations crates/reelbook -name '*.rt' -o -name '*.antt')
+RATTLE_SOURCES = crates.txt $(shell find crates/slices crates/memory crates/tree crates/paths crates/visits crates/walks crates/settled crates/recovery crates/book crates/operations crates/reelbook -name '*.rt' -o -name '*.antt')
 
 run:
 	@mkdir -p target

@@ -11,8 +11,8 @@ ghost use Rattle.tree.specs.Layout.{Sized, mapWords};
 ghost use Rattle.tree.specs.Lookup.{freeRun};
 ghost use Rattle.tree.specs.Room.{needs};
 ghost use Rattle.tree.specs.Pool.{markAll};
-ghost use Rattle.walks.specs.Answers.{placementFrom};
-ghost use Rattle.walks.specs.declared.descent.Placement.the-variants.{Free};
+ghost use Rattle.paths.specs.Answers.{placementFrom};
+ghost use Rattle.paths.specs.declared.descent.Placement.the-variants.{Free};
 ghost use Rattle.book.specs.declared.HeadState.the-variants.{Claimed};
 ghost use Rattle.book.specs.Heads.{headCount, isIdle};
 ghost use Rattle.book.specs.Refusals.{refusal, _gives_};
@@ -37,6 +37,8 @@ use book::HEADS;
 use book::Head;
 use book::HeadState;
 use book::Target;
+use paths::descent::Placement;
+use paths::descent::room_for;
 use tree::layout::Geometry;
 use tree::path::Room;
 use tree::path::Spot;
@@ -45,8 +47,6 @@ use tree::path::fanout;
 use tree::pool_map::free_run;
 use tree::pool_map::mark_run;
 use tree::reels::slot_of;
-use walks::descent::Placement;
-use walks::descent::room_for;
 
 // Whether a claim may go on.
 pub enum Admission {

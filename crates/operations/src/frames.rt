@@ -18,13 +18,13 @@ use crate::checks::checks;
 use crate::heads::is_busy;
 use book::HEADS;
 use book::Head;
+use paths::descent::Found;
+use paths::descent::find;
 use tree::layout::Geometry;
 use tree::path::Spot;
 use tree::persistent::put_fenced_pair;
 use tree::persistent::without_bit;
 use tree::reels::slot_of;
-use walks::descent::Found;
-use walks::descent::find;
 
 // Does a reel hold a frame? The count is 1 or 0.
 pub fn has(image: &[u64], reel: u64, frame: u64) -> Answer

@@ -12,7 +12,7 @@ use crate::answer::Refusal;
 use crate::checks::Buffer;
 use crate::checks::Verdict;
 use crate::checks::checks;
-use walks::recovery::recover_image;
+use recovery::recovery::recover_image;
 
 // Recover: an image that is not sound stays as it is, and its map is all 0.
 pub fn recover(image: &mut [u64], pool: &mut [u64]) -> Answer

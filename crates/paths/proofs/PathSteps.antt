@@ -1,7 +1,7 @@
 -- A frame's path a node at a time, in the terms of the code that goes along it.
 use mathlib.Core.Path.{_≡_, refl, sym, _∙_, ap}
 use mathlib.Core.Bool.{Bool, true, false, cond, not}
-use mathlib.Core.Logic.{inl, inr, ⊎-elim}
+use mathlib.Core.Logic.{inl, inr}
 use mathlib.Core.Option.{Option, none, some}
 use mathlib.Core.List.{List, [], _∷_, _++_, append-assoc}
 use Prim.Native.Nat.{ℕ, zero, suc, _+_, _-_, _≤_, _<_}
@@ -10,8 +10,6 @@ use native.Mathlib.Omega.{arith}
 use borrow.Author.Tests.{eq-eqb, ne-eqb, eqb-false, lt-ltb, le-ltb, not-true}
 use lib.Dec.{eqb, ltb}
 use lib.ListN.{length-append}
-use types.Run.{OneOf}
-use denote.Enum.Declared.{tagOf}
 use Rattle.memory.specs.Words.{Memory}
 use Rattle.tree.specs.declared.layout.Geometry.{Geometry}
 use Rattle.tree.specs.Layout.{nextAt, sizeAt}
@@ -26,11 +24,12 @@ use Rattle.tree.proofs.Nodes.{children-inside}
 use Rattle.tree.proofs.Laws.{child-laws, node-laws}
 use Rattle.paths.specs.declared.descent.Step.{Step}
 use Rattle.paths.specs.declared.descent.Step.the-variants.{End, Down}
+use Rattle.paths.specs.declared.descent.Seen.{Seen}
+use Rattle.paths.specs.declared.descent.Seen.the-variants.{Nothing}
 use Rattle.paths.specs.declared.descent.Found.{Found}
 use Rattle.paths.specs.declared.descent.Found.the-variants.{Malformed, Absent, At}
 use Rattle.paths.specs.Answers.{onPath, foundAs, foundFrom}
-use Rattle.paths.specs.Descent.{stepFrom, orElse, passed, Along}
-use Rattle.paths.proofs.descent.Found.{the-type}
+use Rattle.paths.specs.Descent.{stepFrom, spotOf, orElse, passed, Along}
 
 -- a well-formed node is inside the pool, and so is the child to which a frame goes
 module _ (g : Geometry) (m : Memory) (d n : ℕ) (h : wellFormed g m d n ≡ true) where
@@ -121,13 +120,6 @@ module _ {g : Geometry} {m : Memory} {s f : ℕ} {ns : List ℕ} {d n : ℕ} (a 
 
 -- ---- a search of a path's nodes, with what was found so far
 
--- nothing was found, as the code's test says it
-abbrev pub NotAt : Found → Type 0
-NotAt x = OneOf (0 ∷ 1 ∷ []) (tagOf the-type x)
-
-pub not-at : {X : Type 0} (t : Spot) → NotAt (At t) → X
-not-at t k = absurd (⊎-elim (λ v. omega arith) (λ v. omega arith) k)
-
 -- what is found in nodes is the first spot of a search: the lookup and the clear place are both so
 pub record Searches (found : List ℕ → Option Spot) (search bound : ℕ → ℕ) : Type 0 where
   pub is : (ns : List ℕ) → found ns ≡ firstSpot search bound ns
@@ -143,30 +135,27 @@ module _ (g : Geometry) (m : Memory) where
 
 module _ {found : List ℕ → Option Spot} {search bound : ℕ → ℕ} (w : Searches found search bound) where
   -- the node's own place, or none, unless one was found before it
-  at-node : (so-far : Found) (n : ℕ) → NotAt so-far
-      → orElse so-far (foundAs (found (n ∷ []))) ≡ foundAs (cond (ltb (search n) (bound n)) (some (spot n (search n))) none)
-  unfolding firstSpot
-  at-node Malformed n k = rw (w .is (n ∷ [])) refl
-  at-node Absent n k = rw (w .is (n ∷ [])) refl
-  at-node (At t) n k = not-at t k
+  module _ {so-far : Seen} (k : so-far ≡ Nothing) (n p : ℕ) (e : p ≡ search n) where
+    at-node : orElse (spotOf so-far) (found (n ∷ [])) ≡ cond (ltb p (bound n)) (some (spot n p)) none
+    unfolding firstSpot
+    at-node = rw (k, w .is (n ∷ []), e) refl
 
-  module _ (so-far : Found) (n p : ℕ) (k : NotAt so-far) (e : p ≡ search n) where
-    pub found-here : p < bound n → At (spot n p) ≡ orElse so-far (foundAs (found (n ∷ [])))
-    found-here l = sym (at-node so-far n k ∙ rw (← e, lt-ltb p (bound n) l) refl)
+    pub found-here : p < bound n → some (spot n p) ≡ orElse (spotOf so-far) (found (n ∷ []))
+    found-here l = sym (at-node ∙ rw (lt-ltb p (bound n) l) refl)
 
-    pub found-nowhere : bound n ≤ p → Absent ≡ orElse so-far (foundAs (found (n ∷ [])))
-    found-nowhere l = sym (at-node so-far n k ∙ rw (← e, le-ltb p (bound n) l) refl)
+    pub found-nowhere : bound n ≤ p → none ≡ orElse (spotOf so-far) (found (n ∷ []))
+    found-nowhere l = sym (at-node ∙ rw (le-ltb p (bound n) l) refl)
 
-  pub found-none : Absent ≡ foundAs (found [])
+  pub found-none : none ≡ found []
   unfolding firstSpot
   found-none = rw (w .is []) refl
 
   -- what was found down to a node is what is found in all nodes down to it
-  pub found-more : (ns : List ℕ) (n : ℕ) {so-far r : Found} → so-far ≡ foundAs (found ns) → r ≡ orElse so-far (foundAs (found (n ∷ []))) → r ≡ foundAs (found (ns ++ n ∷ []))
+  pub found-more : (ns : List ℕ) (n : ℕ) {so-far r : Option Spot} → so-far ≡ found ns → r ≡ orElse so-far (found (n ∷ [])) → r ≡ found (ns ++ n ∷ [])
   unfolding firstSpot
   found-more ns n e q = q ∙ rw (e, w .is ns, w .is (n ∷ []), w .is (ns ++ n ∷ [])) (go ns)
     where
-      go : (ns : List ℕ) → orElse (foundAs (firstSpot search bound ns)) (foundAs (firstSpot search bound (n ∷ []))) ≡ foundAs (firstSpot search bound (ns ++ n ∷ []))
+      go : (ns : List ℕ) → orElse (firstSpot search bound ns) (firstSpot search bound (n ∷ [])) ≡ firstSpot search bound (ns ++ n ∷ [])
       go [] = refl
       go (k ∷ ns) = elim (test (ltb (search k) (bound k))) [ inl h ↦ rw h refl | inr h ↦ rw h (go ns) ]
 
@@ -194,6 +183,6 @@ module _ (g : Geometry) (m : Memory) (s f : ℕ) where
   unfolding foundFrom
   found-malformed e = rw e refl
 
-  pub found-end : {ns : List ℕ} {r : Found} → pathFrom g m s f ≡ some ns → r ≡ foundAs (lookup editionOne g m f ns) → r ≡ foundFrom g m s f
+  pub found-end : {ns : List ℕ} {o : Option Spot} {r : Found} → pathFrom g m s f ≡ some ns → o ≡ lookup editionOne g m f ns → r ≡ foundAs o → r ≡ foundFrom g m s f
   unfolding foundFrom
-  found-end e q = rw e q
+  found-end e a q = rw e (q ∙ ap foundAs a)

@@ -7,6 +7,7 @@ use Rattle.memory.specs.Words.{Memory}
 use Rattle.memory.specs.Apply.{isSome}
 use Rattle.tree.specs.declared.layout.Geometry.{Geometry}
 use Rattle.tree.specs.declared.path.Spot.{Spot}
+use Rattle.tree.specs.declared.path.Room.{Room}
 use Rattle.tree.specs.Fingerprint.{editionOne}
 use Rattle.tree.specs.Lookup.{pathFrom, lookup}
 use Rattle.tree.specs.Room.{roomOn, atLevel31}
@@ -28,11 +29,13 @@ foundAs (some t) = found.At t
 unfoldable pub foundFrom : Geometry → Memory → (slot frame : ℕ) → Found
 foundFrom g m s f = onPath found.Malformed (λ ns. foundAs (lookup editionOne g m f ns)) (pathFrom g m s f)
 
--- what a claim finds on a frame's path: full to the end at level 31, or the frame held, or room
+-- what a claim finds, by the room on a frame's path and what the lookup finds there: full to the end at level 31, or the frame
+-- held, or room
+abbrev pub placementAs : Room → (found : Option Spot) → Placement
+placementAs r found = cond (atLevel31 r) placement.Full (cond (isSome found) placement.Held (placement.Free r))
+
 unfoldable pub placementOn : Geometry → Memory → (frame : ℕ) → List ℕ → Placement
-placementOn g m f ns =
-    let r = roomOn g m (some ns) in
-    cond (atLevel31 r) placement.Full (cond (isSome (lookup editionOne g m f ns)) placement.Held (placement.Free r))
+placementOn g m f ns = placementAs (roomOn g m (some ns)) (lookup editionOne g m f ns)
 
 unfoldable pub placementFrom : Geometry → Memory → (slot frame : ℕ) → Placement
 placementFrom g m s f = onPath placement.Malformed (placementOn g m f) (pathFrom g m s f)

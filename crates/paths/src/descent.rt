@@ -10,8 +10,8 @@ ghost use Rattle.tree.specs.Node.{wellFormed};
 ghost use Rattle.tree.specs.Slots.{Filled};
 ghost use Rattle.tree.specs.Lookup.{lookup, clearSpot};
 ghost use Rattle.tree.specs.Room.{atLevel31};
-ghost use Rattle.paths.specs.Answers.{foundAs, foundFrom, placementFrom};
-ghost use Rattle.paths.specs.Descent.{stepFrom, orElse, roomAt, placementAs};
+ghost use Rattle.paths.specs.Answers.{foundAs, foundFrom, placementAs, placementFrom};
+ghost use Rattle.paths.specs.Descent.{stepFrom, spotOf, orElse, roomAt};
 use tree::fingerprint::fingerprint;
 use tree::layout::Geometry;
 use tree::node::clear_place;
@@ -26,6 +26,12 @@ pub enum Found {
     // A node of the path is malformed.
     Malformed,
     Absent,
+    At(Spot),
+}
+
+// What a search of a path's nodes, from its root on, has seen so far.
+enum Seen {
+    Nothing,
     At(Spot),
 }
 
@@ -61,18 +67,28 @@ pub fn step_from(image: &[u64], g: Geometry, level: u64, n: usize, frame: u64) -
 }
 
 // What was found so far, or else the place of a node that holds the frame.
-fn found_on(image: &[u64], g: Geometry, n: usize, frame: u64, print: u64, found: Found) -> Found
+fn found_on(image: &[u64], g: Geometry, n: usize, frame: u64, print: u64, found: Seen) -> Seen
     requires { ⌜ Sized (now image) g × (n < g .nodes) × (print ≡ fingerprint editionOne frame) ⌝ }
-    ensures { λ r. ⌜ r ≡ orElse found (foundAs (lookup editionOne g (reads (now (image .entry))) frame (n ∷ []))) ⌝ }
+    ensures { λ r. ⌜ spotOf r ≡ orElse (spotOf found) (lookup editionOne g (reads (now (image .entry))) frame (n ∷ [])) ⌝ }
 {
-    if let Found::At(_) = found {
+    if let Seen::At(_) = found {
         return found;
     }
     let place = found_place(image, g, n, frame, print);
     if place < 64 {
-        return Found::At(Spot { node: n, place });
+        return Seen::At(Spot { node: n, place });
     }
-    Found::Absent
+    Seen::Nothing
+}
+
+// The lookup's answer at the end of a path.
+fn found_as(found: Seen) -> Found
+    ensures { λ r. ⌜ r ≡ foundAs (spotOf found) ⌝ }
+{
+    match found {
+        Seen::Nothing => Found::Absent,
+        Seen::At(spot) => Found::At(spot),
+    }
 }
 
 // The lookup of a frame from a filled slot. It goes to the path's end also where it has found the frame: a
@@ -84,14 +100,14 @@ pub fn find(image: &[u64], g: Geometry, slot: usize, frame: u64) -> Found
     let print = fingerprint(frame);
     let mut n = image[64 + 2 * slot + 1] as usize - 1;
     let mut level: u64 = 0;
-    let mut found = Found::Absent;
+    let mut found = Seen::Nothing;
     loop {
         if !well_formed(image, g, level, n) {
             return Found::Malformed;
         }
         found = found_on(image, g, n, frame, print, found);
         match step_from(image, g, level, n, frame) {
-            Step::End => return found,
+            Step::End => return found_as(found),
             Step::Down(below) => {
                 n = below;
                 level += 1;
@@ -101,27 +117,27 @@ pub fn find(image: &[u64], g: Geometry, slot: usize, frame: u64) -> Found
 }
 
 // What was clear so far, or else the lowest clear place of a node.
-fn clear_on(image: &[u64], g: Geometry, n: usize, clear: Found) -> Found
+fn clear_on(image: &[u64], g: Geometry, n: usize, clear: Seen) -> Seen
     requires { ⌜ Sized (now image) g × (n < g .nodes) × (reads (now image) (sizeAt g n) ≤ 64) ⌝ }
-    ensures { λ r. ⌜ r ≡ orElse clear (foundAs (clearSpot g (reads (now (image .entry))) (n ∷ []))) ⌝ }
+    ensures { λ r. ⌜ spotOf r ≡ orElse (spotOf clear) (clearSpot g (reads (now (image .entry))) (n ∷ [])) ⌝ }
 {
-    if let Found::At(_) = clear {
+    if let Seen::At(_) = clear {
         return clear;
     }
     let size = image[64 + 2 * g.slots + 80 * n + 4] as usize;
     let place = clear_place(image, g, n);
     if place < size {
-        return Found::At(Spot { node: n, place });
+        return Seen::At(Spot { node: n, place });
     }
-    Found::Absent
+    Seen::Nothing
 }
 
 // The room on a path: the first clear place, or else its last node decides.
-fn room_at(image: &[u64], g: Geometry, level: u64, n: usize, clear: Found) -> Room
+fn room_at(image: &[u64], g: Geometry, level: u64, n: usize, clear: Seen) -> Room
     requires { ⌜ Sized (now image) g × (n < g .nodes) ⌝ }
-    ensures { λ r. ⌜ r ≡ roomAt g (reads (now (image .entry))) level n clear ⌝ }
+    ensures { λ r. ⌜ r ≡ roomAt g (reads (now (image .entry))) level n (spotOf clear) ⌝ }
 {
-    if let Found::At(spot) = clear {
+    if let Seen::At(spot) = clear {
         return Room::Clear(spot);
     }
     let size = image[64 + 2 * g.slots + 80 * n + 4];
@@ -146,13 +162,13 @@ fn at_level_31(room: Room) -> bool
 }
 
 // What a claim finds, by the room on the path and what the lookup found there.
-fn placement_as(room: Room, found: Found) -> Placement
-    ensures { λ r. ⌜ r ≡ placementAs room found ⌝ }
+fn placement_as(room: Room, found: Seen) -> Placement
+    ensures { λ r. ⌜ r ≡ placementAs room (spotOf found) ⌝ }
 {
     if at_level_31(room) {
         return Placement::Full;
     }
-    if let Found::At(_) = found {
+    if let Seen::At(_) = found {
         return Placement::Held;
     }
     Placement::Free(room)
@@ -166,8 +182,8 @@ pub fn room_for(image: &[u64], g: Geometry, slot: usize, frame: u64) -> Placemen
     let print = fingerprint(frame);
     let mut n = image[64 + 2 * slot + 1] as usize - 1;
     let mut level: u64 = 0;
-    let mut found = Found::Absent;
-    let mut clear = Found::Absent;
+    let mut found = Seen::Nothing;
+    let mut clear = Seen::Nothing;
     loop {
         if !well_formed(image, g, level, n) {
             return Placement::Malformed;

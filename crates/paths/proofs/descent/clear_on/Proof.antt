@@ -16,10 +16,7 @@ clear-on-spec =
     (λ c. search needs)
     (λ c. search needs)
     (λ c. search needs)
+    (λ c. search needs)
     (λ c κs. search needs)
-    (λ c.
-    let m = c .before .before .before .before in
-    found-here (clears _ _) (m .before .before .args .clear) _ _ (m .match .keys2) (c .before .clear-place .ensures) (c .if1 .taken))
-    (λ c.
-    let m = c .before .before .before .before in
-    found-nowhere (clears _ _) (m .before .before .args .clear) _ _ (m .match .keys2) (c .before .clear-place .ensures) (c .if1 .left)))
+    (λ c. found-here (clears _ _) (c .before .before .before .before .enum-told2 .given .1) _ _ (c .before .clear-place .ensures) (c .if1 .taken))
+    (λ c. found-nowhere (clears _ _) (c .before .before .before .before .enum-told2 .given .1) _ _ (c .before .clear-place .ensures) (c .if1 .left)))

@@ -8,8 +8,7 @@ use Rattle.memory.specs.Words.{reads as readsWords}
 use Rattle.tree.specs.Fingerprint.{editionOne}
 use Rattle.tree.specs.Node.{wellFormed}
 use Rattle.tree.specs.Lookup.{lookup}
-use Rattle.paths.specs.Answers.{foundAs}
-use Rattle.paths.specs.Descent.{Along}
+use Rattle.paths.specs.Descent.{spotOf, Along}
 use Rattle.paths.proofs.PathSteps.{node-inside, along-root, along-malformed, along-end, along-down, lookups, found-more, found-none, found-malformed, found-end}
 use Rattle.paths.proofs.descent.find.Statement.{statement}
 use Rattle.paths.proofs.descent.find.Tie as tie
@@ -17,7 +16,7 @@ use Rattle.paths.proofs.descent.find.Tie as tie
 abbrev Inv-loop : tie.InvT-loop
 Inv-loop image g slot frame print n₀ level₀ found₀ n level found =
     let m = readsWords image in
-    (ns : List ℕ) × (Along g m slot frame ns level n × (found ≡ foundAs (lookup editionOne g m frame ns)))
+    (ns : List ℕ) × (Along g m slot frame ns level n × (spotOf found ≡ lookup editionOne g m frame ns))
 
 abbrev μ-loop : tie.MeasureT-loop
 μ-loop image g slot frame print n₀ level₀ found₀ n level found = 32 - level
@@ -36,10 +35,11 @@ returns c =
 
 returns-2 : tie.Need-returns-2 Inv-loop μ-loop
 returns-2 c =
-    let s = c .before .before in
+    let e = c .before in
+    let s = e .before .before in
     let l = s .before .before .before .before .loop in
-    found-end _ _ _ _ (along-end (l .inv .1 .0) (formed (s .before .before)) (s .step-from .ensures) (c .enum-told .given .1))
-    (found-more (lookups _ _ _) _ _ (l .inv .1 .1) (s .before .found-on .ensures))
+    found-end _ _ _ _ (along-end (l .inv .1 .0) (formed (s .before .before)) (s .step-from .ensures) (e .enum-told .given .1))
+    (found-more (lookups _ _ _) _ _ (l .inv .1 .1) (s .before .found-on .ensures)) (c .found-as .ensures)
 
 loop-again : tie.Need-loop-again Inv-loop μ-loop
 loop-again c =
@@ -71,6 +71,7 @@ find-spec =
     (λ c κs. let h = node-inside _ _ _ _ (formed c) in search needs)
     (λ c κs. let h = formed (c .before) in search needs)
     (λ c. search needs)
+    (λ c κs. search needs)
     returns-2
     (λ c. search needs)
     (λ c. search needs)

@@ -9,10 +9,7 @@ found-on-spec =
     (tie.spec
     (λ c. search needs)
     (λ c. search needs)
+    (λ c. search needs)
     (λ c κs. search needs)
-    (λ c.
-    let m = c .before .before in
-    found-here (lookups _ _ _) (m .before .before .args .found) _ _ (m .match .keys2) (c .before .found-place .ensures) (c .if1 .taken))
-    (λ c.
-    let m = c .before .before in
-    found-nowhere (lookups _ _ _) (m .before .before .args .found) _ _ (m .match .keys2) (c .before .found-place .ensures) (c .if1 .left)))
+    (λ c. found-here (lookups _ _ _) (c .before .before .enum-told2 .given .1) _ _ (c .before .found-place .ensures) (c .if1 .taken))
+    (λ c. found-nowhere (lookups _ _ _) (c .before .before .enum-told2 .given .1) _ _ (c .before .found-place .ensures) (c .if1 .left)))

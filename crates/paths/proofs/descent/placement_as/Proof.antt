@@ -11,6 +11,7 @@ placement-as-spec =
     (λ c. search needs)
     (λ c. search needs)
     (λ c. search needs)
+    (λ c. search needs)
     (λ c.
-    let l = c .before .before in
-    placement-free (l .before .args .room) (l .before .args .found) (l .at-level-31 .ensures) (c .before .if1 .left) (c .match .keys2)))
+    let l = c .before .before .before in
+    placement-free (l .before .args .room) (l .at-level-31 .ensures) (c .before .before .if1 .left) (c .enum-told2 .given .1)))

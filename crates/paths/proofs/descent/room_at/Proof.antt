@@ -16,5 +16,6 @@ room-at-spec =
     (λ c. search needs)
     (λ c. search needs)
     (λ c. search needs)
-    (λ c. room-small _ _ _ _ _ (c .before .before .before .match .keys2) (c .if1 .taken))
-    (λ c. room-large _ _ _ _ _ (c .before .before .before .match .keys2) (c .if1 .left)))
+    (λ c. search needs)
+    (λ c. room-small _ _ _ _ (c .before .before .before .enum-told .given .1) (c .if1 .taken))
+    (λ c. room-large _ _ _ _ (c .before .before .before .enum-told .given .1) (c .if1 .left)))

@@ -9,8 +9,7 @@ use Rattle.tree.specs.Fingerprint.{editionOne}
 use Rattle.tree.specs.Node.{wellFormed}
 use Rattle.tree.specs.Lookup.{lookup, clearSpot}
 use Rattle.tree.proofs.Nodes.{wellFormed-facts, size-most}
-use Rattle.paths.specs.Answers.{foundAs}
-use Rattle.paths.specs.Descent.{Along}
+use Rattle.paths.specs.Descent.{spotOf, Along}
 use Rattle.paths.proofs.PathSteps.{node-inside, along-root, along-malformed, along-end, along-down, lookups, clears, found-more, found-none}
 use Rattle.paths.proofs.RoomSteps.{placement-malformed, placement-end}
 use Rattle.paths.proofs.descent.room_for.Statement.{statement}
@@ -19,7 +18,7 @@ use Rattle.paths.proofs.descent.room_for.Tie as tie
 abbrev Inv-loop : tie.InvT-loop
 Inv-loop image g slot frame print n₀ level₀ found₀ clear₀ n level found clear =
     let m = readsWords image in
-    (ns : List ℕ) × (Along g m slot frame ns level n × (found ≡ foundAs (lookup editionOne g m frame ns)) × (clear ≡ foundAs (clearSpot g m ns)))
+    (ns : List ℕ) × (Along g m slot frame ns level n × (spotOf found ≡ lookup editionOne g m frame ns) × (spotOf clear ≡ clearSpot g m ns))
 
 abbrev μ-loop : tie.MeasureT-loop
 μ-loop image g slot frame print n₀ level₀ found₀ clear₀ n level found clear = 32 - level

@@ -1,7 +1,7 @@
 -- Recovery's test of the frames of a tree whose nodes are known to be well formed: each is settled where it is held.
 use mathlib.Core.Path.{_≡_}
 use mathlib.Core.Bool.{Bool, true, cond, _&&_}
-use Prim.Native.Nat.{ℕ, zero, suc, _+_, _-_, _*_, _%_, _^_, _≤_}
+use Prim.Native.Nat.{ℕ, zero, suc, _+_, _-_, _*_, _%_, _^_, _≤_, _<_}
 use lib.Dec.{eqb, leb}
 use Rattle.memory.specs.Words.{Memory}
 use Rattle.tree.specs.Test.{is, eq, _and_, holds}
@@ -14,12 +14,23 @@ use Rattle.tree.specs.Node.{childOf, frame}
 use Rattle.tree.specs.Lookup.{foundAt}
 use Rattle.tree.specs.Subtree.{children, heldPlaces}
 use Rattle.visits.specs.Walk.{stops, formedAt}
+use Rattle.settled.specs.declared.frames.Subtree.{Subtree}
 
 -- a node that is known to be well formed, with all below it, levels left
 pub record Formed (g : Geometry) (m : Memory) (left n : ℕ) : Type 0 where
   pub some-left : 1 ≤ left
   pub all-left : left ≤ levels
   pub is : every (formedAt g m) (stops g m left (levels - left) n) ≡ true
+
+-- where the test stands: such a node, with the unit of its level
+pub record Known (g : Geometry) (m : Memory) (t : Subtree) : Type 0 where
+  pub formed : Formed g m (t .left) (t .node)
+  pub unit : t .unit ≡ 2 ^ bitsTo (levels - t .left)
+
+-- or adjacent children, with the unit of their parent's level
+pub record KnownGroup (g : Geometry) (m : Memory) (t : Subtree) (count : ℕ) : Type 0 where
+  pub formed : (c : ℕ) → c < count → Formed g m (t .left) (t .node + c)
+  pub unit : count * t .unit ≡ 2 ^ bitsTo (levels - t .left)
 
 module _ (g : Geometry) (m : Memory) where
   -- the lookup finds a frame in no node of its path below this one, levels left

@@ -20,10 +20,10 @@ use Rattle.settled.proofs.frames.+settled_group+settled_tree.Tie.{close
 
 -- a group of children has one level less left than their parent
 abbrev μ-settled-group : Measures 2 settled-group-kinds.ps ℕ
-μ-settled-group κs a = 2 * a .1 .1 .1 .0 + 1
+μ-settled-group κs a = 2 * a .1 .1 .1 .0 .left + 1
 
 abbrev μ-settled-tree : Measures 2 settled-tree-kinds.ps ℕ
-μ-settled-tree κs a = 2 * a .1 .1 .1 .0
+μ-settled-tree κs a = 2 * a .1 .1 .1 .0 .left
 
 abbrev settled-group-at : ℕ → In 2 settled-group-kinds.ps
 settled-group-at t =
@@ -42,10 +42,10 @@ settled-tree-below t =
     and 2 settled-tree-kinds.ps (falls 2 settled-tree-kinds.ps _<_ μ-settled-tree t) settled-tree.Pre
 
 abbrev settled-group-Inv-loop : settled-group-lts.InvT-loop
-settled-group-Inv-loop image table g left start count suffix unit own₀ c₀ own c = Passed g (reads image) left start count unit suffix own c
+settled-group-Inv-loop image table g t count own₀ c₀ own c = Passed g (reads image) (t .left) (t .node) count (t .unit) (t .suffix) own c
 
 abbrev settled-group-μ-loop : settled-group-lts.MeasureT-loop
-settled-group-μ-loop image table g left start count suffix unit own₀ c₀ own c = count - c
+settled-group-μ-loop image table g t count own₀ c₀ own c = count - c
 
 -- what the calls in a node's test ask and tell
 abbrev settled-tree-claims : ℕ → settled-tree-lts.Claims
@@ -55,11 +55,11 @@ settled-tree-claims t = (settled-node-reads.Asked, settled-node-reads.Learnt, fa
 units : (t : ℕ) (c : settled-group-lts.In-loop (settled-tree-below t, settled-tree.Post) (settled-group-at t) settled-group.Post settled-group-Inv-loop settled-group-μ-loop)
     → let a = c .before .before .before .before .args in
     let k = c .before .loop .c in
-    (k * a .unit + a .unit ≤ a .count * a .unit) × (a .count * a .unit ≤ 2 ^ 61)
-units t c = unit-fits (c .before .before .before .before .args .left) _ _ _ (c .loop-test .taken) (c .before .before .before .before .pre .1 .2)
+    (k * a .t .unit + a .t .unit ≤ a .count * a .t .unit) × (a .count * a .t .unit ≤ 2 ^ 61)
+units t c = unit-fits (c .before .before .before .before .args .t .left) _ _ _ (c .loop-test .taken) (c .before .before .before .before .pre .1 .1 .unit)
 
-inside : (t : ℕ) (c : settled-tree-lts.Start (settled-tree-claims t) (settled-tree-at t) settled-tree.Post) → c .args .n < c .args .g .nodes
-inside t c = known-facts _ _ (c .pre .1 .1) .inside
+inside : (t : ℕ) (c : settled-tree-lts.Start (settled-tree-claims t) (settled-tree-at t) settled-tree.Post) → c .args .t .node < c .args .g .nodes
+inside t c = known-facts _ _ (c .pre .1 .1 .formed) .inside
 
 pub +settled-group+settled-tree-spec : {M : Type 1} → statement M
 +settled-group+settled-tree-spec =
@@ -72,40 +72,53 @@ pub +settled-group+settled-tree-spec : {M : Type 1} → statement M
     settled-group-Inv-loop
     settled-group-μ-loop
     (λ c. passed-none _ _ _ _ _ _ _)
-    (λ c. let start = c .before .before .before .before in
-    search (needs, known-facts _ _ (start .pre .1 .1 _ (c .loop-test .taken)) .inside, start .pre .1 .0))
-    (λ c. search (needs, units t c .1))
-    (λ c κs. let pre = c .before .before .before .before .pre in
-    (search needs, (pre .1 .0, pre .1 .1 _ (c .loop-test .taken), pre .1 .2, omega (arith, units t c, pre .1 .3, c .before .loop .inv .suffix), pre .1 .4)))
-    (λ c. child-fails _ _ _ _ _ _ _ (c .before .before .before .loop .inv) (c .before .before .loop-test .taken) (c .before .settled-tree .ensures) (c .if1 .taken))
-    (λ c. let pre = c .before .before .before .before .before .before .pre in
-    search (needs, units t (c .before .before), pre .1 .3, c .before .before .before .loop .inv .suffix))
+    (λ c. let pre = c .before .before .before .before .before .pre .1 in
+    search (needs, known-facts _ _ (pre .1 .formed _ (c .before .loop-test .taken)) .inside, pre .0))
+    (λ c. search (needs, units t (c .before .before) .1))
+    (λ c κs. let pre = c .before .before .before .before .before .before .pre .1 in
+    let taken = c .before .before .loop-test .taken in
+    (search needs, (pre .0, record { formed = pre .1 .formed _ taken; unit = pre .1 .unit }, omega (arith, units t (c .before .before), pre .2, c .before .before .before .loop .inv .suffix), pre .3)))
+    (λ c. child-fails _ _ _ _ _ _ _ (c .before .before .before .before .before .loop .inv) (c .before .before .before .before .loop-test .taken) (c .before .settled-tree .ensures) (c .if1 .taken))
+    (λ c. let pre = c .before .before .before .before .before .before .before .before .before .pre .1 in
+    search (needs, units t (c .before .before .before .before .before), pre .2, c .before .before .before .before .before .before .loop .inv .suffix))
     (λ c. search needs)
     (λ c. search needs)
-    (λ c. child-passes _ _ _ _ _ _ _ (c .before .before .before .loop .inv) (c .before .before .loop-test .taken) (c .before .settled-tree .ensures) (c .if1 .left))
+    (λ c. child-passes _ _ _ _ _ _ _ (c .before .before .before .before .before .before .loop .inv) (c .before .before .before .before .before .loop-test .taken) (c .before .before .settled-tree .ensures) (c .before .if1 .left))
     (λ c. passed-all _ _ _ _ _ _ _ (c .before .loop .inv) (c .loop-test .left)))
     λ t. settled-tree-lts.spec
     (settled-tree-claims t)
     (settled-tree-at t)
     settled-tree.Post
     (λ c κs. search needs)
-    (λ c. let formed = c .before .before .before .before .pre .1 .1 in
+    (λ c. let formed = c .before .before .before .before .pre .1 .1 .formed in
     own-fails _ _ _ _ _ (formed .some-left) (formed .all-left) (c .before .settled-node .ensures) (c .if1 .taken))
     (λ c. search needs)
     (λ c. search needs)
-    (λ c. search (needs, inside t (c .before .before .before .before .before)))
-    (λ c. search (needs, inside t (c .before .before .before .before .before)))
-    (λ c. search (needs, inside t (c .before .before .before .before .before)))
     (λ c. search (needs, inside t (c .before .before .before .before .before .before)))
-    (λ c. let formed = c .before .before .before .before .before .before .before .pre .1 .1 in
-    leaf-passes _ _ _ _ _ (formed .some-left) (formed .all-left) (c .before .before .before .before .settled-node .ensures) (c .before .before .before .if1 .left) (c .if2 .taken))
-    (λ c. search (needs, c .before .before .before .before .before .before .before .pre .1 .1))
+    (λ c. search (needs, inside t (c .before .before .before .before .before .before)))
+    (λ c. search (needs, inside t (c .before .before .before .before .before .before)))
+    (λ c. search (needs, inside t (c .before .before .before .before .before .before .before)))
+    (λ c. let formed = c .before .before .before .before .before .before .before .before .pre .1 .1 .formed in
+    leaf-passes _ _ _ _ _ (formed .some-left) (formed .all-left) (c .before .before .before .before .before .settled-node .ensures) (c .before .before .before .before .if1 .left) (c .if2 .taken))
+    (λ c. search (needs, c .before .before .before .before .before .before .before .before .before .pre .1 .1 .formed))
     (λ c. search needs)
-    (λ c. search (needs, c .before .before .before .before .before .before .before .pre .1 .1))
+    (λ c. search (needs, c .before .before .before .before .before .before .before .before .before .before .pre .1 .1 .formed))
     (λ c κs. search needs)
-    (λ c κs. let pre = c .before .before .before .before .before .before .before .before .pre .1 in
-    let deep = children-inside (known-facts _ _ (pre .1)) (c .before .if2 .left) .0 in
-    (search needs, (pre .0, rw (c .fanout .ensures) (children-formed _ _ (pre .1) (c .before .if2 .left)), unit-below (omega (arith, deep)) (pre .1 .all-left) (c .fanout .ensures) (pre .2), pre .3, pre .4)))
-    (λ c. let pre = c .before .before .before .before .before .before .before .before .before .pre .1 in
-    below-passes _ _ _ _ _ (pre .1 .some-left) (pre .1 .all-left) (c .before .before .before .before .before .before .settled-node .ensures) (c .before .before .before .before .before .if1 .left)
-    (c .before .before .if2 .left) (c .before .fanout .ensures) (pre .2) (c .settled-group .ensures))
+    (λ c κs. let pre = c .before .before .before .before .before .before .before .before .before .before .before .pre .1 in
+    let linked = c .before .before .before .if2 .left in
+    let formed = pre .1 .formed in
+    let deep = children-inside (known-facts _ _ formed) linked .0 in (
+      search needs,
+      (
+        pre .0,
+        record {
+          formed = rw (c .fanout .ensures) (children-formed _ _ formed linked);
+          unit = unit-below (omega (arith, deep)) (formed .all-left) (c .fanout .ensures) (pre .1 .unit);
+        },
+        pre .2,
+        pre .3,
+      ),
+    ))
+    (λ c. let known = c .before .before .before .before .before .before .before .before .before .before .before .before .pre .1 .1 in
+    below-passes _ _ _ _ _ (known .formed .some-left) (known .formed .all-left) (c .before .before .before .before .before .before .before .before .before .settled-node .ensures) (c .before .before .before .before .before .before .before .before .if1 .left)
+    (c .before .before .before .before .if2 .left) (c .before .fanout .ensures) (known .unit) (c .settled-group .ensures))

@@ -20,6 +20,6 @@ frames-in-place-spec =
     (λ c. search needs)
     (λ c. search needs)
     (λ c κs. let pre = c .before .before .before .before .pre in
-    (pre .0, record { some-left = omega arith; all-left = omega arith; is = sound-stops _ _ _ (pre .2) }, refl, omega arith, search needs))
+    (pre .0, record { formed = record { some-left = omega arith; all-left = omega arith; is = sound-stops _ _ _ (pre .2) }; unit = refl }, omega arith, search needs))
     (λ c. let start = c .before .before .before .before .before in
     rw (← settled-tree (start .args .g) (reads (start .args .image .now)) (start .args .slot) (start .pre .1) (start .pre .2)) (c .settled-tree .ensures)))

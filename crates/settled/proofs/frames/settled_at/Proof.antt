@@ -7,8 +7,8 @@ use Rattle.settled.proofs.SettledSteps.{known-facts, off-path, not-lowe
 use Rattle.settled.proofs.frames.settled_at.Statement.{statement}
 use Rattle.settled.proofs.frames.settled_at.Tie as tie
 
-inside : (c : tie.Start) → c .args .n < c .args .g .nodes
-inside c = known-facts _ _ (c .pre .1) .inside
+inside : (c : tie.Start) → c .args .t .node < c .args .g .nodes
+inside c = known-facts _ _ (c .pre .1 .formed) .inside
 
 pub settled-at-spec : {M : Type 1} → statement M
 settled-at-spec =
@@ -22,10 +22,10 @@ settled-at-spec =
     (λ c. search (needs, inside (c .before .before .before)))
     (λ c. search (needs, inside (c .before .before .before)))
     (λ c. search (needs, inside (c .before .before .before .before)))
-    (λ c. search (needs, pow-pos (bitsTo (levels - c .before .before .before .before .args .left))))
-    (λ c. off-path _ _ _ _ _ _ _ _ (c .before .before .before .before .before .pre .2) (c .if1 .taken))
+    (λ c. let t = c .before .before .before .before .before .args .t in search (needs, pow-pos (bitsTo (levels - t .left))))
+    (λ c. off-path _ _ _ _ _ _ _ _ (c .before .before .before .before .before .before .before .pre .1 .unit) (c .if1 .taken))
     (λ c κs. search needs)
-    (λ c κs. search (needs, inside (c .before .before .before .before .before .before)))
-    (λ c. not-lowest _ _ _ _ _ _ _ _ (c .before .before .before .before .before .before .before .before .pre .2) (c .before .before .before .if1 .left) (c .before .found-place .ensures) (c .if2 .taken))
+    (λ c κs. search (needs, inside (c .before .before .before .before .before .before .before .before)))
+    (λ c. not-lowest _ _ _ _ _ _ _ _ (c .before .before .before .before .before .before .before .before .before .before .pre .1 .unit) (c .before .before .before .if1 .left) (c .before .found-place .ensures) (c .if2 .taken))
     (λ c κs. search needs)
-    (λ c. c .absent-below .ensures ∙ lowest _ _ _ _ _ _ _ _ (c .before .before .before .before .before .before .before .before .before .pre .2) (c .before .before .before .before .if1 .left) (c .before .before .found-place .ensures) (c .before .if2 .left)))
+    (λ c. c .absent-below .ensures ∙ lowest _ _ _ _ _ _ _ _ (c .before .before .before .before .before .before .before .before .before .before .before .pre .1 .unit) (c .before .before .before .before .if1 .left) (c .before .before .found-place .ensures) (c .before .if2 .left)))

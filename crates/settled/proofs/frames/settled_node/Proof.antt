@@ -16,15 +16,15 @@ use Rattle.settled.proofs.frames.settled_node.Statement.{statement}
 use Rattle.settled.proofs.frames.settled_node.Tie as tie
 
 abbrev Inv-loop : tie.InvT-loop
-Inv-loop image table g left n suffix unit rest₀ rest =
+Inv-loop image table g t rest₀ rest =
     let m = reads image in
-    (rest < 2 ^ 64) × (every (settledAt g m left (levels - left) n suffix) (setPlaces rest) ≡ settledNode g m left (levels - left) n suffix)
+    (rest < 2 ^ 64) × (every (settledAt g m (t .left) (levels - t .left) (t .node) (t .suffix)) (setPlaces rest) ≡ settledNode g m (t .left) (levels - t .left) (t .node) (t .suffix))
 
 abbrev μ-loop : tie.MeasureT-loop
-μ-loop image table g left n suffix unit rest₀ rest = length (setPlaces rest)
+μ-loop image table g t rest₀ rest = length (setPlaces rest)
 
-inside : (c : tie.Start Inv-loop μ-loop) → c .args .n < c .args .g .nodes
-inside c = known-facts _ _ (c .pre .1) .inside
+inside : (c : tie.Start Inv-loop μ-loop) → c .args .t .node < c .args .g .nodes
+inside c = known-facts _ _ (c .pre .1 .formed) .inside
 
 -- the lowest set bit is a place
 low : (c : tie.In-loop Inv-loop μ-loop) → trailingZeros 64 (c .before .loop .rest) < 64
@@ -38,11 +38,11 @@ settled-node-spec =
     μ-loop
     (λ c. search needs)
     (λ c. search needs)
-    (λ c. search (needs, inside (c .before .before .before)))
-    (λ c. search (needs, inside (c .before .before .before)))
-    (λ c. search (needs, inside (c .before .before .before)))
-    (λ c. search (needs, inside (c .before .before .before)))
     (λ c. search (needs, inside (c .before .before .before .before)))
+    (λ c. search (needs, inside (c .before .before .before .before)))
+    (λ c. search (needs, inside (c .before .before .before .before)))
+    (λ c. search (needs, inside (c .before .before .before .before)))
+    (λ c. search (needs, inside (c .before .before .before .before .before)))
     (λ c. (c .shared-slice-known3 .given _ .fits, sym (settled-places _ _ _ _ _ _)))
     (λ c. search (needs, low c))
     (λ c κs. search (needs, low c))

@@ -27,9 +27,9 @@ use Rattle.tree.specs.Room.{roomOn, needs, atLevel31}
 use Rattle.tree.specs.Pool.{markAll}
 use Rattle.tree.proofs.Cases.{test}
 use Rattle.tree.proofs.Laws.{child-laws}
-use Rattle.walks.specs.declared.descent.Placement.{Placement}
-use Rattle.walks.specs.declared.descent.Placement.the-variants.{Malformed, Full, Held, Free}
-use Rattle.walks.specs.Answers.{onPath, placementOn, placementFrom}
+use Rattle.paths.specs.declared.descent.Placement.{Placement}
+use Rattle.paths.specs.declared.descent.Placement.the-variants.{Malformed, Full, Held, Free}
+use Rattle.paths.specs.Answers.{onPath, placementOn, placementFrom}
 use Rattle.book.specs.declared.HeadState.{HeadState}
 use Rattle.book.specs.declared.HeadState.the-variants.{Idle, Claimed, Filled}
 use Rattle.book.specs.Heads.{isIdle}

@@ -23,9 +23,9 @@ use Rattle.tree.specs.Pool.{markAll}
 use Rattle.tree.specs.Subtree.{listed}
 use Rattle.tree.proofs.Cases.{test}
 use Rattle.tree.proofs.Tests.{said}
-use Rattle.walks.specs.declared.descent.Placement.{Placement}
-use Rattle.walks.specs.declared.descent.Placement.the-variants.{Malformed, Full, Held, Free}
-use Rattle.walks.specs.Answers.{placementFrom}
+use Rattle.paths.specs.declared.descent.Placement.{Placement}
+use Rattle.paths.specs.declared.descent.Placement.the-variants.{Malformed, Full, Held, Free}
+use Rattle.paths.specs.Answers.{placementFrom}
 use Rattle.book.specs.declared.Head.{Head}
 use Rattle.book.specs.Heads.{headCount, headAt, isIdle, busy, withHead}
 use Rattle.book.specs.Refusals.{Refusal, _gives_, refusal}

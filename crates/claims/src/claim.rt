@@ -11,8 +11,8 @@ ghost use Rattle.tree.specs.Layout.{Sized, mapWords};
 ghost use Rattle.tree.specs.Lookup.{freeRun};
 ghost use Rattle.tree.specs.Room.{needs};
 ghost use Rattle.tree.specs.Pool.{markAll};
-ghost use Rattle.walks.specs.Answers.{placementFrom};
-ghost use Rattle.walks.specs.declared.descent.Placement.the-variants.{Free};
+ghost use Rattle.paths.specs.Answers.{placementFrom};
+ghost use Rattle.paths.specs.declared.descent.Placement.the-variants.{Free};
 ghost use Rattle.book.specs.declared.HeadState.the-variants.{Claimed};
 ghost use Rattle.book.specs.Heads.{headCount, isIdle};
 ghost use Rattle.book.specs.Refusals.{refusal, _gives_};
@@ -45,8 +45,8 @@ use tree::path::fanout;
 use pool::pool_map::free_run;
 use pool::pool_map::mark_run;
 use nodes::reels::slot_of;
-use walks::descent::Placement;
-use walks::descent::room_for;
+use paths::descent::Placement;
+use paths::descent::room_for;
 
 // Whether a claim may go on.
 pub enum Admission {

@@ -12,7 +12,7 @@ use operations::answer::Refusal;
 use operations::checks::Buffer;
 use operations::checks::Verdict;
 use operations::checks::checks;
-use walks::recovery::recover_image;
+use recovery::recovery::recover_image;
 
 // Recover: an image that is not sound stays as it is, and its map is all 0.
 pub fn recover(image: &mut [u64], pool: &mut [u64]) -> Answer

@@ -13,10 +13,10 @@ use Rattle.tree.specs.declared.path.Spot.{Spot}
 use Rattle.tree.specs.Fingerprint.{editionOne, ruleOf}
 use Rattle.tree.specs.Lookup.{pathFrom, lookup, find}
 use Rattle.tree.specs.Subtree.{listed}
-use Rattle.walks.specs.declared.descent.Found.{Found}
-use Rattle.walks.specs.declared.descent.Found.the-variants.{Malformed, Absent, At}
-use Rattle.walks.specs.Answers.{onPath, foundAs, foundFrom}
-use Rattle.walks.proofs.PathSteps.{spotIn, find-spot}
+use Rattle.paths.specs.declared.descent.Found.{Found}
+use Rattle.paths.specs.declared.descent.Found.the-variants.{Malformed, Absent, At}
+use Rattle.paths.specs.Answers.{onPath, foundAs, foundFrom}
+use Rattle.paths.proofs.PathSteps.{spotIn, find-spot}
 use Rattle.book.specs.Heads.{busy}
 use Rattle.book.specs.Refusals.{Refusal, refusal, _gives_}
 use Rattle.book.specs.State.{State, Operation, remove, query, has, scratchAfter}

@@ -23,8 +23,8 @@ use tree::path::Spot;
 use tree::persistent::put_fenced_pair;
 use tree::persistent::without_bit;
 use nodes::reels::slot_of;
-use walks::descent::Found;
-use walks::descent::find;
+use paths::descent::Found;
+use paths::descent::find;
 
 // Does a reel hold a frame? The count is 1 or 0.
 pub fn has(image: &[u64], reel: u64, frame: u64) -> Answer

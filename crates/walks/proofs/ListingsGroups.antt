@@ -13,9 +13,10 @@ use Rattle.tree.specs.Lists.{every}
 use Rattle.tree.specs.Layout.{nextAt}
 use Rattle.tree.specs.Path.{levels, fanout}
 use Rattle.tree.specs.Subtree.{framesIn, listed}
-use Rattle.walks.specs.Walk.{stops, groupStops, formedAt, framesAt}
+use Rattle.visits.specs.Walk.{stops, groupStops, formedAt, framesAt}
 use Rattle.walks.proofs.Listings.{Writing, starts, ends, rest-room, several, begun}
-use Rattle.walks.proofs.ListingsStops.{group-frames, group-formed, group-end, linked-frames}
+use Rattle.visits.proofs.StopFacts.{group-formed}
+use Rattle.walks.proofs.ListingsStops.{group-frames, group-end, linked-frames}
 
 module _ (g : Geometry) (m : Memory) (left : ℕ) where
   -- the frames of a node and of a group, levels left

@@ -11,16 +11,16 @@ use lib.Count.{trailingZeros}
 use borrow.Author.Tests.{not-false as is-true}
 use Rattle.memory.specs.Words.{isSet, withoutBit, reads}
 use Rattle.memory.specs.Search.{first}
-use Rattle.memory.specs.Laws.{NoneBelow}
-use Rattle.memory.proofs.Laws.{bit-laws, no-bit, trailing-first, lowest-in, lowest-set, first-laws, clearIn}
+use Rattle.memory.proofs.Laws.{first-laws, clearIn}
 use Rattle.tree.specs.declared.layout.Geometry.{Geometry}
 use Rattle.tree.specs.Lists.{range, upTo, keep}
 use Rattle.tree.specs.Layout.{nodeAt, setAt}
 use Rattle.tree.specs.Subtree.{heldPlaces, framesIn, listed}
 use Rattle.tree.proofs.Bits.{highOf, high-kept, low-cleared}
-use Rattle.tree.proofs.Lists.{keep-none, keep-same, keep-first, in-range, range-next}
+use Rattle.tree.proofs.Lists.{keep-same, in-range, range-next}
 use Rattle.tree.proofs.Pigeon.{length-upTo}
-use Rattle.walks.specs.Places.{setPlaces, wordsAt}
+use Rattle.visits.specs.Places.{setPlaces, wordsAt}
+use Rattle.visits.proofs.Places.{places-none, places-next}
 use Rattle.walks.proofs.Listings.{Writing, begun}
 
 -- a node's frames
@@ -28,20 +28,6 @@ pub frames-in : (g : Geometry) (image : List ℕ) (n : ℕ)
     → framesIn g (reads image) n ≡ wordsAt image (nodeAt g n + 16) (setPlaces (reads image (setAt g n)))
 unfolding framesIn heldPlaces wordsAt setPlaces
 frames-in g image n = refl
-
--- ---- a word's set bits, from the lowest on
-
-pub places-none : (w : ℕ) → w ≡ 0 → setPlaces w ≡ []
-unfolding setPlaces
-places-none w z = rw z (keep-none (isSet 0) (upTo 64) (λ k x. no-bit k))
-
-pub places-next : (w : ℕ) → w ≢ 0 → w < 2 ^ 64 → setPlaces w ≡ trailingZeros 64 w ∷ setPlaces (withoutBit w (trailingZeros 64 w))
-unfolding setPlaces upTo
-places-next w o h =
-    let t = trailingZeros 64 w in
-    let l = lowest-in w o h in
-    let none : NoneBelow (isSet w) t = rw (trailing-first 64 w) (first-laws (isSet w) 64 .none-before) in
-    keep-first (isSet w) (isSet (withoutBit w t)) 0 64 t (omega arith) (omega arith) (λ k a b. none k b) (lowest-set w o h) (bit-laws .without-clears w t) (λ k d. bit-laws .without-keeps w t k d)
 
 -- ---- a word's low set bits, then the others
 

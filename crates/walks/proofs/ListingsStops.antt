@@ -1,38 +1,21 @@
--- The frames and the stops of a node and of a group, as the listing's walk comes to them.
+-- The frames of a node and of a group, as the listing's walk comes to them.
 use mathlib.Core.Path.{_≡_, refl, sym, _∙_, ap}
-use mathlib.Core.Bool.{true}
 use mathlib.Core.Logic.{_≢_}
 use mathlib.Core.List.{List, [], _∷_, _++_, flatMap, append-nil}
-use Prim.Native.Nat.{ℕ, suc, _+_, _-_, _≤_, _<_}
+use Prim.Native.Nat.{ℕ, _+_, _-_, _≤_, _<_}
 use native.Mathlib.Omega.{arith}
 use lib.ListN.{length, length-append}
 use Rattle.memory.specs.Words.{Memory}
 use Rattle.tree.specs.declared.layout.Geometry.{Geometry}
-use Rattle.tree.specs.Lists.{every}
 use Rattle.tree.specs.Layout.{nextAt}
 use Rattle.tree.specs.Path.{levels, fanout}
-use Rattle.tree.specs.Node.{wellFormed}
 use Rattle.tree.specs.Subtree.{children, tree, framesIn, listing}
-use Rattle.tree.specs.Check.{walkable, isSoundTree}
-use Rattle.tree.specs.Laws.{WellFormed}
-use Rattle.tree.proofs.Nodes.{children-inside}
-use Rattle.tree.proofs.Laws.{node-laws}
-use Rattle.tree.proofs.Cases.{and-true}
-use Rattle.tree.proofs.Lists.{flatMap-append, flatMap-map, every-append, every-map}
-use Rattle.walks.specs.Walk.{Stop, stop, stops, groupStops, formedAt, framesAt}
-use Rattle.walks.proofs.Stops.{stopOf, slotStops, slot-stops, group-empty, group-first, node-first, leaf, linked}
+use Rattle.tree.proofs.Lists.{flatMap-append, flatMap-map}
+use Rattle.visits.specs.Walk.{Stop, stops, groupStops, framesAt}
+use Rattle.visits.proofs.Stops.{stopOf, slotStops, slot-stops, group-empty, group-first, leaf, linked}
+use Rattle.visits.proofs.StopFacts.{node-next}
 
 module _ (g : Geometry) (m : Memory) where
-  -- ---- stops
-
-  -- of a node, levels left: itself, then those of its children as a group
-  node-next : (left n : ℕ) → 1 ≤ left → left ≤ 32
-      → stops g m left (levels - left) n
-      ≡ stop (levels - left) n ∷ groupStops g m (left - 1) (levels - (left - 1)) (m (nextAt g n) - 1) (children g m (levels - left) n)
-  node-next left n l h = let deeper : levels - (left - 1) ≡ suc (levels - left) = omega arith in rw deeper (node-first g m left (levels - left) n l)
-
-  -- ---- frames
-
   frames-none : framesAt g m [] ≡ []
   unfolding framesAt flatMap
   frames-none = refl
@@ -50,12 +33,6 @@ module _ (g : Geometry) (m : Memory) where
       → framesAt g m (groupStops g m left d start count) ≡ framesAt g m (stops g m left d start) ++ framesAt g m (groupStops g m left d start' count')
   group-frames left d start count start' count' h p q = rw (p, q, group-first g m left d start count (λ z. omega arith)) (frames-append _ _)
 
-  pub group-formed : (left d start count start' count' : ℕ) → 0 < count → start' ≡ start + 1 → count' ≡ count - 1
-      → every (formedAt g m) (groupStops g m left d start count) ≡ true
-      → (every (formedAt g m) (stops g m left d start) ≡ true) × (every (formedAt g m) (groupStops g m left d start' count') ≡ true)
-  group-formed left d start count start' count' h p q e =
-      rw (p, q) (and-true _ _ (sym (every-append (formedAt g m) _ _) ∙ rw (group-first g m left d start count (λ z. omega arith)) at e))
-
   pub group-end : (left d start count : ℕ) → count ≡ 0 → framesAt g m (groupStops g m left d start count) ≡ []
   group-end left d start count z = rw (z, group-empty g m left d start) frames-none
 
@@ -63,7 +40,7 @@ module _ (g : Geometry) (m : Memory) where
   node-frames : (left n : ℕ) → 1 ≤ left → left ≤ 32
       → framesAt g m (stops g m left (levels - left) n)
       ≡ framesIn g m n ++ framesAt g m (groupStops g m (left - 1) (levels - (left - 1)) (m (nextAt g n) - 1) (children g m (levels - left) n))
-  node-frames left n l h = rw (node-next left n l h) (frames-onto _ _)
+  node-frames left n l h = rw (node-next g m left n l h) (frames-onto _ _)
 
   pub own-room : (left n : ℕ) → 1 ≤ left → left ≤ 32 → length (framesIn g m n) ≤ length (framesAt g m (stops g m left (levels - left) n))
   own-room left n l h = rw (node-frames left n l h, length-append (framesIn g m n) _) (omega arith)
@@ -76,34 +53,7 @@ module _ (g : Geometry) (m : Memory) where
       ≡ framesIn g m n ++ framesAt g m (groupStops g m (left - 1) (levels - (left - 1)) (m (nextAt g n) - 1) (fanout (levels - left)))
   linked-frames left n l h o = rw (← linked g m (levels - left) n o) (node-frames left n l h)
 
-  node-formed : (left n : ℕ) → 1 ≤ left → left ≤ 32 → every (formedAt g m) (stops g m left (levels - left) n) ≡ true
-      → (wellFormed g m (levels - left) n ≡ true)
-      × (every (formedAt g m) (groupStops g m (left - 1) (levels - (left - 1)) (m (nextAt g n) - 1) (children g m (levels - left) n)) ≡ true)
-  unfolding every formedAt
-  node-formed left n l h e = and-true (wellFormed g m (levels - left) n) _ (rw (node-next left n l h) at e)
-
-  pub node-facts : (left n : ℕ) → 1 ≤ left → left ≤ 32 → every (formedAt g m) (stops g m left (levels - left) n) ≡ true → WellFormed g m (levels - left) n
-  node-facts left n l h e = node-laws g m .facts (levels - left) n .0 (node-formed left n l h e .0)
-
-  -- a node's children are a group inside the pool, a level deeper
-  pub record Linked (left n : ℕ) : Type 0 where
-    pub above : 2 ≤ left
-    pub inside : m (nextAt g n) - 1 + fanout (levels - left) ≤ g .nodes
-    pub formed : every (formedAt g m) (groupStops g m (left - 1) (levels - (left - 1)) (m (nextAt g n) - 1) (fanout (levels - left))) ≡ true
-
-  pub linked-facts : (left n : ℕ) → 1 ≤ left → left ≤ 32 → m (nextAt g n) ≢ 0 → every (formedAt g m) (stops g m left (levels - left) n) ≡ true → Linked left n
-  linked-facts left n l h o e =
-      let t = children-inside (node-facts left n l h e) o in
-      record { above = omega (arith, t .0); inside = t .1; formed = rw (← linked g m (levels - left) n o) (node-formed left n l h e .1) }
-
-  -- ---- a slot's tree
-
+  -- of a slot's tree
   pub listing-stops : (s : ℕ) → listing g m s ≡ framesAt g m (slotStops g m s)
   unfolding listing framesAt
   listing-stops s = rw (slot-stops g m s) (sym (flatMap-map stopOf (λ x. framesIn g m (x .node)) (tree g m s)))
-
-  pub sound-stops : (s : ℕ) → isSoundTree g m s ≡ true → every (formedAt g m) (slotStops g m s) ≡ true
-  unfolding isSoundTree walkable formedAt
-  sound-stops s h =
-      rw (slot-stops g m s)
-      (every-map (formedAt g m) stopOf (tree g m s) ∙ and-true (every (λ v. wellFormed g m (length (v .way)) (v .node)) (tree g m s)) _ h .0)

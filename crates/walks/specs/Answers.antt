@@ -1,47 +1,15 @@
 -- What the functions of this crate answer, as values of their enums.
 use mathlib.Core.Bool.{cond}
-use mathlib.Core.Option.{Option, none, some}
 use mathlib.Core.List.{List}
 use Prim.Native.Nat.{ℕ}
 use lib.ListN.{length}
 use lib.Dec.{ltb}
 use Rattle.memory.specs.Words.{Memory}
-use Rattle.memory.specs.Apply.{isSome}
 use Rattle.tree.specs.declared.layout.Geometry.{Geometry}
-use Rattle.tree.specs.declared.path.Spot.{Spot}
-use Rattle.tree.specs.Fingerprint.{editionOne}
-use Rattle.tree.specs.Lookup.{pathFrom, lookup}
-use Rattle.tree.specs.Room.{roomOn, atLevel31}
 use Rattle.tree.specs.Subtree.{listing, listed}
 use Rattle.tree.specs.Check.{isSoundTree}
-use Rattle.walks.specs.declared.descent.Found.{Found}
-use Rattle.walks.specs.declared.descent.Found.the-variants as found
-use Rattle.walks.specs.declared.descent.Placement.{Placement}
-use Rattle.walks.specs.declared.descent.Placement.the-variants as placement
 use Rattle.walks.specs.declared.trees.Listing.{Listing}
 use Rattle.walks.specs.declared.trees.Listing.the-variants as listing
-
--- on a path that is there, or where it is malformed
-abbrev pub onPath : {A : Type 0} → A → (List ℕ → A) → Option (List ℕ) → A
-onPath malformed go none = malformed
-onPath malformed go (some ns) = go ns
-
-abbrev pub foundAs : Option Spot → Found
-foundAs none = found.Absent
-foundAs (some t) = found.At t
-
--- the lookup of a frame from a slot
-unfoldable pub foundFrom : Geometry → Memory → (slot frame : ℕ) → Found
-foundFrom g m s f = onPath found.Malformed (λ ns. foundAs (lookup editionOne g m f ns)) (pathFrom g m s f)
-
--- what a claim finds on a frame's path: full to the end at level 31, or the frame held, or room
-unfoldable pub placementOn : Geometry → Memory → (frame : ℕ) → List ℕ → Placement
-placementOn g m f ns =
-    let r = roomOn g m (some ns) in
-    cond (atLevel31 r) placement.Full (cond (isSome (lookup editionOne g m f ns)) placement.Held (placement.Free r))
-
-unfoldable pub placementFrom : Geometry → Memory → (slot frame : ℕ) → Placement
-placementFrom g m s f = onPath placement.Malformed (placementOn g m f) (pathFrom g m s f)
 
 -- a slot's frames in a list with given room: malformed or met twice, too little room, or all of them
 unfoldable pub listingFrom : Geometry → Memory → (slot room : ℕ) → Listing

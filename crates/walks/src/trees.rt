@@ -9,13 +9,13 @@ ghost use Rattle.tree.specs.Subtree.{tree, nodesOf};
 ghost use Rattle.tree.specs.Check.{isSoundTree};
 ghost use Rattle.tree.specs.Pool.{unmarkAll, clearMap, mapOf};
 ghost use Rattle.walks.specs.Answers.{listingFrom, listAfter};
-ghost use Rattle.walks.specs.Walk.{kept};
+ghost use Rattle.visits.specs.Walk.{kept};
 use crate::listing::list_slot;
-use crate::marked::count_frames;
-use crate::marked::take_out;
-use crate::visit::visit_slot;
-use pool::pool_map::clear_map;
 use tree::layout::Geometry;
+use pool::pool_map::clear_map;
+use visits::marked::count_frames;
+use visits::marked::take_out;
+use visits::visit::visit_slot;
 
 // What listing a tree comes to.
 pub enum Listing {

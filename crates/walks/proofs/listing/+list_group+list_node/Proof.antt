@@ -5,7 +5,8 @@ use Rattle.memory.specs.Words.{reads}
 use Rattle.tree.specs.Path.{levels}
 use Rattle.tree.specs.Laws.{WellFormed}
 use Rattle.walks.proofs.Listings.{Writing, rest-fits, rest-written}
-use Rattle.walks.proofs.ListingsStops.{own-room, node-facts, leaf-frames, linked-facts}
+use Rattle.visits.proofs.StopFacts.{node-facts, linked-facts}
+use Rattle.walks.proofs.ListingsStops.{own-room, leaf-frames}
 use Rattle.walks.proofs.ListingsGroups.{ofNode, Group, group-starts, group-next, group-more, group-ends, below, own-written}
 use borrow.Fn.Kinds.{In}
 use borrow.Fn.PlainCycle.{Measures, is, falls, and}

@@ -1,7 +1,7 @@
 use Prim.Native.Nat.{_-_, _≤_}
 use borrow.Author.Needs.{needs}
 use Rattle.tree.specs.Lists.{range, upTo}
-use Rattle.walks.specs.Places.{wordsAt}
+use Rattle.visits.specs.Places.{wordsAt}
 use Rattle.walks.proofs.Listings.{Writing, starts, ends, one-more}
 use Rattle.walks.proofs.ListingsPlaces.{run-all, run-next, run-none}
 use Rattle.walks.proofs.listing.copy_words.Statement.{statement}

@@ -6,7 +6,7 @@ use Rattle.memory.proofs.Laws.{clearIn, first-laws}
 use Rattle.tree.specs.Layout.{nodeAt, setAt}
 use Rattle.tree.specs.Subtree.{framesIn}
 use Rattle.tree.proofs.Bits.{highOf}
-use Rattle.walks.specs.Places.{setPlaces, wordsAt}
+use Rattle.visits.specs.Places.{setPlaces, wordsAt}
 use Rattle.walks.proofs.Listings.{Writing, ends, rest-fits, rest-written}
 use Rattle.walks.proofs.ListingsPlaces.{frames-in, low-copied, low-room, none-high}
 use Rattle.walks.proofs.listing.list_places.Statement.{statement}

@@ -1,7 +1,8 @@
 use native.Mathlib.Omega.{arith}
 use borrow.Author.Needs.{needs}
 use Rattle.memory.specs.Words.{reads}
-use Rattle.walks.proofs.ListingsStops.{listing-stops, sound-stops}
+use Rattle.visits.proofs.StopFacts.{sound-stops}
+use Rattle.walks.proofs.ListingsStops.{listing-stops}
 use Rattle.walks.proofs.listing.list_slot.Statement.{statement}
 use Rattle.walks.proofs.listing.list_slot.Tie as tie
 

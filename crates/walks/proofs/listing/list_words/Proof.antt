@@ -5,7 +5,7 @@ use lib.ListN.{length}
 use borrow.Author.Needs.{needs}
 use lib.Count.{trailingZeros}
 use Rattle.memory.proofs.Laws.{bit-laws, lowest-in}
-use Rattle.walks.specs.Places.{setPlaces, wordsAt}
+use Rattle.visits.specs.Places.{setPlaces, wordsAt}
 use Rattle.walks.proofs.Listings.{Writing, starts, ends, one-more}
 use Rattle.walks.proofs.ListingsPlaces.{words-none, words-next}
 use Rattle.walks.proofs.listing.list_words.Statement.{statement}

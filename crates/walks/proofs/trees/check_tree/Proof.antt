@@ -1,7 +1,8 @@
 use lib.ListN.{length}
 use borrow.Author.Needs.{needs}
 use Rattle.tree.specs.Layout.{mapWords}
-use Rattle.walks.proofs.Sounds.{cleared, whole-tree}
+use Rattle.visits.proofs.Kept.{cleared}
+use Rattle.walks.proofs.Checked.{whole-tree}
 use Rattle.walks.proofs.trees.check_tree.Statement.{statement}
 use Rattle.walks.proofs.trees.check_tree.Tie as tie
 

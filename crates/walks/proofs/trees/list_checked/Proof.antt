@@ -3,7 +3,7 @@ use native.Mathlib.Omega.{arith}
 use lib.ListN.{length}
 use Rattle.memory.specs.Words.{reads as readsWords}
 use Rattle.tree.proofs.Laws.{pool-laws}
-use Rattle.walks.proofs.Sounds.{all-counted, too-short, all-listed}
+use Rattle.walks.proofs.Checked.{all-counted, too-short, all-listed}
 use borrow.Author.Needs.{needs}
 use Rattle.walks.proofs.trees.list_checked.Statement.{statement}
 use Rattle.walks.proofs.trees.list_checked.Tie as tie

@@ -1,0 +1,2 @@
+pub mod PathSteps
+pub mod RoomSteps

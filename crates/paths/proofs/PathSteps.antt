@@ -1,0 +1,188 @@
+-- A frame's path a node at a time, in the terms of the code that goes along it.
+use mathlib.Core.Path.{_≡_, refl, sym, _∙_, ap}
+use mathlib.Core.Bool.{Bool, true, false, cond, not}
+use mathlib.Core.Logic.{inl, inr}
+use mathlib.Core.Option.{Option, none, some}
+use mathlib.Core.List.{List, [], _∷_, _++_, append-assoc}
+use Prim.Native.Nat.{ℕ, zero, suc, _+_, _-_, _≤_, _<_}
+use native.Mathlib.Numerals.{add-one}
+use native.Mathlib.Omega.{arith}
+use borrow.Author.Tests.{eq-eqb, ne-eqb, eqb-false, lt-ltb, le-ltb, not-true}
+use lib.Dec.{eqb, ltb}
+use lib.ListN.{length-append}
+use Rattle.memory.specs.Words.{Memory}
+use Rattle.tree.specs.declared.layout.Geometry.{Geometry}
+use Rattle.tree.specs.Layout.{nextAt, sizeAt}
+use Rattle.tree.specs.Path.{child}
+use Rattle.tree.specs.Node.{childOf, wellFormed}
+use Rattle.tree.specs.declared.path.Spot.{Spot}
+use Rattle.tree.specs.Slots.{rootOf}
+use Rattle.tree.specs.Fingerprint.{editionOne}
+use Rattle.tree.specs.Lookup.{spot, before, path, pathFrom, firstSpot, clearAt, clearSpot, foundAt, lookup, lookupOn, find}
+use Rattle.tree.proofs.Cases.{test}
+use Rattle.tree.proofs.Nodes.{children-inside}
+use Rattle.tree.proofs.Laws.{child-laws, node-laws}
+use Rattle.paths.specs.declared.descent.Step.{Step}
+use Rattle.paths.specs.declared.descent.Step.the-variants.{End, Down}
+use Rattle.paths.specs.declared.descent.Seen.{Seen}
+use Rattle.paths.specs.declared.descent.Seen.the-variants.{Nothing}
+use Rattle.paths.specs.declared.descent.Found.{Found}
+use Rattle.paths.specs.declared.descent.Found.the-variants.{Malformed, Absent, At}
+use Rattle.paths.specs.Answers.{onPath, foundAs, foundFrom}
+use Rattle.paths.specs.Descent.{stepFrom, spotOf, orElse, passed, Along}
+
+-- a well-formed node is inside the pool, and so is the child to which a frame goes
+module _ (g : Geometry) (m : Memory) (d n : ℕ) (h : wellFormed g m d n ≡ true) where
+  pub node-inside : n < g .nodes
+  node-inside = node-laws g m .facts d n .0 h .inside
+
+  pub child-inside : (f : ℕ) → (m (nextAt g n) ≡ 0 → ⊥) → (d < 31) × (childOf g m n (child d f) < g .nodes)
+  child-inside f z =
+      let t = children-inside (node-laws g m .facts d n .0 h) z in
+      (t .0, omega (arith, child-laws .below d f (t .0), t .1))
+
+-- a path's nodes from a node on, by the step from it
+abbrev follow : ℕ → Step → (ℕ → Option (List ℕ)) → Option (List ℕ)
+follow n End below = some (n ∷ [])
+follow n (Down c) below = before n (below c)
+
+module _ (g : Geometry) (m : Memory) (f d n : ℕ) where
+  -- the two steps
+  pub step-end : m (nextAt g n) ≡ 0 → End ≡ stepFrom g m d n f
+  unfolding stepFrom
+  step-end z = rw (eq-eqb (m (nextAt g n)) 0 z) refl
+
+  pub step-down : {c : ℕ} → (m (nextAt g n) ≡ 0 → ⊥) → c ≡ child d f → Down (m (nextAt g n) - 1 + c) ≡ stepFrom g m d n f
+  unfolding stepFrom
+  step-down z e = rw (ne-eqb (m (nextAt g n)) 0 z, e) refl
+
+  -- where levels are left, the path from a node: malformed, or by the step
+  path-malformed : (left : ℕ) → 1 ≤ left → wellFormed g m d n ≡ false → path g m left d n f ≡ none
+  unfolding path
+  path-malformed zero l h = absurd (omega arith)
+  path-malformed (suc left) l h = rw h
+
+  path-step : (left : ℕ) → 1 ≤ left → wellFormed g m d n ≡ true → path g m left d n f ≡ follow n (stepFrom g m d n f) (λ c. path g m (left - 1) (d + 1) c f)
+  unfolding path stepFrom
+  path-step zero l h = absurd (omega arith)
+  path-step (suc left) l h =
+      let e : suc left - 1 ≡ left = omega arith in
+      elim (test (eqb (m (nextAt g n)) 0)) [ inl q ↦ rw (h, q) refl | inr q ↦ rw (e, add-one, h, q) refl ]
+
+  -- a step down is from a level above 31
+  down-level : {x : Step} {c : ℕ} → wellFormed g m d n ≡ true → x ≡ stepFrom g m d n f → x ≡ Down c → d < 31
+  unfolding stepFrom
+  down-level {c = c} h e z = elim (test (eqb (m (nextAt g n)) 0)) [
+    | inl q ↦
+        let y : End ≡ Down c = rw q at (sym e ∙ z) in
+        let x : _≡_ {A = ℕ} 0 1 = cc in
+        absurd (omega arith)
+    | inr q ↦ child-inside g m d n h f (eqb-false (m (nextAt g n)) 0 q) .0
+  ]
+
+-- ---- a walk along a path, node by node
+
+passed-none : (o : Option (List ℕ)) → o ≡ passed [] o
+passed-none none = refl
+passed-none (some ns) = refl
+
+passed-before : (ns : List ℕ) (n : ℕ) (o : Option (List ℕ)) → passed ns (before n o) ≡ passed (ns ++ n ∷ []) o
+passed-before ns n none = refl
+passed-before ns n (some below) = ap some (sym (append-assoc ns (n ∷ []) below))
+
+pub along-root : (g : Geometry) (m : Memory) (s f : ℕ) → Along g m s f [] 0 (rootOf m s)
+unfolding pathFrom
+along-root g m s f = record { low = omega arith; count = refl; rest = passed-none (pathFrom g m s f) }
+
+-- from a node on: it is malformed, the path ends, or it goes down
+module _ {g : Geometry} {m : Memory} {s f : ℕ} {ns : List ℕ} {d n : ℕ} (a : Along g m s f ns d n) where
+  pub along-malformed : {ok : Bool} → ok ≡ wellFormed g m d n → not ok ≡ true → pathFrom g m s f ≡ none
+  along-malformed e z = a .rest ∙ ap (passed ns) (path-malformed g m f d n (32 - d) (omega (arith, a .low)) (sym e ∙ not-true _ z))
+
+  module _ {x : Step} (h : wellFormed g m d n ≡ true) (e : x ≡ stepFrom g m d n f) where
+    along-step : {y : Step} → x ≡ y → pathFrom g m s f ≡ passed ns (follow n y (λ c. path g m (32 - d - 1) (d + 1) c f))
+    along-step z =
+        a .rest
+        ∙ ap (passed ns) (path-step g m f d n (32 - d) (omega (arith, a .low)) h ∙ ap (λ y. follow n y (λ c. path g m (32 - d - 1) (d + 1) c f)) (sym e ∙ z))
+
+    pub along-end : x ≡ End → pathFrom g m s f ≡ some (ns ++ n ∷ [])
+    along-end z = along-step z
+
+    pub along-down : {c : ℕ} → x ≡ Down c → Along g m s f (ns ++ n ∷ []) (d + 1) c
+    along-down {c = c} z =
+        let l = down-level g m f d n h e z in
+        let k : 32 - d - 1 ≡ 32 - (d + 1) = omega arith in
+        record {
+          low = omega arith;
+          count = simp length-append (omega (arith, a .count));
+          rest = rw k at (along-step z) ∙ passed-before ns n (path g m (32 - (d + 1)) (d + 1) c f);
+        }
+
+-- ---- a search of a path's nodes, with what was found so far
+
+-- what is found in nodes is the first spot of a search: the lookup and the clear place are both so
+pub record Searches (found : List ℕ → Option Spot) (search bound : ℕ → ℕ) : Type 0 where
+  pub is : (ns : List ℕ) → found ns ≡ firstSpot search bound ns
+
+module _ (g : Geometry) (m : Memory) where
+  pub lookups : (f : ℕ) → Searches (lookup editionOne g m f) (foundAt editionOne g m f) (λ n. 64)
+  unfolding lookup
+  lookups f = record { is = λ ns. refl }
+
+  pub clears : Searches (clearSpot g m) (clearAt g m) (λ n. m (sizeAt g n))
+  unfolding clearSpot
+  clears = record { is = λ ns. refl }
+
+module _ {found : List ℕ → Option Spot} {search bound : ℕ → ℕ} (w : Searches found search bound) where
+  -- the node's own place, or none, unless one was found before it
+  module _ {so-far : Seen} (k : so-far ≡ Nothing) (n p : ℕ) (e : p ≡ search n) where
+    at-node : orElse (spotOf so-far) (found (n ∷ [])) ≡ cond (ltb p (bound n)) (some (spot n p)) none
+    unfolding firstSpot
+    at-node = rw (k, w .is (n ∷ []), e) refl
+
+    pub found-here : p < bound n → some (spot n p) ≡ orElse (spotOf so-far) (found (n ∷ []))
+    found-here l = sym (at-node ∙ rw (lt-ltb p (bound n) l) refl)
+
+    pub found-nowhere : bound n ≤ p → none ≡ orElse (spotOf so-far) (found (n ∷ []))
+    found-nowhere l = sym (at-node ∙ rw (le-ltb p (bound n) l) refl)
+
+  pub found-none : none ≡ found []
+  unfolding firstSpot
+  found-none = rw (w .is []) refl
+
+  -- what was found down to a node is what is found in all nodes down to it
+  pub found-more : (ns : List ℕ) (n : ℕ) {so-far r : Option Spot} → so-far ≡ found ns → r ≡ orElse so-far (found (n ∷ [])) → r ≡ found (ns ++ n ∷ [])
+  unfolding firstSpot
+  found-more ns n e q = q ∙ rw (e, w .is ns, w .is (n ∷ []), w .is (ns ++ n ∷ [])) (go ns)
+    where
+      go : (ns : List ℕ) → orElse (firstSpot search bound ns) (firstSpot search bound (n ∷ [])) ≡ firstSpot search bound (ns ++ n ∷ [])
+      go [] = refl
+      go (k ∷ ns) = elim (test (ltb (search k) (bound k))) [ inl h ↦ rw h refl | inr h ↦ rw h (go ns) ]
+
+-- ---- the lookup's answer
+
+abbrev pub spotIn : Found → Option Spot
+spotIn Malformed = none
+spotIn Absent = none
+spotIn (At t) = some t
+
+as-found : (o : Option Spot) → o ≡ spotIn (foundAs o)
+as-found none = refl
+as-found (some t) = refl
+
+pub find-spot : (g : Geometry) (m : Memory) (s f : ℕ) → find editionOne g m s f ≡ spotIn (foundFrom g m s f)
+unfolding find foundFrom
+find-spot g m s f = on-path (pathFrom g m s f)
+  where
+    on-path : (o : Option (List ℕ)) → lookupOn editionOne g m f o ≡ spotIn (onPath Malformed (λ ns. foundAs (lookup editionOne g m f ns)) o)
+    on-path none = refl
+    on-path (some ns) = as-found (lookup editionOne g m f ns)
+
+module _ (g : Geometry) (m : Memory) (s f : ℕ) where
+  pub found-malformed : pathFrom g m s f ≡ none → Malformed ≡ foundFrom g m s f
+  unfolding foundFrom
+  found-malformed e = rw e refl
+
+  pub found-end : {ns : List ℕ} {o : Option Spot} {r : Found} → pathFrom g m s f ≡ some ns → o ≡ lookup editionOne g m f ns → r ≡ foundAs o → r ≡ foundFrom g m s f
+  unfolding foundFrom
+  found-end e a q = rw e (q ∙ ap foundAs a)

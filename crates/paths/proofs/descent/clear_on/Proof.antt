@@ -1,0 +1,22 @@
+use borrow.Author.Needs.{needs}
+use Rattle.paths.proofs.PathSteps.{clears, found-here, found-nowhere}
+use Rattle.paths.proofs.descent.clear_on.Statement.{statement}
+use Rattle.paths.proofs.descent.clear_on.Tie as tie
+
+pub clear-on-spec : {M : Type 1} → statement M
+clear-on-spec =
+    tie.close
+    (tie.spec
+    (λ c. search needs)
+    (λ c. search needs)
+    (λ c. search needs)
+    (λ c. search needs)
+    (λ c. search needs)
+    (λ c. search needs)
+    (λ c. search needs)
+    (λ c. search needs)
+    (λ c. search needs)
+    (λ c. search needs)
+    (λ c κs. search needs)
+    (λ c. found-here (clears _ _) (c .before .before .before .before .enum-told2 .given .1) _ _ (c .before .clear-place .ensures) (c .if1 .taken))
+    (λ c. found-nowhere (clears _ _) (c .before .before .before .before .enum-told2 .given .1) _ _ (c .before .clear-place .ensures) (c .if1 .left)))

@@ -1,0 +1,21 @@
+use borrow.Author.Needs.{needs}
+use Rattle.paths.proofs.RoomSteps.{room-clear, room-small, room-large}
+use Rattle.paths.proofs.descent.room_at.Statement.{statement}
+use Rattle.paths.proofs.descent.room_at.Tie as tie
+
+pub room-at-spec : {M : Type 1} → statement M
+room-at-spec =
+    tie.close
+    (tie.spec
+    (λ c. search needs)
+    (λ c. room-clear _ _ _ _ (c .before .clear .given .1))
+    (λ c. search needs)
+    (λ c. search needs)
+    (λ c. search needs)
+    (λ c. search needs)
+    (λ c. search needs)
+    (λ c. search needs)
+    (λ c. search needs)
+    (λ c. search needs)
+    (λ c. room-small _ _ _ _ (c .before .before .before .enum-told .given .1) (c .if1 .taken))
+    (λ c. room-large _ _ _ _ (c .before .before .before .enum-told .given .1) (c .if1 .left)))

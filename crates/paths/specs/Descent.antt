@@ -1,0 +1,51 @@
+-- The way along a frame's path, node by node.
+use mathlib.Core.Path.{_≡_}
+use mathlib.Core.Bool.{cond}
+use mathlib.Core.Option.{Option, none, some}
+use mathlib.Core.List.{List, _++_}
+use Prim.Native.Nat.{ℕ, _-_, _≤_}
+use lib.Dec.{eqb, ltb}
+use lib.ListN.{length}
+use Rattle.memory.specs.Words.{Memory}
+use Rattle.tree.specs.declared.layout.Geometry.{Geometry}
+use Rattle.tree.specs.declared.path.Spot.{Spot}
+use Rattle.tree.specs.declared.path.Room.{Room}
+use Rattle.tree.specs.declared.path.Room.the-variants.{Clear, ScaleUp, BranchOut}
+use Rattle.tree.specs.Layout.{nextAt, sizeAt}
+use Rattle.tree.specs.Path.{child}
+use Rattle.tree.specs.Node.{childOf}
+use Rattle.tree.specs.Lookup.{path, pathFrom}
+use Rattle.paths.specs.declared.descent.Step.{Step}
+use Rattle.paths.specs.declared.descent.Step.the-variants.{End, Down}
+use Rattle.paths.specs.declared.descent.Seen.{Seen}
+use Rattle.paths.specs.declared.descent.Seen.the-variants.{Nothing, At}
+
+-- how a frame's path goes on from a node of a level
+unfoldable pub stepFrom : Geometry → Memory → (level node frame : ℕ) → Step
+stepFrom g m d n f = cond (eqb (m (nextAt g n)) 0) End (Down (childOf g m n (child d f)))
+
+-- the spot that a search has seen so far
+abbrev pub spotOf : Seen → Option Spot
+spotOf Nothing = none
+spotOf (At t) = some t
+
+-- what was found before, or else what is found next
+abbrev pub orElse : Option Spot → Option Spot → Option Spot
+orElse none next = next
+orElse (some t) next = some t
+
+-- nodes passed before others, where these are there
+abbrev pub passed : List ℕ → Option (List ℕ) → Option (List ℕ)
+passed ns none = none
+passed ns (some below) = some (ns ++ below)
+
+-- a walk along a frame's path from a slot has passed nodes and come to node n of level d
+pub record Along (g : Geometry) (m : Memory) (slot f : ℕ) (ns : List ℕ) (d n : ℕ) : Type 0 where
+  pub low : d ≤ 31
+  pub count : length ns ≡ d
+  pub rest : pathFrom g m slot f ≡ passed ns (path g m (32 - d) d n f)
+
+-- the room on a path that ends at a node of a level: what was found clear, or else by the node's size
+unfoldable pub roomAt : Geometry → Memory → (level node : ℕ) → (clear : Option Spot) → Room
+roomAt g m d n none = cond (ltb (m (sizeAt g n)) 64) (ScaleUp n (m (sizeAt g n))) (BranchOut n d)
+roomAt g m d n (some t) = Clear t

@@ -1,0 +1,201 @@
+// The walks along a frame's path: the lookup, and the room for a claim.
+ghost use mathlib.Core.Path.{_≡_};
+ghost use mathlib.Core.Bool.{true};
+ghost use mathlib.Core.List.{[], _∷_};
+ghost use Prim.Native.Nat.{_<_, _≤_};
+ghost use Rattle.memory.specs.Words.{reads};
+ghost use Rattle.tree.specs.Layout.{Sized, sizeAt};
+ghost use Rattle.tree.specs.Fingerprint.{editionOne, fingerprint};
+ghost use Rattle.tree.specs.Node.{wellFormed};
+ghost use Rattle.tree.specs.Slots.{Filled};
+ghost use Rattle.tree.specs.Lookup.{lookup, clearSpot};
+ghost use Rattle.tree.specs.Room.{atLevel31};
+ghost use Rattle.paths.specs.Answers.{foundAs, foundFrom, placementAs, placementFrom};
+ghost use Rattle.paths.specs.Descent.{stepFrom, spotOf, orElse, roomAt};
+use nodes::fingerprint::fingerprint;
+use tree::layout::Geometry;
+use nodes::node::clear_place;
+use nodes::node::well_formed;
+use tree::path::Room;
+use tree::path::Spot;
+use tree::path::child;
+use nodes::place::found_place;
+
+// Where the lookup finds a frame.
+pub enum Found {
+    // A node of the path is malformed.
+    Malformed,
+    Absent,
+    At(Spot),
+}
+
+// What a search of a path's nodes, from its root on, has seen so far.
+enum Seen {
+    Nothing,
+    At(Spot),
+}
+
+// What a claim finds on a frame's path.
+pub enum Placement {
+    // A node of the path is malformed.
+    Malformed,
+    // The path ends at level 31 with no clear place in any node.
+    Full,
+    // The frame is held already.
+    Held,
+    Free(Room),
+}
+
+// How a frame's path goes on from a node.
+pub enum Step {
+    // The node has no children.
+    End,
+    // To this child.
+    Down(usize),
+}
+
+// The step from a well-formed node. Its children are inside the pool, so the sum does not wrap.
+pub fn step_from(image: &[u64], g: Geometry, level: u64, n: usize, frame: u64) -> Step
+    requires { ⌜ Sized (now image) g × (wellFormed g (reads (now image)) level n ≡ true) ⌝ }
+    ensures { λ r. ⌜ r ≡ stepFrom g (reads (now (image .entry))) level n frame ⌝ }
+{
+    let next = image[64 + 2 * g.slots + 80 * n] as usize;
+    if next == 0 {
+        return Step::End;
+    }
+    Step::Down(next - 1 + child(level, frame) as usize)
+}
+
+// What was found so far, or else the place of a node that holds the frame.
+fn found_on(image: &[u64], g: Geometry, n: usize, frame: u64, print: u64, found: Seen) -> Seen
+    requires { ⌜ Sized (now image) g × (n < g .nodes) × (print ≡ fingerprint editionOne frame) ⌝ }
+    ensures { λ r. ⌜ spotOf r ≡ orElse (spotOf found) (lookup editionOne g (reads (now (image .entry))) frame (n ∷ [])) ⌝ }
+{
+    if let Seen::At(_) = found {
+        return found;
+    }
+    let place = found_place(image, g, n, frame, print);
+    if place < 64 {
+        return Seen::At(Spot { node: n, place });
+    }
+    Seen::Nothing
+}
+
+// The lookup's answer at the end of a path.
+fn found_as(found: Seen) -> Found
+    ensures { λ r. ⌜ r ≡ foundAs (spotOf found) ⌝ }
+{
+    match found {
+        Seen::Nothing => Found::Absent,
+        Seen::At(spot) => Found::At(spot),
+    }
+}
+
+// The lookup of a frame from a filled slot. It goes to the path's end also where it has found the frame: a
+// malformed node below decides.
+pub fn find(image: &[u64], g: Geometry, slot: usize, frame: u64) -> Found
+    requires { ⌜ Sized (now image) g × Filled g (reads (now image)) slot ⌝ }
+    ensures { λ r. ⌜ r ≡ foundFrom g (reads (now (image .entry))) slot frame ⌝ }
+{
+    let print = fingerprint(frame);
+    let mut n = image[64 + 2 * slot + 1] as usize - 1;
+    let mut level: u64 = 0;
+    let mut found = Seen::Nothing;
+    loop {
+        if !well_formed(image, g, level, n) {
+            return Found::Malformed;
+        }
+        found = found_on(image, g, n, frame, print, found);
+        match step_from(image, g, level, n, frame) {
+            Step::End => return found_as(found),
+            Step::Down(below) => {
+                n = below;
+                level += 1;
+            }
+        }
+    }
+}
+
+// What was clear so far, or else the lowest clear place of a node.
+fn clear_on(image: &[u64], g: Geometry, n: usize, clear: Seen) -> Seen
+    requires { ⌜ Sized (now image) g × (n < g .nodes) × (reads (now image) (sizeAt g n) ≤ 64) ⌝ }
+    ensures { λ r. ⌜ spotOf r ≡ orElse (spotOf clear) (clearSpot g (reads (now (image .entry))) (n ∷ [])) ⌝ }
+{
+    if let Seen::At(_) = clear {
+        return clear;
+    }
+    let size = image[64 + 2 * g.slots + 80 * n + 4] as usize;
+    let place = clear_place(image, g, n);
+    if place < size {
+        return Seen::At(Spot { node: n, place });
+    }
+    Seen::Nothing
+}
+
+// The room on a path: the first clear place, or else its last node decides.
+fn room_at(image: &[u64], g: Geometry, level: u64, n: usize, clear: Seen) -> Room
+    requires { ⌜ Sized (now image) g × (n < g .nodes) ⌝ }
+    ensures { λ r. ⌜ r ≡ roomAt g (reads (now (image .entry))) level n (spotOf clear) ⌝ }
+{
+    if let Seen::At(spot) = clear {
+        return Room::Clear(spot);
+    }
+    let size = image[64 + 2 * g.slots + 80 * n + 4];
+    if size < 64 {
+        return Room::ScaleUp { node: n, size };
+    }
+    Room::BranchOut {
+        parent: n,
+        depth: level,
+    }
+}
+
+// Does a path end full at level 31?
+fn at_level_31(room: Room) -> bool
+    ensures { λ r. ⌜ r ≡ atLevel31 room ⌝ }
+{
+    match room {
+        Room::Clear(_) => false,
+        Room::ScaleUp { node: _, size: _ } => false,
+        Room::BranchOut { parent: _, depth } => depth == 31,
+    }
+}
+
+// What a claim finds, by the room on the path and what the lookup found there.
+fn placement_as(room: Room, found: Seen) -> Placement
+    ensures { λ r. ⌜ r ≡ placementAs room (spotOf found) ⌝ }
+{
+    if at_level_31(room) {
+        return Placement::Full;
+    }
+    if let Seen::At(_) = found {
+        return Placement::Held;
+    }
+    Placement::Free(room)
+}
+
+// What a claim of a frame finds from a filled slot: one walk looks for the frame and for a clear place.
+pub fn room_for(image: &[u64], g: Geometry, slot: usize, frame: u64) -> Placement
+    requires { ⌜ Sized (now image) g × Filled g (reads (now image)) slot ⌝ }
+    ensures { λ r. ⌜ r ≡ placementFrom g (reads (now (image .entry))) slot frame ⌝ }
+{
+    let print = fingerprint(frame);
+    let mut n = image[64 + 2 * slot + 1] as usize - 1;
+    let mut level: u64 = 0;
+    let mut found = Seen::Nothing;
+    let mut clear = Seen::Nothing;
+    loop {
+        if !well_formed(image, g, level, n) {
+            return Placement::Malformed;
+        }
+        found = found_on(image, g, n, frame, print, found);
+        clear = clear_on(image, g, n, clear);
+        match step_from(image, g, level, n, frame) {
+            Step::End => return placement_as(room_at(image, g, level, n, clear), found),
+            Step::Down(below) => {
+                n = below;
+                level += 1;
+            }
+        }
+    }
+}

@@ -1,0 +1,4 @@
+pub mod AllSlots
+pub mod MarkedNodesMend
+pub mod Sounds
+pub mod Laws

@@ -1,0 +1,3 @@
+pub mod AllSlots
+pub mod Mended
+pub mod Laws

@@ -1,0 +1,4 @@
+pub mod Suffixes
+pub mod Settled
+pub mod SettledSteps
+pub mod SettledGroups

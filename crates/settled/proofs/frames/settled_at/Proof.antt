@@ -1,0 +1,31 @@
+use mathlib.Core.Path.{_∙_}
+use Prim.Native.Nat.{_-_, _<_}
+use borrow.Author.Needs.{needs}
+use lib.Pow.{pow-pos}
+use Rattle.tree.specs.Path.{levels, bitsTo}
+use Rattle.settled.proofs.SettledSteps.{known-facts, off-path, not-lowest, lowest}
+use Rattle.settled.proofs.frames.settled_at.Statement.{statement}
+use Rattle.settled.proofs.frames.settled_at.Tie as tie
+
+inside : (c : tie.Start) → c .args .t .node < c .args .g .nodes
+inside c = known-facts _ _ (c .pre .1 .formed) .inside
+
+pub settled-at-spec : {M : Type 1} → statement M
+settled-at-spec =
+    tie.close
+    (tie.spec
+    (λ c. search needs)
+    (λ c. search needs)
+    (λ c. search (needs, inside (c .before .before .before)))
+    (λ c. search (needs, inside (c .before .before .before)))
+    (λ c. search (needs, inside (c .before .before .before)))
+    (λ c. search (needs, inside (c .before .before .before)))
+    (λ c. search (needs, inside (c .before .before .before)))
+    (λ c. search (needs, inside (c .before .before .before .before)))
+    (λ c. let t = c .before .before .before .before .before .args .t in search (needs, pow-pos (bitsTo (levels - t .left))))
+    (λ c. off-path _ _ _ _ _ _ _ _ (c .before .before .before .before .before .before .before .pre .1 .unit) (c .if1 .taken))
+    (λ c κs. search needs)
+    (λ c κs. search (needs, inside (c .before .before .before .before .before .before .before .before)))
+    (λ c. not-lowest _ _ _ _ _ _ _ _ (c .before .before .before .before .before .before .before .before .before .before .pre .1 .unit) (c .before .before .before .if1 .left) (c .before .found-place .ensures) (c .if2 .taken))
+    (λ c κs. search needs)
+    (λ c. c .absent-below .ensures ∙ lowest _ _ _ _ _ _ _ _ (c .before .before .before .before .before .before .before .before .before .before .before .pre .1 .unit) (c .before .before .before .before .if1 .left) (c .before .before .found-place .ensures) (c .before .if2 .left)))

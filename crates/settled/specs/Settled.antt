@@ -1,0 +1,62 @@
+-- Recovery's test of the frames of a tree whose nodes are known to be well formed: each is settled where it is held.
+use mathlib.Core.Path.{_≡_}
+use mathlib.Core.Bool.{Bool, true, cond, _&&_}
+use Prim.Native.Nat.{ℕ, zero, suc, _+_, _-_, _*_, _%_, _^_, _≤_, _<_}
+use lib.Dec.{eqb, leb}
+use Rattle.memory.specs.Words.{Memory}
+use Rattle.tree.specs.Test.{is, eq, _and_, holds}
+use Rattle.tree.specs.Lists.{upTo, every}
+use Rattle.tree.specs.declared.layout.Geometry.{Geometry}
+use Rattle.tree.specs.Layout.{nextAt}
+use Rattle.tree.specs.Path.{levels, child, bitsTo}
+use Rattle.tree.specs.Fingerprint.{editionOne}
+use Rattle.tree.specs.Node.{childOf, frame}
+use Rattle.tree.specs.Lookup.{foundAt}
+use Rattle.tree.specs.Subtree.{children, heldPlaces}
+use Rattle.visits.specs.Walk.{stops, formedAt}
+use Rattle.settled.specs.declared.frames.Subtree.{Subtree}
+
+-- a node that is known to be well formed, with all below it, levels left
+pub record Formed (g : Geometry) (m : Memory) (left n : ℕ) : Type 0 where
+  pub some-left : 1 ≤ left
+  pub all-left : left ≤ levels
+  pub is : every (formedAt g m) (stops g m left (levels - left) n) ≡ true
+
+-- where the test stands: such a node, with the unit of its level
+pub record Known (g : Geometry) (m : Memory) (t : Subtree) : Type 0 where
+  pub formed : Formed g m (t .left) (t .node)
+  pub unit : t .unit ≡ 2 ^ bitsTo (levels - t .left)
+
+-- or adjacent children, with the unit of their parent's level
+pub record KnownGroup (g : Geometry) (m : Memory) (t : Subtree) (count : ℕ) : Type 0 where
+  pub formed : (c : ℕ) → c < count → Formed g m (t .left) (t .node + c)
+  pub unit : count * t .unit ≡ 2 ^ bitsTo (levels - t .left)
+
+module _ (g : Geometry) (m : Memory) where
+  -- the lookup finds a frame in no node of its path below this one, levels left
+  unfoldable pub absentBelow : (left depth node frame : ℕ) → Bool
+  absentBelow zero d n f = true
+  absentBelow (suc left) d n f =
+      let below = childOf g m n (child d f) in
+      cond (eqb (m (nextAt g n)) 0) true (leb 64 (foundAt editionOne g m f below) && absentBelow left (suc d) below f)
+
+  -- the frame of a place is on its path, which reads the suffix down to the node; the place is the lowest of its node where the
+  -- lookup finds the frame; and it finds it in no node below
+  unfoldable pub settledAt : (left depth node suffix place : ℕ) → Bool
+  settledAt left d n x p =
+      let f = frame g m n p in
+      holds (eq (f % 2 ^ bitsTo d) x and eq (foundAt editionOne g m f n) p and is (absentBelow left d n f))
+
+  unfoldable pub settledNode : (left depth node suffix : ℕ) → Bool
+  settledNode left d n x = every (settledAt left d n x) (heldPlaces g m n)
+
+  -- a node's frames, then those of each child's subtree in turn, levels left
+  unfoldable pub settledTree : (left depth node suffix : ℕ) → Bool
+  settledTree zero d n x = true
+  settledTree (suc left) d n x =
+      settledNode (suc left) d n x
+      && every (λ c. settledTree left (suc d) (childOf g m n c) (c * 2 ^ bitsTo d + x)) (upTo (children g m d n))
+
+  -- the subtrees of adjacent nodes in turn, whose suffixes are a unit apart
+  unfoldable pub settledGroup : (left depth start count unit suffix : ℕ) → Bool
+  settledGroup left d start count u x = every (λ c. settledTree left d (start + c) (c * u + x)) (upTo count)

@@ -1,0 +1,150 @@
+// The test that recovery makes of a tree's frames, by a walk over nodes that are known to be well formed.
+ghost use mathlib.Core.Path.{_≡_};
+ghost use mathlib.Core.Bool.{true};
+ghost use Prim.Native.Nat.{_-_, _<_};
+ghost use Rattle.memory.specs.Words.{reads};
+ghost use Rattle.tree.specs.Layout.{Sized};
+ghost use Rattle.tree.specs.Lists.{every};
+ghost use Rattle.tree.specs.Path.{levels};
+ghost use Rattle.tree.specs.Fingerprint.{editionOne, theTable, fingerprint};
+ghost use Rattle.tree.specs.Slots.{Filled};
+ghost use Rattle.tree.specs.Subtree.{tree};
+ghost use Rattle.tree.specs.Check.{isSoundTree, inPlace};
+ghost use Rattle.settled.specs.Settled.{Formed, Known, KnownGroup};
+ghost use Rattle.settled.specs.Settled.{absentBelow, settledAt, settledNode, settledTree, settledGroup};
+use memory::words::without_bit;
+use paths::descent::Step;
+use paths::descent::step_from;
+use nodes::fingerprint::fold;
+use nodes::fingerprint::table;
+use tree::layout::Geometry;
+use tree::path::fanout;
+use nodes::place::found_place;
+
+// Does the lookup find a frame in no node of its path below this one?
+fn absent_below(image: &[u64], g: Geometry, left: u64, n: usize, frame: u64, print: u64) -> bool
+    requires { ⌜ Sized (now image) g × Formed g (reads (now image)) left n × (print ≡ fingerprint editionOne frame) ⌝ }
+    ensures { λ r. ⌜ r ≡ absentBelow g (reads (now (image .entry))) left (levels - left) n frame ⌝ }
+{
+    let mut left = left;
+    let mut n = n;
+    loop {
+        match step_from(image, g, 32 - left, n, frame) {
+            Step::End => return true,
+            Step::Down(below) => {
+                if found_place(image, g, below, frame, print) < 64 {
+                    return false;
+                }
+                n = below;
+                left -= 1;
+            }
+        }
+    }
+}
+
+// A node where the test stands, or the first of a group of children, levels left. The frames on their path have the low bits
+// that the way to the node reads: the suffix, a number below the unit. In a group the unit is the parent's.
+struct Subtree {
+    left: u64,
+    node: usize,
+    suffix: u64,
+    unit: u64,
+}
+
+// Is the frame of a place settled: on its path, at the lowest place of its node that matches it, and in no node below?
+fn settled_at(image: &[u64], table: &[u8], g: Geometry, t: Subtree, p: usize) -> bool
+    requires { ⌜ Sized (now image) g × Known g (reads (now image)) t × (p < 64) × (now table ≡ theTable) ⌝ }
+    ensures { λ r. ⌜ r ≡ settledAt g (reads (now (image .entry))) (t .left) (levels - t .left) (t .node) (t .suffix) p ⌝ }
+{
+    let n = t.node;
+    let frame = image[64 + 2 * g.slots + 80 * n + 16 + p];
+    if frame & (t.unit - 1) != t.suffix {
+        return false;
+    }
+    let print = fold(table, frame);
+    if found_place(image, g, n, frame, print) != p {
+        return false;
+    }
+    absent_below(image, g, t.left, n, frame, print)
+}
+
+// Is every frame held in a node settled?
+fn settled_node(image: &[u64], table: &[u8], g: Geometry, t: Subtree) -> bool
+    requires { ⌜ Sized (now image) g × Known g (reads (now image)) t × (now table ≡ theTable) ⌝ }
+    ensures { λ r. ⌜ r ≡ settledNode g (reads (now (image .entry))) (t .left) (levels - t .left) (t .node) (t .suffix) ⌝ }
+{
+    // The set bits of the places not yet tested.
+    let mut rest = image[64 + 2 * g.slots + 80 * t.node + 2];
+    while rest != 0 {
+        let p = u64::trailing_zeros(rest);
+        if !settled_at(image, table, g, t, p as usize) {
+            return false;
+        }
+        rest = without_bit(rest, p);
+    }
+    true
+}
+
+// Is every frame held in a node and in all below it, levels left, settled?
+fn settled_tree(image: &[u64], table: &[u8], g: Geometry, t: Subtree) -> bool
+    requires { ⌜ Sized (now image) g × Known g (reads (now image)) t × (t .suffix < t .unit) × (now table ≡ theTable) ⌝ }
+    ensures { λ r. ⌜ r ≡ settledTree g (reads (now (image .entry))) (t .left) (levels - t .left) (t .node) (t .suffix) ⌝ }
+{
+    if !settled_node(image, table, g, t) {
+        return false;
+    }
+    let next = image[64 + 2 * g.slots + 80 * t.node] as usize;
+    if next == 0 {
+        return true;
+    }
+    let below = Subtree {
+        left: t.left - 1,
+        node: next - 1,
+        suffix: t.suffix,
+        unit: t.unit,
+    };
+    settled_group(image, table, g, below, fanout(32 - t.left))
+}
+
+// The same of a group of children, whose suffixes are a unit apart.
+fn settled_group(image: &[u64], table: &[u8], g: Geometry, t: Subtree, count: usize) -> bool
+    requires { ⌜ Sized (now image) g × KnownGroup g (reads (now image)) t count × (t .suffix < t .unit) × (now table ≡ theTable) ⌝ }
+    ensures { λ r. ⌜
+        r ≡ settledGroup g (reads (now (image .entry))) (t .left) (levels - t .left) (t .node) count (t .unit) (t .suffix)
+        ⌝ }
+{
+    let mut own = t.suffix;
+    let mut c = 0;
+    while c < count {
+        let child = Subtree {
+            left: t.left,
+            node: t.node + c,
+            suffix: own,
+            unit: count as u64 * t.unit,
+        };
+        if !settled_tree(image, table, g, child) {
+            return false;
+        }
+        own += t.unit;
+        c += 1;
+    }
+    true
+}
+
+// Does the lookup find each frame of a slot's tree, which is known to be sound, where it is held?
+pub fn frames_in_place(image: &[u64], g: Geometry, slot: usize) -> bool
+    requires { ⌜ Sized (now image) g × Filled g (reads (now image)) slot × (isSoundTree g (reads (now image)) slot ≡ true) ⌝ }
+    ensures { λ r. ⌜
+        r ≡ every (inPlace editionOne g (reads (now (image .entry))) slot) (tree g (reads (now (image .entry))) slot)
+        ⌝ }
+{
+    let root = image[64 + 2 * slot + 1] as usize;
+    let table = table();
+    let whole = Subtree {
+        left: 32,
+        node: root - 1,
+        suffix: 0,
+        unit: 1,
+    };
+    settled_tree(image, &table, g, whole)
+}

@@ -1,0 +1,11 @@
+pub mod Stops
+pub mod StopFacts
+pub mod Places
+pub mod Walked
+pub mod Kept
+pub mod SlotWalks
+pub mod Visits
+pub mod MarkedNodes
+pub mod MarkedNodesCount
+pub mod MarkedNodesFree
+pub mod Laws

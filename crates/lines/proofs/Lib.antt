@@ -1,9 +1,8 @@
-mod Digits
+pub mod Digits
 mod Numbers
 mod Places
 mod Fields
-mod Collect
+pub mod Collect
 mod Pieces
 mod Format
-mod Answers
 pub mod Laws

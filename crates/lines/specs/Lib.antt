@@ -3,5 +3,4 @@ pub mod Line
 pub mod Reading
 pub mod Found
 pub mod Input
-pub mod Answer
 pub mod Laws

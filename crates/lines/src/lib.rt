@@ -1,7 +1,4 @@
-// The lines of the bench program: reading them, collecting them from pieces of input, and writing
-// those that it prints.
-pub mod answer;
-pub mod decimal;
+// The lines of the bench program: reading them, and collecting them from pieces of input.
 mod field;
 pub mod input;
 pub mod line;

@@ -4,9 +4,9 @@ ghost use mathlib.Core.Path.{_≡_};
 ghost use mathlib.Core.List.{[], _∷_, _++_};
 ghost use Prim.Native.Nat.{_+_, _≤_};
 ghost use lib.ListN.{length, drop};
 ghost use Rattle.lines.specs.Decimal.{decimal};
 ghost use Rattle.lines.specs.Input.{Holds};
-ghost use Rattle.lines.specs.Answer.{answerLine, frameLine};
+ghost use Rattle.answer_lines.specs.Answer.{answerLine, frameLine};
 use crate::decimal::put_decimal;
 
 // The most bytes that a printed line has: 23 of text, and three numbers of 20 digits.

@@ -1,10 +1,10 @@
 use mathlib.Core.Path.{refl}
 use lib.ListN.{length}
 use Rattle.lines.specs.Decimal.{decimal}
-use Rattle.lines.proofs.Answers.{holds-rest, part-short}
+use Rattle.answer_lines.proofs.Answers.{holds-rest, part-short}
 use borrow.Author.Needs.{needs}
-use Rattle.lines.proofs.answer.put_part.Statement.{statement}
-use Rattle.lines.proofs.answer.put_part.Tie as tie
+use Rattle.answer_lines.proofs.answer.put_part.Statement.{statement}
+use Rattle.answer_lines.proofs.answer.put_part.Tie as tie
 
 -- the text, then the number in the rest lent on
 part : tie.Need-returns

@@ -3,12 +3,12 @@ use native.Mathlib.Omega.{arith}
 use borrow.Author.Needs.{needs}
 use borrow.Fn.Kinds.{In}
 use borrow.Fn.PlainCycle.{Measures, is, falls, and}
 use Rattle.lines.proofs.Digits.{one-less, put-one, put-more}
-use Rattle.lines.proofs.decimal.put_decimal.Reads as put-decimal
-use Rattle.lines.proofs.decimal.put_decimal.Kinds as put-decimal-kinds
-use Rattle.lines.proofs.decimal.+put_decimal.Lts-put_decimal as put-decimal-lts
-use Rattle.lines.proofs.decimal.+put_decimal.{statement}
-use Rattle.lines.proofs.decimal.+put_decimal.Tie.{close}
+use Rattle.answer_lines.proofs.decimal.put_decimal.Reads as put-decimal
+use Rattle.answer_lines.proofs.decimal.put_decimal.Kinds as put-decimal-kinds
+use Rattle.answer_lines.proofs.decimal.+put_decimal.Lts-put_decimal as put-decimal-lts
+use Rattle.answer_lines.proofs.decimal.+put_decimal.{statement}
+use Rattle.answer_lines.proofs.decimal.+put_decimal.Tie.{close}
 
 abbrev μ-put-decimal : Measures 1 put-decimal-kinds.ps ℕ
 μ-put-decimal κs a = a .1 .0

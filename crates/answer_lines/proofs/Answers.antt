@@ -8,12 +8,12 @@ use lib.ListN.{length, getD, take, drop, set, length-append}
 use lib.Seq.{length-take-le, take-suc, drop-cons, drop-drop, append-snoc, set-at, set-split}
 use borrow.Rule.Slice.PartMut.{midOf, putMid}
 use Rattle.slices.proofs.Rest.{rest-lent, rest-back}
 use Rattle.lines.specs.Decimal.{decimal}
 use Rattle.lines.specs.Line.{bytes}
-use Rattle.lines.specs.Answer.{answerLine, frameLine}
+use Rattle.answer_lines.specs.Answer.{answerLine, frameLine}
 use Rattle.lines.specs.Input.{newline, Holds}
 use Rattle.lines.proofs.Collect.{held-bytes, behind-them}
 use Rattle.lines.proofs.Digits.{decimal-laws}
 
 -- a byte of a text more
 pub text-more : (old text : List ℕ) (i : ℕ) → i < length text → i < length old

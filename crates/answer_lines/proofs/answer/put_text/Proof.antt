@@ -5,9 +5,9 @@ use Prim.Native.Nat.{_-_, _≤_}
 use native.Mathlib.Omega.{arith}
 use lib.ListN.{length, take, drop, length-set}
 use lib.Seq.{take-length}
-use Rattle.lines.proofs.Answers.{text-more}
-use Rattle.lines.proofs.answer.put_text.Statement.{statement}
-use Rattle.lines.proofs.answer.put_text.Tie as tie
+use Rattle.answer_lines.proofs.Answers.{text-more}
+use Rattle.answer_lines.proofs.answer.put_text.Statement.{statement}
+use Rattle.answer_lines.proofs.answer.put_text.Tie as tie
 
 abbrev Inv-loop : tie.InvT-loop
 Inv-loop buffer₀ text i₀ buffer i = (i ≤ length text) × (length buffer ≡ length buffer₀) × (buffer ≡ take i text ++ drop i buffer₀)

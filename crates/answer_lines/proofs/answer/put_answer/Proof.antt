@@ -1,8 +1,8 @@
 use Rattle.lines.proofs.Collect.{holds-length}
-use Rattle.lines.proofs.Answers.{holds-rest, holds-newline, answer-parts}
+use Rattle.answer_lines.proofs.Answers.{holds-rest, holds-newline, answer-parts}
 use borrow.Author.Needs.{needs}
-use Rattle.lines.proofs.answer.put_answer.Statement.{statement}
-use Rattle.lines.proofs.answer.put_answer.Tie as tie
+use Rattle.answer_lines.proofs.answer.put_answer.Statement.{statement}
+use Rattle.answer_lines.proofs.answer.put_answer.Tie as tie
 
 -- the line, and its length
 whole : tie.Need-returns

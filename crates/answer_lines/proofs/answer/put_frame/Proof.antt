@@ -1,7 +1,7 @@
-use Rattle.lines.proofs.Answers.{holds-newline, frame-parts}
+use Rattle.answer_lines.proofs.Answers.{holds-newline, frame-parts}
 use borrow.Author.Needs.{needs}
-use Rattle.lines.proofs.answer.put_frame.Statement.{statement}
-use Rattle.lines.proofs.answer.put_frame.Tie as tie
+use Rattle.answer_lines.proofs.answer.put_frame.Statement.{statement}
+use Rattle.answer_lines.proofs.answer.put_frame.Tie as tie
 
 pub put-frame-spec : {M : Type 1} → statement M
 put-frame-spec =

@@ -48,7 +48,7 @@ impl Case {
         }
         let mut junk = |length: usize| Buffer::of((0..length).map(|_| random.word()));
         let (scratch, script, list) = (junk(map.len()), junk(SCRIPT_WORDS + 6), junk(200));
-        let mut lent = Lent { image, map, heads: Buffer::of([0; 10]), script, scratch, list };
+        let mut lent = Lent { image, map, heads: Buffer::of([0; HEADS as usize * HEAD_WORDS]), script, scratch, list };
         let mut lending = Lending { random: &mut random, lent: &mut lent, slots, nodes };
         if lending.random.one_in(3) {
             lending.map();
@@ -87,7 +87,7 @@ impl Case {
         let often =
             [Open, Claim, Claim, Claim, Claim, Claim, Fill, Commit, Abandon, Remove, Remove, Has, Has, List, Retire, Apply];
         let function = if self.random.one_in(3) { self.random.pick(&Function::ALL) } else { self.random.pick(&often) };
-        let head = if self.random.one_in(12) { self.random.odd_word(&[2]) } else { self.random.below(2) };
+        let head = if self.random.one_in(12) { self.random.odd_word(&[HEADS]) } else { self.random.below(HEADS) };
         let slot = match self.random.below(12) {
             0 => self.random.below(self.slots),
             _ => some_slot(&mut self.random, &self.lent.image, self.slots),

@@ -46,7 +46,7 @@ pub fn perform(call: &Call, lent: &mut Lent, count: &mut u64) -> u64 {
     let (list, list_room) = slice(&mut lent.list);
     let heads = lent.heads.as_mut_ptr();
     let &Call { function, slots, nodes, head, reel, frame } = call;
-    // Sound: the slices are apart from each other and of the lengths given, and heads has its ten words.
+    // Sound: the slices are apart from each other and of the lengths given, and heads has all of its words.
     unsafe {
         match function {
             Function::Format => reelbook_format(image, words, map, map_words, heads, slots, nodes),

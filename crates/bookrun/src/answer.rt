@@ -1,8 +1,8 @@
 // The lines that are printed.
-use libc::STDOUT_FILENO;
 use answer_lines::answer::PRINTED;
 use answer_lines::answer::put_answer;
 use answer_lines::answer::put_frame;
+use libc::STDOUT_FILENO;
 
 pub fn answer(answer: u64, stores: u64, value: u64) {
     let mut line = [0u8; PRINTED];

@@ -13,13 +13,13 @@ ghost use Rattle.tree.specs.Room.{atLevel31};
 ghost use Rattle.paths.specs.Answers.{foundAs, foundFrom, placementAs, placementFrom};
 ghost use Rattle.paths.specs.Descent.{stepFrom, spotOf, orElse, roomAt};
 use nodes::fingerprint::fingerprint;
-use tree::layout::Geometry;
 use nodes::node::clear_place;
 use nodes::node::well_formed;
+use nodes::place::found_place;
+use tree::layout::Geometry;
 use tree::path::Room;
 use tree::path::Spot;
 use tree::path::child;
-use nodes::place::found_place;
 
 // Where the lookup finds a frame.
 pub enum Found {

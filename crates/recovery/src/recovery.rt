@@ -16,12 +16,12 @@ ghost use Rattle.tree.specs.Pool.{clearMap, mapOf};
 ghost use Rattle.visits.specs.Walk.{kept};
 ghost use Rattle.recovery.specs.AllSlots.{walkedReel, walkedSlots};
 ghost use Rattle.recovery.specs.Mended.{mendedBelow};
-use settled::frames::frames_in_place;
-use tree::layout::Geometry;
-use pool::pool_map::clear_map;
-use pool::pool_map::next_used;
 use nodes::reels::is_filled;
 use nodes::reels::slot_of;
+use pool::pool_map::clear_map;
+use pool::pool_map::next_used;
+use settled::frames::frames_in_place;
+use tree::layout::Geometry;
 use visits::visit::visit_slot;
 
 // Walks a filled slot's tree and marks its nodes. The slot must be its reel's lowest, and each frame where the lookup finds it.

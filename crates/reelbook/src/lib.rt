@@ -12,7 +12,6 @@ ghost use Rattle.book.specs.State.{format, recover, openReel, claim, fill, comm
 ghost use Rattle.book.specs.State.{query, has, list as list-reel};
 ghost use Rattle.book.specs.CarryOut.{carry, carried};
 ghost use Rattle.operations.specs.Ends.{buffers, noBuffers, state, ended, ends};
-use book::HEAD_WORDS;
 use claims::claim;
 use images::apply;
 use images::format;
@@ -26,7 +25,8 @@ use operations::head_words::read_heads;
 use reels::list;
 use reels::open;
 use reels::retire;
-// how many stores a script has, for those who print it
+// the length of the heads' words; how many stores a script has, for those who print it
+pub use book::HEAD_WORDS;
 pub use tree::persistent::count_stores;
 
 // Makes the image anew, with so many reel slots and nodes.

@@ -13,13 +13,13 @@ ghost use Rattle.tree.specs.Check.{isSoundTree, inPlace};
 ghost use Rattle.settled.specs.Settled.{Formed, Known, KnownGroup};
 ghost use Rattle.settled.specs.Settled.{absentBelow, settledAt, settledNode, settledTree, settledGroup};
 use memory::words::without_bit;
-use paths::descent::Step;
-use paths::descent::step_from;
 use nodes::fingerprint::fold;
 use nodes::fingerprint::table;
+use nodes::place::found_place;
+use paths::descent::Step;
+use paths::descent::step_from;
 use tree::layout::Geometry;
 use tree::path::fanout;
-use nodes::place::found_place;
 
 // Does the lookup find a frame in no node of its path below this one?
 fn absent_below(image: &[u64], g: Geometry, left: u64, n: usize, frame: u64, print: u64) -> bool

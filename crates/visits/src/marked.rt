@@ -4,8 +4,8 @@ ghost use lib.ListN.{length};
 ghost use Rattle.memory.specs.Words.{reads};
 ghost use Rattle.tree.specs.Layout.{Sized, mapWords};
 ghost use Rattle.visits.specs.Marked.{heldBelow, withoutMarked};
-use tree::layout::Geometry;
 use pool::pool_map::next_used;
+use tree::layout::Geometry;
 
 // How many frames the nodes marked in a map hold.
 pub fn count_frames(image: &[u64], pool: &[u64], g: Geometry) -> usize

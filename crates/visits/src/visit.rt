@@ -7,11 +7,11 @@ ghost use Rattle.tree.specs.Layout.{Sized, mapWords};
 ghost use Rattle.tree.specs.Path.{levels};
 ghost use Rattle.tree.specs.Slots.{Filled};
 ghost use Rattle.visits.specs.Walk.{stops, groupStops, formedAt, walked, kept, walkedSlot};
-use tree::layout::Geometry;
 use nodes::node::well_formed;
-use tree::path::fanout;
 use pool::pool_map::is_used;
 use pool::pool_map::mark;
+use tree::layout::Geometry;
+use tree::path::fanout;
 
 // Marks a node and, levels left, all below it. A node met a second time ends the walk, so it marks each node once.
 fn visit_node(image: &[u64], pool: &mut [u64], g: Geometry, left: u64, n: usize) -> bool

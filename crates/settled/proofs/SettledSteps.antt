@@ -42,7 +42,7 @@ module _ (g : Geometry) (m : Memory) where
   pub children-formed : {left n : ℕ} → Formed g m left n → m (nextAt g n) ≢ 0 → (c : ℕ) → c < fanout (levels - left) → Formed g m (left - 1) (childOf g m n c)
   unfolding groupStops
   children-formed {left} {n} a z c l =
-      let t = linked-facts g m left n (a .some-left) (a .all-left) z (a .is) in
+      let t = linked-facts g m left n (a .some-left) (a .all-left) refl z (a .is) in
       let all = sym (every-flatMap (formedAt g m) _ (upTo (fanout (levels - left)))) ∙ t .formed in
       record { some-left = omega (arith, t .above); all-left = omega (arith, a .all-left); is = every-at _ all (upTo-members _ .1 l) }
 

@@ -12,11 +12,10 @@ use lib.Dec.{eqb, ltb}
 use lib.ListN.{length-append}
 use Rattle.memory.specs.Words.{Memory}
 use Rattle.tree.specs.declared.layout.Geometry.{Geometry}
-use Rattle.tree.specs.Layout.{nextAt, sizeAt}
+use Rattle.tree.specs.Layout.{rootAt, nextAt, sizeAt}
 use Rattle.tree.specs.Path.{child}
-use Rattle.tree.specs.Node.{childOf, wellFormed}
+use Rattle.tree.specs.Node.{wellFormed}
 use Rattle.tree.specs.declared.path.Spot.{Spot}
-use Rattle.tree.specs.Slots.{rootOf}
 use Rattle.tree.specs.Fingerprint.{editionOne}
 use Rattle.tree.specs.Lookup.{spot, before, path, pathFrom, firstSpot, clearAt, clearSpot, foundAt, lookup, lookupOn, find}
 use Rattle.tree.proofs.Cases.{test}
@@ -36,10 +35,10 @@ module _ (g : Geometry) (m : Memory) (d n : ℕ) (h : wellFormed g m d n ≡ tru
   pub node-inside : n < g .nodes
   node-inside = node-laws g m .facts d n .0 h .inside
 
-  pub child-inside : (f : ℕ) → (m (nextAt g n) ≡ 0 → ⊥) → (d < 31) × (childOf g m n (child d f) < g .nodes)
-  child-inside f z =
-      let t = children-inside (node-laws g m .facts d n .0 h) z in
-      (t .0, omega (arith, child-laws .below d f (t .0), t .1))
+  pub child-inside : {next : ℕ} (f : ℕ) → next ≡ m (nextAt g n) → (next ≡ 0 → ⊥) → (d < 31) × (next - 1 + child d f < g .nodes)
+  child-inside f e z =
+      let t = children-inside (node-laws g m .facts d n .0 h) (λ q. z (e ∙ q)) in
+      (t .0, omega (arith, e, child-laws .below d f (t .0), t .1))
 
 -- a path's nodes from a node on, by the step from it
 abbrev follow : ℕ → Step → (ℕ → Option (List ℕ)) → Option (List ℕ)
@@ -47,14 +46,14 @@ follow n End below = some (n ∷ [])
 follow n (Down c) below = before n (below c)
 
 module _ (g : Geometry) (m : Memory) (f d n : ℕ) where
-  -- the two steps
-  pub step-end : m (nextAt g n) ≡ 0 → End ≡ stepFrom g m d n f
+  -- the two steps, by next
+  pub step-end : {next : ℕ} → next ≡ m (nextAt g n) → next ≡ 0 → End ≡ stepFrom g m d n f
   unfolding stepFrom
-  step-end z = rw (eq-eqb (m (nextAt g n)) 0 z) refl
+  step-end {next} e z = rw (← e, eq-eqb next 0 z) refl
 
-  pub step-down : {c : ℕ} → (m (nextAt g n) ≡ 0 → ⊥) → c ≡ child d f → Down (m (nextAt g n) - 1 + c) ≡ stepFrom g m d n f
+  pub step-down : {next c : ℕ} → next ≡ m (nextAt g n) → (next ≡ 0 → ⊥) → c ≡ child d f → Down (next - 1 + c) ≡ stepFrom g m d n f
   unfolding stepFrom
-  step-down z e = rw (ne-eqb (m (nextAt g n)) 0 z, e) refl
+  step-down {next} e z q = rw (← e, ne-eqb next 0 z, q) refl
 
   -- where levels are left, the path from a node: malformed, or by the step
   path-malformed : (left : ℕ) → 1 ≤ left → wellFormed g m d n ≡ false → path g m left d n f ≡ none
@@ -77,7 +76,7 @@ module _ (g : Geometry) (m : Memory) (f d n : ℕ) where
         let y : End ≡ Down c = rw q at (sym e ∙ z) in
         let x : _≡_ {A = ℕ} 0 1 = cc in
         absurd (omega arith)
-    | inr q ↦ child-inside g m d n h f (eqb-false (m (nextAt g n)) 0 q) .0
+    | inr q ↦ child-inside g m d n h f refl (eqb-false (m (nextAt g n)) 0 q) .0
   ]
 
 -- ---- a walk along a path, node by node
@@ -90,9 +89,9 @@ passed-before : (ns : List ℕ) (n : ℕ) (o : Option (List ℕ)) → passed ns 
 passed-before ns n none = refl
 passed-before ns n (some below) = ap some (sym (append-assoc ns (n ∷ []) below))
 
-pub along-root : (g : Geometry) (m : Memory) (s f : ℕ) → Along g m s f [] 0 (rootOf m s)
+pub along-root : (g : Geometry) (m : Memory) (s f : ℕ) {root : ℕ} → root ≡ m (rootAt s) → Along g m s f [] 0 (root - 1)
 unfolding pathFrom
-along-root g m s f = record { low = omega arith; count = refl; rest = passed-none (pathFrom g m s f) }
+along-root g m s f e = record { low = omega arith; count = refl; rest = rw e (passed-none (pathFrom g m s f)) }
 
 -- from a node on: it is malformed, the path ends, or it goes down
 module _ {g : Geometry} {m : Memory} {s f : ℕ} {ns : List ℕ} {d n : ℕ} (a : Along g m s f ns d n) where

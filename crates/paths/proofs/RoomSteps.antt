@@ -30,14 +30,14 @@ module _ (g : Geometry) (m : Memory) (d n : ℕ) where
   unfolding roomAt
   room-clear e = rw e refl
 
-  module _ {x : Seen} (k : x ≡ Nothing) where
-    pub room-small : m (sizeAt g n) < 64 → ScaleUp n (m (sizeAt g n)) ≡ roomAt g m d n (spotOf x)
+  module _ {x : Seen} {size : ℕ} (k : x ≡ Nothing) (e : size ≡ m (sizeAt g n)) where
+    pub room-small : size < 64 → ScaleUp n size ≡ roomAt g m d n (spotOf x)
     unfolding roomAt
-    room-small l = rw (k, lt-ltb (m (sizeAt g n)) 64 l) refl
+    room-small l = rw (k, ← e, lt-ltb size 64 l) refl
 
-    pub room-large : 64 ≤ m (sizeAt g n) → BranchOut n d ≡ roomAt g m d n (spotOf x)
+    pub room-large : 64 ≤ size → BranchOut n d ≡ roomAt g m d n (spotOf x)
     unfolding roomAt
-    room-large l = rw (k, le-ltb (m (sizeAt g n)) 64 l) refl
+    room-large l = rw (k, ← e, le-ltb size 64 l) refl
 
 -- ---- what a claim finds
 

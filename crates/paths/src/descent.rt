@@ -17,6 +17,10 @@ use nodes::node::clear_place;
 use nodes::node::well_formed;
 use nodes::place::found_place;
 use tree::layout::Geometry;
+use tree::layout::SIZE;
+use tree::layout::next_of;
+use tree::layout::root_of;
+use tree::layout::word_of;
 use tree::path::Room;
 use tree::path::Spot;
 use tree::path::child;
@@ -59,7 +63,7 @@ pub fn step_from(image: &[u64], g: Geometry, level: u64, n: usize, frame: u64) -
     requires { ⌜ Sized (now image) g × (wellFormed g (reads (now image)) level n ≡ true) ⌝ }
     ensures { λ r. ⌜ r ≡ stepFrom g (reads (now (image .entry))) level n frame ⌝ }
 {
-    let next = image[64 + 2 * g.slots + 80 * n] as usize;
+    let next = next_of(image, g, n) as usize;
     if next == 0 {
         return Step::End;
     }
@@ -98,7 +102,7 @@ pub fn find(image: &[u64], g: Geometry, slot: usize, frame: u64) -> Found
     ensures { λ r. ⌜ r ≡ foundFrom g (reads (now (image .entry))) slot frame ⌝ }
 {
     let print = fingerprint(frame);
-    let mut n = image[64 + 2 * slot + 1] as usize - 1;
+    let mut n = root_of(image, g, slot) as usize - 1;
     let mut level: u64 = 0;
     let mut found = Seen::Nothing;
     loop {
@@ -124,7 +128,7 @@ fn clear_on(image: &[u64], g: Geometry, n: usize, clear: Seen) -> Seen
     if let Seen::At(_) = clear {
         return clear;
     }
-    let size = image[64 + 2 * g.slots + 80 * n + 4] as usize;
+    let size = word_of(image, g, n, SIZE) as usize;
     let place = clear_place(image, g, n);
     if place < size {
         return Seen::At(Spot { node: n, place });
@@ -140,7 +144,7 @@ fn room_at(image: &[u64], g: Geometry, level: u64, n: usize, clear: Seen) -> Roo
     if let Seen::At(spot) = clear {
         return Room::Clear(spot);
     }
-    let size = image[64 + 2 * g.slots + 80 * n + 4];
+    let size = word_of(image, g, n, SIZE);
     if size < 64 {
         return Room::ScaleUp { node: n, size };
     }
@@ -180,7 +184,7 @@ pub fn room_for(image: &[u64], g: Geometry, slot: usize, frame: u64) -> Placemen
     ensures { λ r. ⌜ r ≡ placementFrom g (reads (now (image .entry))) slot frame ⌝ }
 {
     let print = fingerprint(frame);
-    let mut n = image[64 + 2 * slot + 1] as usize - 1;
+    let mut n = root_of(image, g, slot) as usize - 1;
     let mut level: u64 = 0;
     let mut found = Seen::Nothing;
     let mut clear = Seen::Nothing;

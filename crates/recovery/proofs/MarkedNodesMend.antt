@@ -1,5 +1,5 @@
 -- The locate words of marked nodes mended: the loop, and that with the map of a sound image this is what recovery writes.
-use mathlib.Core.Path.{_≡_, refl, sym, _∙_, ap, ap₂}
+use mathlib.Core.Path.{_≡_, refl, sym, _∙_, ap}
 use mathlib.Core.Bool.{true, false}
 use mathlib.Core.Logic.{inl, inr, _≢_, _↔_}
 use mathlib.Core.List.{List, List·Memᴰ, Memᴰ·of-map, Memᴰ·map}
@@ -16,7 +16,7 @@ use Rattle.memory.specs.Script.{Store, store, stores}
 use Rattle.memory.specs.Crash.{apply}
 use Rattle.memory.proofs.Laws.{apply-laws, settles}
 use Rattle.tree.specs.declared.layout.Geometry.{Geometry}
-use Rattle.tree.specs.Layout.{Sized, locateAt, setAt}
+use Rattle.tree.specs.Layout.{Sized, nodeAt, locateAt, setAt}
 use Rattle.tree.specs.Fingerprint.{editionOne}
 use Rattle.tree.specs.Subtree.{Visit, nodesOf, allTrees}
 use Rattle.tree.specs.Check.{walkable, isSound}
@@ -126,15 +126,16 @@ module _ (g : Geometry) (pool image : List ℕ) where
     set-then : reads now (setAt g n) ≡ reads image (setAt g n)
     set-then = ap (λ ws. reads ws (setAt g n)) (t .is) ∙ set-stays n n
 
-    -- a marked node's two words are equal, or different
-    pub pass-equal : reads now (locateAt g n) ≡ reads now (setAt g n) → MendedTo now (n + 1)
-    pass-equal e = mended-to now (n + 1) (rw (add-one n) (t .is ∙ sym (mended-equal n (eq-eqb _ _ (sym locate-then ∙ e ∙ set-then)))))
+    -- a marked node's two words, as they are read now, are equal, or different
+    module _ {held locate : ℕ} (s : held ≡ reads now (setAt g n)) (l : locate ≡ reads now (locateAt g n)) where
+      pub pass-equal : locate ≡ held → MendedTo now (n + 1)
+      pass-equal e = mended-to now (n + 1) (rw (add-one n) (t .is ∙ sym (mended-equal n (eq-eqb _ _ (sym (l ∙ locate-then) ∙ e ∙ s ∙ set-then)))))
 
-    pub pass-stored : used pool n ≡ true → reads now (locateAt g n) ≢ reads now (setAt g n)
-        → MendedTo (set now (locateAt g n) (reads now (setAt g n))) (n + 1)
-    pass-stored u d =
-        mended-to _ (n + 1) (rw (add-one n)
-        (ap₂ (λ ws v. set ws (locateAt g n) v) (t .is) set-then ∙ sym (mended-differing n u (ne-eqb _ _ (λ q. d (locate-then ∙ q ∙ sym set-then))))))
+      pub pass-stored : {at : ℕ} → at ≡ nodeAt g n → used pool n ≡ true → locate ≢ held → MendedTo (set now (at + 1) held) (n + 1)
+      pass-stored {at} a u d =
+          let here : set now (at + 1) held ≡ set (mendedBelow g pool image n) (locateAt g n) (reads image (setAt g n)) = rw (a, ← t .is, s ∙ set-then) refl in
+          mended-to _ (n + 1) (rw (add-one n)
+          (here ∙ sym (mended-differing n u (ne-eqb _ _ (λ q. d (l ∙ locate-then ∙ q ∙ sym (s ∙ set-then)))))))
 
 -- ---- with the map of a sound image
 

@@ -22,6 +22,11 @@ use pool::pool_map::clear_map;
 use pool::pool_map::next_used;
 use settled::frames::frames_in_place;
 use tree::layout::Geometry;
+use tree::layout::LOCATE;
+use tree::layout::SET;
+use tree::layout::node_at;
+use tree::layout::reel_of;
+use tree::layout::word_of;
 use visits::visit::visit_slot;
 
 // Walks a filled slot's tree and marks its nodes. The slot must be its reel's lowest, and each frame where the lookup finds it.
@@ -29,7 +34,7 @@ fn visit_reel(image: &[u64], pool: &mut [u64], g: Geometry, slot: usize) -> bool
     requires { ⌜ Sized (now image) g × Filled g (reads (now image)) slot × (length (now pool) ≡ mapWords g) ⌝ }
     ensures { λ r. ⌜ kept r (now (pool .exit)) ≡ walkedReel g (reads (now (image .entry))) slot (now (pool .entry)) ⌝ }
 {
-    if slot_of(image, g, image[64 + 2 * slot]) != slot {
+    if slot_of(image, g, reel_of(image, g, slot)) != slot {
         return false;
     }
     if !visit_slot(image, pool, g, slot) {
@@ -67,10 +72,9 @@ fn mend(image: &mut [u64], pool: &[u64], g: Geometry)
 {
     let mut n = next_used(pool, 0, g.nodes);
     while n < g.nodes {
-        let at = 64 + 2 * g.slots + 80 * n;
-        let set = image[at + 2];
-        if image[at + 1] != set {
-            image[at + 1] = set;
+        let set = word_of(image, g, n, SET);
+        if word_of(image, g, n, LOCATE) != set {
+            image[node_at(g, n) + LOCATE] = set;
         }
         n = next_used(pool, n + 1, g.nodes);
     }

@@ -82,12 +82,14 @@ module _ (g : Geometry) (m : Memory) where
     own-fails z = rw (tree-first left (levels - left) n x h, ← e, not-true r z) refl
 
     module _ (z : not r ≡ false) where
-      pub leaf-passes : m (nextAt g n) ≡ 0 → true ≡ settledTree g m left (levels - left) n x
+      pub leaf-passes : {next : ℕ} → next ≡ m (nextAt g n) → next ≡ 0 → true ≡ settledTree g m left (levels - left) n x
       unfolding settledGroup upTo range every
-      leaf-passes o = rw (tree-first left (levels - left) n x h, ← e, not-false r z, leaf g m (levels - left) n o) refl
+      leaf-passes t o = rw (tree-first left (levels - left) n x h, ← e, not-false r z, leaf g m (levels - left) n (sym t ∙ o)) refl
 
-      pub below-passes : {count unit : ℕ} {b : Bool} → m (nextAt g n) ≢ 0 → count ≡ fanout (levels - left) → unit ≡ 2 ^ bitsTo (levels - left)
-          → b ≡ settledGroup g m (left - 1) (levels - (left - 1)) (m (nextAt g n) - 1) count unit x → b ≡ settledTree g m left (levels - left) n x
-      below-passes o p q below =
+      pub below-passes : {next count unit : ℕ} {b : Bool} → next ≡ m (nextAt g n) → next ≢ 0 → count ≡ fanout (levels - left)
+          → unit ≡ 2 ^ bitsTo (levels - left)
+          → b ≡ settledGroup g m (left - 1) (levels - (left - 1)) (next - 1) count unit x
+          → b ≡ settledTree g m left (levels - left) n x
+      below-passes t o p q below =
           let deeper : suc (levels - left) ≡ levels - (left - 1) = omega arith in
-          below ∙ rw (tree-first left (levels - left) n x h, ← e, not-false r z, linked g m (levels - left) n o, ← p, ← q, deeper) refl
+          below ∙ rw (tree-first left (levels - left) n x h, ← e, not-false r z, linked g m (levels - left) n (rw t at o), ← p, ← q, ← t, deeper) refl

@@ -2,7 +2,7 @@
 use mathlib.Core.Path.{_≡_, refl, sym, _∙_, ap, subst}
 use mathlib.Core.Bool.{Bool, true, false, not, _&&_}
 use mathlib.Core.Logic.{_≢_, inl, inr}
-use Prim.Native.Nat.{ℕ, zero, suc, _-_, _%_, _^_, _≤_, _<_}
+use Prim.Native.Nat.{ℕ, zero, suc, _+_, _-_, _%_, _^_, _≤_, _<_}
 use native.Mathlib.Omega.{arith}
 use lib.Bits.{bitAnd, and-mask}
 use lib.Count.{trailingZeros}
@@ -14,7 +14,7 @@ use Rattle.tree.specs.declared.layout.Geometry.{Geometry}
 use Rattle.tree.specs.Layout.{nextAt, setAt}
 use Rattle.tree.specs.Path.{levels, fanout, child, bitsTo}
 use Rattle.tree.specs.Fingerprint.{editionOne}
-use Rattle.tree.specs.Node.{childOf, wellFormed, frame}
+use Rattle.tree.specs.Node.{wellFormed, frame}
 use Rattle.tree.specs.Lookup.{foundAt}
 use Rattle.tree.specs.Subtree.{heldPlaces}
 use Rattle.tree.specs.Laws.{WellFormed}
@@ -39,10 +39,11 @@ module _ (g : Geometry) (m : Memory) where
   known-formed {left} {n} a = node-laws g m .facts (levels - left) n .1 (known-facts a)
 
   -- so are its children
-  pub children-formed : {left n : ℕ} → Formed g m left n → m (nextAt g n) ≢ 0 → (c : ℕ) → c < fanout (levels - left) → Formed g m (left - 1) (childOf g m n c)
+  pub children-formed : {left n next : ℕ} → Formed g m left n → next ≡ m (nextAt g n) → next ≢ 0 → (c : ℕ) → c < fanout (levels - left)
+      → Formed g m (left - 1) (next - 1 + c)
   unfolding groupStops
-  children-formed {left} {n} a z c l =
-      let t = linked-facts g m left n (a .some-left) (a .all-left) z (a .is) in
+  children-formed {left} {n} a e z c l =
+      let t = linked-facts g m left n (a .some-left) (a .all-left) e z (a .is) in
       let all = sym (every-flatMap (formedAt g m) _ (upTo (fanout (levels - left)))) ∙ t .formed in
       record { some-left = omega (arith, t .above); all-left = omega (arith, a .all-left); is = every-at _ all (upTo-members _ .1 l) }
 
@@ -56,7 +57,7 @@ module _ (g : Geometry) (m : Memory) where
     | inl z ↦ rw z tt
     | inr z ↦
         let linked = eqb-false (m (nextAt g n)) 0 z in
-        rw z (children-formed a linked (child (levels - left) f) (child-laws .below (levels - left) f (children-inside (known-facts a) linked .0)))
+        rw z (children-formed a refl linked (child (levels - left) f) (child-laws .below (levels - left) f (children-inside (known-facts a) linked .0)))
   ]
 
   -- ---- down a frame's path
@@ -104,22 +105,22 @@ module _ (g : Geometry) (m : Memory) where
 
   -- ---- the frame of a place
 
-  module _ (left d n x p unit : ℕ) (e : unit ≡ 2 ^ bitsTo d) where
-    masked : bitAnd (frame g m n p) (unit - 1) ≡ frame g m n p % 2 ^ bitsTo d
-    masked = rw e (and-mask (frame g m n p) (bitsTo d))
+  module _ (left d n x p unit f : ℕ) (e : unit ≡ 2 ^ bitsTo d) (is : f ≡ frame g m n p) where
+    masked : bitAnd f (unit - 1) ≡ f % 2 ^ bitsTo d
+    masked = rw e (and-mask f (bitsTo d))
 
-    pub off-path : (bitAnd (frame g m n p) (unit - 1) ≡ x → ⊥) → false ≡ settledAt g m left d n x p
+    pub off-path : (bitAnd f (unit - 1) ≡ x → ⊥) → false ≡ settledAt g m left d n x p
     unfolding settledAt
-    off-path o = rw (ne-eqb (frame g m n p % 2 ^ bitsTo d) x (rw masked at o)) refl
+    off-path o = rw (← is, ne-eqb (f % 2 ^ bitsTo d) x (rw masked at o)) refl
 
-    module _ (on : bitAnd (frame g m n p) (unit - 1) ≡ x) {q : ℕ} (at : q ≡ foundAt editionOne g m (frame g m n p) n) where
+    module _ (on : bitAnd f (unit - 1) ≡ x) {q : ℕ} (at : q ≡ foundAt editionOne g m f n) where
       pub not-lowest : (q ≡ p → ⊥) → false ≡ settledAt g m left d n x p
       unfolding settledAt
-      not-lowest o = rw (eq-eqb (frame g m n p % 2 ^ bitsTo d) x (sym masked ∙ on), ← at, ne-eqb q p o) refl
+      not-lowest o = rw (← is, eq-eqb (f % 2 ^ bitsTo d) x (sym masked ∙ on), ← at, ne-eqb q p o) refl
 
-      pub lowest : q ≡ p → absentBelow g m left d n (frame g m n p) ≡ settledAt g m left d n x p
+      pub lowest : {r : Bool} → q ≡ p → r ≡ absentBelow g m left d n f → r ≡ settledAt g m left d n x p
       unfolding settledAt
-      lowest o = rw (eq-eqb (frame g m n p % 2 ^ bitsTo d) x (sym masked ∙ on), ← at, eq-eqb q p o) refl
+      lowest o a = a ∙ rw (← is, eq-eqb (f % 2 ^ bitsTo d) x (sym masked ∙ on), ← at, eq-eqb q p o) refl
 
 -- ---- a test at each set bit of a word, the lowest first
 
@@ -137,7 +138,7 @@ module _ (good : ℕ → Bool) (w : ℕ) where
     unfolding every
     bits-on z = rw (places-next w o h, ← e, not-false r z) refl
 
-pub settled-places : (g : Geometry) (m : Memory) (left d n x : ℕ)
-    → settledNode g m left d n x ≡ every (settledAt g m left d n x) (setPlaces (m (setAt g n)))
+pub settled-places : (g : Geometry) (m : Memory) (left d n x : ℕ) {set : ℕ} → set ≡ m (setAt g n)
+    → settledNode g m left d n x ≡ every (settledAt g m left d n x) (setPlaces set)
 unfolding settledNode heldPlaces setPlaces
-settled-places g m left d n x = refl
+settled-places g m left d n x e = rw e refl

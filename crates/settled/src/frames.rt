@@ -19,6 +19,11 @@ use nodes::place::found_place;
 use paths::descent::Step;
 use paths::descent::step_from;
 use tree::layout::Geometry;
+use tree::layout::SET;
+use tree::layout::frame_of;
+use tree::layout::next_of;
+use tree::layout::root_of;
+use tree::layout::word_of;
 use tree::path::fanout;
 
 // Does the lookup find a frame in no node of its path below this one?
@@ -57,7 +62,7 @@ fn settled_at(image: &[u64], table: &[u8], g: Geometry, t: Subtree, p: usize) ->
     ensures { λ r. ⌜ r ≡ settledAt g (reads (now (image .entry))) (t .left) (levels - t .left) (t .node) (t .suffix) p ⌝ }
 {
     let n = t.node;
-    let frame = image[64 + 2 * g.slots + 80 * n + 16 + p];
+    let frame = frame_of(image, g, n, p);
     if frame & (t.unit - 1) != t.suffix {
         return false;
     }
@@ -74,7 +79,7 @@ fn settled_node(image: &[u64], table: &[u8], g: Geometry, t: Subtree) -> bool
     ensures { λ r. ⌜ r ≡ settledNode g (reads (now (image .entry))) (t .left) (levels - t .left) (t .node) (t .suffix) ⌝ }
 {
     // The set bits of the places not yet tested.
-    let mut rest = image[64 + 2 * g.slots + 80 * t.node + 2];
+    let mut rest = word_of(image, g, t.node, SET);
     while rest != 0 {
         let p = u64::trailing_zeros(rest);
         if !settled_at(image, table, g, t, p as usize) {
@@ -93,7 +98,7 @@ fn settled_tree(image: &[u64], table: &[u8], g: Geometry, t: Subtree) -> bool
     if !settled_node(image, table, g, t) {
         return false;
     }
-    let next = image[64 + 2 * g.slots + 80 * t.node] as usize;
+    let next = next_of(image, g, t.node) as usize;
     if next == 0 {
         return true;
     }
@@ -138,7 +143,7 @@ pub fn frames_in_place(image: &[u64], g: Geometry, slot: usize) -> bool
         r ≡ every (inPlace editionOne g (reads (now (image .entry))) slot) (tree g (reads (now (image .entry))) slot)
         ⌝ }
 {
-    let root = image[64 + 2 * slot + 1] as usize;
+    let root = root_of(image, g, slot) as usize;
     let table = table();
     let whole = Subtree {
         left: 32,

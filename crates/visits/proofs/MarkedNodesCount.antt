@@ -79,12 +79,12 @@ module _ (g : Geometry) (m : Memory) where
   }
 
   -- a marked node's frames are added
-  pub held-more : {pool : List ℕ} {count n : ℕ} → used pool n ≡ true → m (setAt g n) < 2 ^ 64 → HeldTo pool count n
-      → HeldTo pool (count + ones (m (setAt g n))) (n + 1)
+  pub held-more : {pool : List ℕ} {count n set : ℕ} → set ≡ m (setAt g n) → used pool n ≡ true → set < 2 ^ 64 → HeldTo pool count n
+      → HeldTo pool (count + ones set) (n + 1)
   unfolding heldBelow
-  held-more {n = n} u h t = record {
-    few = omega (arith, t .few, ones-le 64 (m (setAt g n)) h);
-    is = rw (add-one n, u, ← t .is, frames-counted n h) refl;
+  held-more {n = n} {set = set} e u h t = record {
+    few = omega (arith, t .few, ones-le 64 set h);
+    is = rw (add-one n, u, ← t .is, e, frames-counted n (rw e at h)) refl;
   }
 
   pub held-all : {pool : List ℕ} {count n nodes : ℕ} → n ≤ nodes → nodes ≤ n → HeldTo pool count n → count ≡ heldBelow g m pool nodes

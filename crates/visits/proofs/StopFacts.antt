@@ -45,16 +45,19 @@ module _ (g : Geometry) (m : Memory) where
   pub node-facts : (left n : ℕ) → 1 ≤ left → left ≤ 32 → every (formedAt g m) (stops g m left (levels - left) n) ≡ true → WellFormed g m (levels - left) n
   node-facts left n l h e = node-laws g m .facts (levels - left) n .0 (node-formed left n l h e .0)
 
-  -- a node's children are a group inside the pool, a level deeper
-  pub record Linked (left n : ℕ) : Type 0 where
+  -- a node's children, which next names, are a group inside the pool, a level deeper
+  pub record Linked (left next : ℕ) : Type 0 where
     pub above : 2 ≤ left
-    pub inside : m (nextAt g n) - 1 + fanout (levels - left) ≤ g .nodes
-    pub formed : every (formedAt g m) (groupStops g m (left - 1) (levels - (left - 1)) (m (nextAt g n) - 1) (fanout (levels - left))) ≡ true
+    pub inside : next - 1 + fanout (levels - left) ≤ g .nodes
+    pub formed : every (formedAt g m) (groupStops g m (left - 1) (levels - (left - 1)) (next - 1) (fanout (levels - left))) ≡ true
 
-  pub linked-facts : (left n : ℕ) → 1 ≤ left → left ≤ 32 → m (nextAt g n) ≢ 0 → every (formedAt g m) (stops g m left (levels - left) n) ≡ true → Linked left n
-  linked-facts left n l h o e =
-      let t = children-inside (node-facts left n l h e) o in
-      record { above = omega (arith, t .0); inside = t .1; formed = rw (← linked g m (levels - left) n o) (node-formed left n l h e .1) }
+  pub linked-facts : {next : ℕ} (left n : ℕ) → 1 ≤ left → left ≤ 32 → next ≡ m (nextAt g n) → next ≢ 0
+      → every (formedAt g m) (stops g m left (levels - left) n) ≡ true
+      → Linked left next
+  linked-facts left n l h q o e =
+      let z : m (nextAt g n) ≢ 0 = rw q at o in
+      let t = children-inside (node-facts left n l h e) z in
+      rw q (record { above = omega (arith, t .0); inside = t .1; formed = rw (← linked g m (levels - left) n z) (node-formed left n l h e .1) })
 
   -- of a slot's tree
   pub sound-stops : (s : ℕ) → isSoundTree g m s ≡ true → every (formedAt g m) (slotStops g m s) ≡ true

@@ -61,9 +61,9 @@ module _ (g : Geometry) (m : Memory) where
         unfolding walked formedAt
         marked = rw (now, node-first g m left d n h, ← tested, not-false r e, ← there, u) refl
 
-        pub node-leaf : m (nextAt g n) ≡ 0 → some pool' ≡ walk (stops g m left d n) pool
-        node-leaf z = rw (← marked, leaf g m d n z) (group-none (left - 1) (suc d) (m (nextAt g n) - 1) 0 pool' refl)
+        pub node-leaf : {next : ℕ} → next ≡ m (nextAt g n) → next ≡ 0 → some pool' ≡ walk (stops g m left d n) pool
+        node-leaf q z = rw (← marked, leaf g m d n (sym q ∙ z)) (group-none (left - 1) (suc d) (m (nextAt g n) - 1) 0 pool' refl)
 
-        pub node-below : (d' count : ℕ) (o : Option (List ℕ)) → d' ≡ suc d → count ≡ fanout d → (m (nextAt g n) ≡ 0 → ⊥)
-            → o ≡ walk (groupStops g m (left - 1) d' (m (nextAt g n) - 1) count) pool' → o ≡ walk (stops g m left d n) pool
-        node-below d' count o q k z below = rw (← marked, linked g m d n z, ← q, ← k) below
+        pub node-below : {next : ℕ} (d' count : ℕ) (o : Option (List ℕ)) → next ≡ m (nextAt g n) → d' ≡ suc d → count ≡ fanout d → (next ≡ 0 → ⊥)
+            → o ≡ walk (groupStops g m (left - 1) d' (next - 1) count) pool' → o ≡ walk (stops g m left d n) pool
+        node-below d' count o t q k z below = rw (← marked, linked g m d n (λ y. z (t ∙ y)), ← q, ← k, ← t) below

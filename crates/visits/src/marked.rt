@@ -6,6 +6,8 @@ ghost use Rattle.tree.specs.Layout.{Sized, mapWords};
 ghost use Rattle.visits.specs.Marked.{heldBelow, withoutMarked};
 use pool::pool_map::next_used;
 use tree::layout::Geometry;
+use tree::layout::SET;
+use tree::layout::word_of;
 
 // How many frames the nodes marked in a map hold.
 pub fn count_frames(image: &[u64], pool: &[u64], g: Geometry) -> usize
@@ -15,7 +17,7 @@ pub fn count_frames(image: &[u64], pool: &[u64], g: Geometry) -> usize
     let mut count = 0;
     let mut n = next_used(pool, 0, g.nodes);
     while n < g.nodes {
-        count += u64::count_ones(image[64 + 2 * g.slots + 80 * n + 2]) as usize;
+        count += u64::count_ones(word_of(image, g, n, SET)) as usize;
         n = next_used(pool, n + 1, g.nodes);
     }
     count

@@ -11,6 +11,8 @@ use nodes::node::well_formed;
 use pool::pool_map::is_used;
 use pool::pool_map::mark;
 use tree::layout::Geometry;
+use tree::layout::next_of;
+use tree::layout::root_of;
 use tree::path::fanout;
 
 // Marks a node and, levels left, all below it. A node met a second time ends the walk, so it marks each node once.
@@ -30,7 +32,7 @@ fn visit_node(image: &[u64], pool: &mut [u64], g: Geometry, left: u64, n: usize)
         return false;
     }
     mark(pool, n);
-    let next = image[64 + 2 * g.slots + 80 * n] as usize;
+    let next = next_of(image, g, n) as usize;
     if next == 0 {
         return true;
     }
@@ -68,6 +70,6 @@ pub fn visit_slot(image: &[u64], pool: &mut [u64], g: Geometry, slot: usize) -> 
     requires { ⌜ Sized (now image) g × Filled g (reads (now image)) slot × (length (now pool) ≡ mapWords g) ⌝ }
     ensures { λ r. ⌜ kept r (now (pool .exit)) ≡ walkedSlot g (reads (now (image .entry))) slot (now (pool .entry)) ⌝ }
 {
-    let root = image[64 + 2 * slot + 1] as usize;
+    let root = root_of(image, g, slot) as usize;
     visit_node(image, pool, g, 32, root - 1)
 }

@@ -74,12 +74,15 @@ module _ (g : Geometry) (m : Memory) (left : ℕ) where
 
 -- ---- a node with children
 
-module _ (g : Geometry) (m : Memory) (left n : ℕ) (buffer : List ℕ) where
-  -- the frames of the children and of all below them
+module _ (g : Geometry) (m : Memory) (left next : ℕ) where
+  -- the frames of the children, which next names, and of all below them
   abbrev pub below : List ℕ
-  below = ofGroup g m (left - 1) (m (nextAt g n) - 1) (fanout (levels - left))
+  below = ofGroup g m (left - 1) (next - 1) (fanout (levels - left))
 
   -- the node's own frames are written, r of them, and those below are left
-  pub own-written : (list : List ℕ) (r : ℕ) → 1 ≤ left → left ≤ 32 → m (nextAt g n) ≢ 0 → length (ofNode g m left n) ≤ length buffer
-      → r ≡ length (framesIn g m n) → list ≡ listed (framesIn g m n) buffer → Writing (ofNode g m left n) buffer r below list
-  own-written list r l h o roomy p q = rw (p, q) (begun (framesIn g m n) below buffer (linked-frames g m left n l h o) roomy)
+  pub own-written : (n : ℕ) (buffer list : List ℕ) (r : ℕ) → 1 ≤ left → left ≤ 32 → next ≡ m (nextAt g n) → next ≢ 0
+      → length (ofNode g m left n) ≤ length buffer
+      → r ≡ length (framesIn g m n)
+      → list ≡ listed (framesIn g m n) buffer
+      → Writing (ofNode g m left n) buffer r below list
+  own-written n buffer list r l h t o roomy p q = rw (p, q) (begun (framesIn g m n) below buffer (linked-frames g m left n l h t o) roomy)

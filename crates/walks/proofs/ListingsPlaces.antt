@@ -24,10 +24,10 @@ use Rattle.visits.proofs.Places.{places-none, places-next}
 use Rattle.walks.proofs.Listings.{Writing, begun}
 
 -- a node's frames
-pub frames-in : (g : Geometry) (image : List ℕ) (n : ℕ)
-    → framesIn g (reads image) n ≡ wordsAt image (nodeAt g n + 16) (setPlaces (reads image (setAt g n)))
+pub frames-in : (g : Geometry) (image : List ℕ) (n : ℕ) {at set : ℕ} → at ≡ nodeAt g n → set ≡ reads image (setAt g n)
+    → framesIn g (reads image) n ≡ wordsAt image (at + 16) (setPlaces set)
 unfolding framesIn heldPlaces wordsAt setPlaces
-frames-in g image n = refl
+frames-in g image n p q = rw (p, q) refl
 
 -- ---- a word's low set bits, then the others
 

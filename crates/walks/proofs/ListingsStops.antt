@@ -45,13 +45,13 @@ module _ (g : Geometry) (m : Memory) where
   pub own-room : (left n : ℕ) → 1 ≤ left → left ≤ 32 → length (framesIn g m n) ≤ length (framesAt g m (stops g m left (levels - left) n))
   own-room left n l h = rw (node-frames left n l h, length-append (framesIn g m n) _) (omega arith)
 
-  pub leaf-frames : (left n : ℕ) → 1 ≤ left → left ≤ 32 → m (nextAt g n) ≡ 0 → framesAt g m (stops g m left (levels - left) n) ≡ framesIn g m n
-  leaf-frames left n l h z = node-frames left n l h ∙ ap (λ fs. framesIn g m n ++ fs) (group-end _ _ _ _ (leaf g m (levels - left) n z)) ∙ append-nil _
+  pub leaf-frames : {next : ℕ} (left n : ℕ) → 1 ≤ left → left ≤ 32 → next ≡ m (nextAt g n) → next ≡ 0 → framesAt g m (stops g m left (levels - left) n) ≡ framesIn g m n
+  leaf-frames left n l h q z = node-frames left n l h ∙ ap (λ fs. framesIn g m n ++ fs) (group-end _ _ _ _ (leaf g m (levels - left) n (sym q ∙ z))) ∙ append-nil _
 
-  pub linked-frames : (left n : ℕ) → 1 ≤ left → left ≤ 32 → m (nextAt g n) ≢ 0
+  pub linked-frames : {next : ℕ} (left n : ℕ) → 1 ≤ left → left ≤ 32 → next ≡ m (nextAt g n) → next ≢ 0
       → framesAt g m (stops g m left (levels - left) n)
-      ≡ framesIn g m n ++ framesAt g m (groupStops g m (left - 1) (levels - (left - 1)) (m (nextAt g n) - 1) (fanout (levels - left)))
-  linked-frames left n l h o = rw (← linked g m (levels - left) n o) (node-frames left n l h)
+      ≡ framesIn g m n ++ framesAt g m (groupStops g m (left - 1) (levels - (left - 1)) (next - 1) (fanout (levels - left)))
+  linked-frames left n l h q o = rw (q, ← linked g m (levels - left) n (rw q at o)) (node-frames left n l h)
 
   -- of a slot's tree
   pub listing-stops : (s : ℕ) → listing g m s ≡ framesAt g m (slotStops g m s)

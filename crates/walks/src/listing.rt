@@ -14,7 +14,13 @@ ghost use Rattle.visits.specs.Places.{setPlaces, wordsAt};
 ghost use Rattle.visits.specs.Walk.{stops, groupStops, formedAt, framesAt};
 use memory::search::lowest_clear;
 use memory::words::without_bit;
+use tree::layout::FRAMES;
 use tree::layout::Geometry;
+use tree::layout::SET;
+use tree::layout::next_of;
+use tree::layout::node_at;
+use tree::layout::root_of;
+use tree::layout::word_of;
 use tree::path::fanout;
 
 // Copies adjacent words of an image to the start of a list.
@@ -58,15 +64,15 @@ fn list_places(image: &[u64], list: &mut [u64], g: Geometry, n: usize) -> usize
         × (now (list .exit) ≡ listed (framesIn g (reads (now (image .entry))) n) (now (list .entry)))
         ⌝ }
 {
-    let at = 64 + 2 * g.slots + 80 * n;
-    let set = image[at + 2];
+    let set = word_of(image, g, n, SET);
+    let first = node_at(g, n) + FRAMES;
     let low = lowest_clear(set, 64);
     let copied = low as usize;
-    copy_words(image, list, at + 16, copied);
+    copy_words(image, list, first, copied);
     if low == 64 {
         return copied;
     }
-    copied + list_words(image, &mut list[copied..], at + 16, set >> low << low)
+    copied + list_words(image, &mut list[copied..], first, set >> low << low)
 }
 
 // Writes the frames of a node and of all below it, levels left, to the start of a list; answers how many.
@@ -90,7 +96,7 @@ fn list_node(image: &[u64], list: &mut [u64], g: Geometry, left: u64, n: usize) 
         ⌝ }
 {
     let own = list_places(image, list, g, n);
-    let next = image[64 + 2 * g.slots + 80 * n] as usize;
+    let next = next_of(image, g, n) as usize;
     if next == 0 {
         return own;
     }
@@ -155,6 +161,6 @@ pub fn list_slot(image: &[u64], list: &mut [u64], g: Geometry, slot: usize) -> u
         × (now (list .exit) ≡ listed (listing g (reads (now (image .entry))) slot) (now (list .entry)))
         ⌝ }
 {
-    let root = image[64 + 2 * slot + 1] as usize;
+    let root = root_of(image, g, slot) as usize;
     list_node(image, list, g, 32, root - 1)
 }

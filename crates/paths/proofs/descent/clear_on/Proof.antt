@@ -10,13 +10,11 @@ clear-on-spec =
     (λ c. search needs)
     (λ c. search needs)
     (λ c. search needs)
-    (λ c. search needs)
-    (λ c. search needs)
-    (λ c. search needs)
-    (λ c. search needs)
-    (λ c. search needs)
-    (λ c. search needs)
-    (λ c. search needs)
     (λ c κs. search needs)
-    (λ c. found-here (clears _ _) (c .before .before .before .before .enum-told2 .given .1) _ _ (c .before .clear-place .ensures) (c .if1 .taken))
-    (λ c. found-nowhere (clears _ _) (c .before .before .before .before .enum-told2 .given .1) _ _ (c .before .clear-place .ensures) (c .if1 .left)))
+    (λ c κs. search needs)
+    (λ c.
+    let w = c .before .before in
+    found-here (clears _ _) (w .before .enum-told2 .given .1) _ _ (c .before .clear-place .ensures) (rw (w .word-of .ensures) at (c .if1 .taken)))
+    (λ c.
+    let w = c .before .before in
+    found-nowhere (clears _ _) (w .before .enum-told2 .given .1) _ _ (c .before .clear-place .ensures) (rw (w .word-of .ensures) at (c .if1 .left))))

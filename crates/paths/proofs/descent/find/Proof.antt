@@ -59,13 +59,9 @@ find-spec =
     Inv-loop
     μ-loop
     (λ c κs. search needs)
+    (λ c κs. search needs)
     (λ c. search needs)
-    (λ c. search needs)
-    (λ c. search needs)
-    (λ c. search needs)
-    (λ c. search needs)
-    (λ c. search needs)
-    (λ c. ([], (along-root _ _ _ _, found-none (lookups _ _ _))))
+    (λ c. ([], (along-root _ _ _ _ (c .root-of .ensures), found-none (lookups _ _ _))))
     (λ c κs. search needs)
     returns
     (λ c κs. let h = node-inside _ _ _ _ (formed c) in search needs)

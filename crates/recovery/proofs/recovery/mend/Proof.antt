@@ -24,13 +24,14 @@ loop-holds c =
 loop-again : tie.Need-loop-again Inv-loop μ-loop
 loop-again c =
     let t = pool-laws .next-tells _ _ _ _ (c .next-used2 .ensures) (search needs) in
-    let b = c .before in
-    let l = b .before .before .before .before .before .before .loop in (
+    let locate = c .before .before in
+    let held = locate .before .before in
+    let l = held .before .before .before .before .loop in (
       t .within,
       t .is-used,
       mended-past _ _ _ (t .none-before)
-          (⊎-elim (λ w. rw (w .1) (pass-stored _ _ _ (l .n) (l .inv .2) (l .inv .1 (b .before .before .before .before .if1 .taken)) (w .0 .taken)))
-          (λ w. rw (w .1) (pass-equal _ _ _ (l .n) (l .inv .2) (w .0 .left))) (b .if2 .came)),
+          (⊎-elim (λ w. rw (w .2) (pass-stored _ _ _ (l .n) (l .inv .2) (held .word-of .ensures) (locate .word-of2 .ensures) (w .1 .ensures) (l .inv .1 (held .before .before .if1 .taken)) (w .0 .taken)))
+          (λ w. rw (w .1) (pass-equal _ _ _ (l .n) (l .inv .2) (held .word-of .ensures) (locate .word-of2 .ensures) (w .0 .left))) (c .before .if2 .came)),
     )
 
 pub mend-spec : {M : Type 1} → statement M
@@ -41,16 +42,9 @@ mend-spec =
     μ-loop
     (λ c κs. search needs)
     loop-holds
-    (λ c. search needs)
-    (λ c. search needs)
-    (λ c. search needs)
-    (λ c. search needs)
-    (λ c. search needs)
-    (λ c. search needs)
-    (λ c. search needs)
-    (λ c. search needs)
-    (λ c. search needs)
-    (λ c. search needs)
+    (λ c κs. search needs)
+    (λ c κs. search needs)
+    (λ c κs. search needs)
     (λ c. search needs)
     (λ c. search needs)
     (λ c. search needs)

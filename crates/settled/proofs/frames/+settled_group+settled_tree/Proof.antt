@@ -1,3 +1,4 @@
+use mathlib.Core.Path.{_∙_}
 use borrow.Author.Needs.{needs}
 use Prim.Native.Nat.{ℕ, _+_, _-_, _*_, _<_, _≤_, _^_}
 use native.Mathlib.Omega.{arith}
@@ -13,6 +14,7 @@ use Rattle.settled.proofs.frames.+settled_group+settled_tree.Lts-settle
 use Rattle.settled.proofs.frames.settled_tree.Reads as settled-tree
 use Rattle.settled.proofs.frames.settled_tree.Kinds as settled-tree-kinds
 use Rattle.settled.proofs.frames.+settled_group+settled_tree.Lts-settled_tree as settled-tree-lts
+use Rattle.tree.proofs.layout.next_of.Reads as next-of-reads
 use Rattle.tree.proofs.path.fanout.Reads as fanout-reads
 use Rattle.settled.proofs.frames.settled_node.Reads as settled-node-reads
 use Rattle.settled.proofs.frames.+settled_group+settled_tree.{statement}
@@ -49,7 +51,7 @@ settled-group-μ-loop image table g t count own₀ c₀ own c = count - c
 
 -- what the calls in a node's test ask and tell
 abbrev settled-tree-claims : ℕ → settled-tree-lts.Claims
-settled-tree-claims t = (settled-node-reads.Asked, settled-node-reads.Learnt, fanout-reads.Asked, fanout-reads.Learnt, settled-group-below t, settled-group.Post)
+settled-tree-claims t = (settled-node-reads.Asked, settled-node-reads.Learnt, next-of-reads.Asked, next-of-reads.Learnt, fanout-reads.Asked, fanout-reads.Learnt, settled-group-below t, settled-group.Post)
 
 -- the next child's suffix and unit
 units : (t : ℕ) (c : settled-group-lts.In-loop (settled-tree-below t, settled-tree.Post) (settled-group-at t) settled-group.Post settled-group-Inv-loop settled-group-μ-loop)
@@ -57,9 +59,6 @@ units : (t : ℕ) (c : settled-group-lts.In-loop (settled-tree-below t, settled-
     let k = c .before .loop .c in
     (k * a .t .unit + a .t .unit ≤ a .count * a .t .unit) × (a .count * a .t .unit ≤ 2 ^ 61)
 units t c = unit-fits (c .before .before .before .before .args .t .left) _ _ _ (c .loop-test .taken) (c .before .before .before .before .pre .1 .1 .unit)
-
-inside : (t : ℕ) (c : settled-tree-lts.Start (settled-tree-claims t) (settled-tree-at t) settled-tree.Post) → c .args .t .node < c .args .g .nodes
-inside t c = known-facts _ _ (c .pre .1 .1 .formed) .inside
 
 pub +settled-group+settled-tree-spec : {M : Type 1} → statement M
 +settled-group+settled-tree-spec =
@@ -92,33 +91,32 @@ pub +settled-group+settled-tree-spec : {M : Type 1} → statement M
     (λ c κs. search needs)
     (λ c. let formed = c .before .before .before .before .pre .1 .1 .formed in
     own-fails _ _ _ _ _ (formed .some-left) (formed .all-left) (c .before .settled-node .ensures) (c .if1 .taken))
+    (λ c κs. search (needs, known-facts _ _ (c .before .before .before .before .pre .1 .1 .formed) .inside))
+    (λ c. let own = c .before .before in
+    let formed = own .before .before .before .before .pre .1 .1 .formed in
+    leaf-passes _ _ _ _ _ (formed .some-left) (formed .all-left) (own .before .settled-node .ensures) (own .if1 .left) (c .before .next-of .ensures) (c .if2 .taken))
+    (λ c. search (needs, c .before .before .before .before .before .before .before .pre .1 .1 .formed))
     (λ c. search needs)
-    (λ c. search needs)
-    (λ c. search (needs, inside t (c .before .before .before .before .before .before)))
-    (λ c. search (needs, inside t (c .before .before .before .before .before .before)))
-    (λ c. search (needs, inside t (c .before .before .before .before .before .before)))
-    (λ c. search (needs, inside t (c .before .before .before .before .before .before .before)))
-    (λ c. let formed = c .before .before .before .before .before .before .before .before .pre .1 .1 .formed in
-    leaf-passes _ _ _ _ _ (formed .some-left) (formed .all-left) (c .before .before .before .before .before .settled-node .ensures) (c .before .before .before .before .if1 .left) (c .if2 .taken))
-    (λ c. search (needs, c .before .before .before .before .before .before .before .before .before .pre .1 .1 .formed))
-    (λ c. search needs)
-    (λ c. search (needs, c .before .before .before .before .before .before .before .before .before .before .pre .1 .1 .formed))
+    (λ c. search (needs, c .before .before .before .before .before .before .before .before .pre .1 .1 .formed))
     (λ c κs. search needs)
-    (λ c κs. let pre = c .before .before .before .before .before .before .before .before .before .before .before .pre .1 in
-    let linked = c .before .before .before .if2 .left in
+    (λ c κs. let pre = c .before .before .before .before .before .before .before .before .before .pre .1 in
+    let linked = c .before .before .before in
+    let next = linked .before .next-of .ensures in
     let formed = pre .1 .formed in
-    let deep = children-inside (known-facts _ _ formed) linked .0 in (
+    let deep = children-inside (known-facts _ _ formed) (λ z. linked .if2 .left (next ∙ z)) .0 in (
       search needs,
       (
         pre .0,
         record {
-          formed = rw (c .fanout .ensures) (children-formed _ _ formed linked);
+          formed = rw (c .fanout .ensures) (children-formed _ _ formed next (linked .if2 .left));
           unit = unit-below (omega (arith, deep)) (formed .all-left) (c .fanout .ensures) (pre .1 .unit);
         },
         pre .2,
         pre .3,
       ),
     ))
-    (λ c. let known = c .before .before .before .before .before .before .before .before .before .before .before .before .pre .1 .1 in
-    below-passes _ _ _ _ _ (known .formed .some-left) (known .formed .all-left) (c .before .before .before .before .before .before .before .before .before .settled-node .ensures) (c .before .before .before .before .before .before .before .before .if1 .left)
-    (c .before .before .before .before .if2 .left) (c .before .fanout .ensures) (known .unit) (c .settled-group .ensures))
+    (λ c. let linked = c .before .before .before .before in
+    let own = linked .before .before in
+    let known = own .before .before .before .before .pre .1 .1 in
+    below-passes _ _ _ _ _ (known .formed .some-left) (known .formed .all-left) (own .before .settled-node .ensures) (own .if1 .left)
+    (linked .before .next-of .ensures) (linked .if2 .left) (c .before .fanout .ensures) (known .unit) (c .settled-group .ensures))

@@ -23,9 +23,6 @@ Inv-loop image table g t rest₀ rest =
 abbrev μ-loop : tie.MeasureT-loop
 μ-loop image table g t rest₀ rest = length (setPlaces rest)
 
-inside : (c : tie.Start Inv-loop μ-loop) → c .args .t .node < c .args .g .nodes
-inside c = known-facts _ _ (c .pre .1 .formed) .inside
-
 -- the lowest set bit is a place
 low : (c : tie.In-loop Inv-loop μ-loop) → trailingZeros 64 (c .before .loop .rest) < 64
 low c = lowest-in _ (c .loop-test .taken) (c .before .loop .inv .0)
@@ -36,14 +33,8 @@ settled-node-spec =
     (tie.spec
     Inv-loop
     μ-loop
-    (λ c. search needs)
-    (λ c. search needs)
-    (λ c. search (needs, inside (c .before .before .before .before)))
-    (λ c. search (needs, inside (c .before .before .before .before)))
-    (λ c. search (needs, inside (c .before .before .before .before)))
-    (λ c. search (needs, inside (c .before .before .before .before)))
-    (λ c. search (needs, inside (c .before .before .before .before .before)))
-    (λ c. (c .shared-slice-known3 .given _ .fits, sym (settled-places _ _ _ _ _ _)))
+    (λ c κs. search (needs, known-facts _ _ (c .before .before .pre .1 .formed) .inside))
+    (λ c. (c .word-of .ok, sym (settled-places _ _ _ _ _ _ (c .word-of .ensures))))
     (λ c. search (needs, low c))
     (λ c κs. search (needs, low c))
     (λ c. let l = c .before .before .before .loop in

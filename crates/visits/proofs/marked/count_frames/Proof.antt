@@ -5,7 +5,6 @@ use native.Mathlib.Omega.{arith}
 use lib.Count.{ones-le}
 use borrow.Author.Needs.{needs}
 use Rattle.memory.specs.Words.{reads as readsWords}
-use Rattle.tree.specs.Layout.{setAt}
 use Rattle.tree.specs.Pool.{used}
 use Rattle.tree.proofs.Pool.{pool-laws}
 use Rattle.visits.proofs.MarkedNodesCount.{HeldTo, held-none, held-past, held-more, held-all}
@@ -23,23 +22,12 @@ loop-holds c =
     let t = pool-laws .next-tells _ _ _ _ (c .next-used .ensures) (omega arith) in
     (t .within, t .is-used, held-past _ _ (t .none-before) (held-none _ _ _))
 
-cast-count : tie.Need-cast-count Inv-loop μ-loop
-cast-count c =
-    let l = c .before .before .before .before in
-    let at = setAt (l .before .before .before .before .args .g) (l .loop .n) in
-    record { fits = omega (arith, ones-le 64 _ (c .shared-slice-known3 .given at .fits)) }
-
-add-count : tie.Need-add-count-4 Inv-loop μ-loop
-add-count c =
-    let l = c .before .before .before .before in
-    let at = setAt (l .before .before .before .before .args .g) (l .loop .n) in
-    record { fits = omega (arith, l .loop .inv .2 .few, ones-le 64 _ (c .shared-slice-known3 .given at .fits)) }
-
 loop-again : tie.Need-loop-again Inv-loop μ-loop
 loop-again c =
     let t = pool-laws .next-tells _ _ _ _ (c .next-used2 .ensures) (search needs) in
-    let l = c .before .before .before .before .before .loop in
-    (t .within, t .is-used, held-past _ _ (t .none-before) (held-more _ _ (l .inv .1 (c .before .before .before .if1 .taken)) (c .before .shared-slice-known3 .given _ .fits) (l .inv .2)))
+    let w = c .before .word-of in
+    let l = c .before .before .before .before .loop in
+    (t .within, t .is-used, held-past _ _ (t .none-before) (held-more _ _ (w .ensures) (l .inv .1 (c .before .before .if1 .taken)) (w .ok) (l .inv .2)))
 
 pub count-frames-spec : {M : Type 1} → statement M
 count-frames-spec =
@@ -49,15 +37,9 @@ count-frames-spec =
     μ-loop
     (λ c κs. search needs)
     loop-holds
-    (λ c. search needs)
-    (λ c. search needs)
-    (λ c. search needs)
-    (λ c. search needs)
-    (λ c. search needs)
-    (λ c. search needs)
-    (λ c. search needs)
-    cast-count
-    add-count
+    (λ c κs. search needs)
+    (λ c. record { fits = omega (arith, ones-le 64 _ (c .word-of .ok)) })
+    (λ c. record { fits = omega (arith, c .before .before .before .loop .inv .2 .few, ones-le 64 _ (c .word-of .ok)) })
     (λ c. search needs)
     (λ c κs. search needs)
     (λ c. omega (arith, pool-laws .next-tells _ _ _ _ (c .next-used2 .ensures) (search needs) .none-before .onward))

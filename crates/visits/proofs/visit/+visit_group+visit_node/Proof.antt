@@ -17,6 +17,7 @@ use Rattle.visits.proofs.visit.+visit_group+visit_node.Lts-visit_group 
 use Rattle.visits.proofs.visit.visit_node.Reads as visit-node
 use Rattle.visits.proofs.visit.visit_node.Kinds as visit-node-kinds
 use Rattle.visits.proofs.visit.+visit_group+visit_node.Lts-visit_node as visit-node-lts
+use Rattle.tree.proofs.layout.next_of.Reads as next-of-reads
 use Rattle.tree.proofs.path.fanout.Reads as fanout-reads
 use Rattle.pool.proofs.pool_map.is_used.Reads as is-used-reads
 use Rattle.pool.proofs.pool_map.mark.Reads as mark-reads
@@ -62,6 +63,8 @@ visit-node-claims t = (
   is-used-reads.Learnt,
   mark-reads.Asked,
   mark-reads.Learnt,
+  next-of-reads.Asked,
+  next-of-reads.Learnt,
   fanout-reads.Asked,
   fanout-reads.Learnt,
   visit-group-below t,
@@ -115,28 +118,23 @@ pub +visit-group+visit-node-spec : {M : Type 1} → statement M
     (λ c. search needs)
     (λ c. node-met _ _ _ _ _ _ (search needs) _ (c .before .before .before .before .well-formed .ensures) (c .before .before .before .if1 .left) _ (c .before .is-used .ensures) (c .if2 .taken))
     (λ c κs. let w = facts t (c .before .before .before .before) in search needs)
+    (λ c κs. let w = facts t (c .before .before .before .before .before .before .before) in search needs)
     (λ c. search needs)
-    (λ c. search needs)
-    (λ c. let w = facts t (c .before .before .before .before .before .before .before .before) in search needs)
-    (λ c. let w = facts t (c .before .before .before .before .before .before .before .before) in search needs)
-    (λ c. let w = facts t (c .before .before .before .before .before .before .before .before) in search needs)
-    (λ c. let w = facts t (c .before .before .before .before .before .before .before .before .before) in search needs)
-    (λ c. search needs)
-    (λ c. let marks = c .before .before .before .before .before in
+    (λ c. let marks = c .before .before .before .before in
     let new = marks .before .before in
     let passed = new .before .before .before in
-    node-leaf _ _ _ _ _ _ (search needs) _ (passed .before .well-formed .ensures) (passed .if1 .left) _ (new .before .is-used .ensures) (new .if2 .left) _ (marks .mark .ensures) (c .if3 .taken))
+    node-leaf _ _ _ _ _ _ (search needs) _ (passed .before .well-formed .ensures) (passed .if1 .left) _ (new .before .is-used .ensures) (new .if2 .left) _ (marks .mark .ensures) (c .before .next-of .ensures) (c .if3 .taken))
     (λ c. search needs)
     (λ c. search needs)
     (λ c κs. search needs)
     (λ c κs. let linked = c .before .before in
-    let passed = linked .before .before .before .before .before .before .before .before .before .before in
-    let k = children-inside (facts t passed) (linked .if3 .left) in
+    let passed = linked .before .before .before .before .before .before .before .before .before in
+    let k = children-inside (facts t passed) (λ z. linked .if3 .left (linked .before .next-of .ensures ∙ z)) in
     search needs)
     (λ c. search needs)
     (λ c. let linked = c .before .before .before .before .before in
-    let marks = linked .before .before .before .before .before in
+    let marks = linked .before .before .before .before in
     let new = marks .before .before in
     let passed = new .before .before .before in
     let a = passed .before .before .before .before .args in
-    node-below (a .g) (reads (a .image .now)) _ _ _ _ (search needs) _ (passed .before .well-formed .ensures) (passed .if1 .left) _ (new .before .is-used .ensures) (new .if2 .left) _ (marks .mark .ensures) _ _ _ (omega arith) (c .before .before .before .fanout .ensures) (linked .if3 .left) (c .before .before .visit-group .ensures))
+    node-below (a .g) (reads (a .image .now)) _ _ _ _ (search needs) _ (passed .before .well-formed .ensures) (passed .if1 .left) _ (new .before .is-used .ensures) (new .if2 .left) _ (marks .mark .ensures) _ _ _ (linked .before .next-of .ensures) (omega arith) (c .before .before .before .fanout .ensures) (linked .if3 .left) (c .before .before .visit-group .ensures))

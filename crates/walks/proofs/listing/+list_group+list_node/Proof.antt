@@ -16,6 +16,7 @@ use Rattle.walks.proofs.listing.+list_group+list_node.Lts-list_group as
 use Rattle.walks.proofs.listing.list_node.Reads as list-node
 use Rattle.walks.proofs.listing.list_node.Kinds as list-node-kinds
 use Rattle.walks.proofs.listing.+list_group+list_node.Lts-list_node as list-node-lts
+use Rattle.tree.proofs.layout.next_of.Reads as next-of-reads
 use Rattle.tree.proofs.path.fanout.Reads as fanout-reads
 use Rattle.walks.proofs.listing.list_places.Reads as list-places-reads
 use Rattle.walks.proofs.listing.+list_group+list_node.{statement}
@@ -50,7 +51,7 @@ list-group-μ-loop image list₀ g left start count written₀ c₀ list written
 
 -- what the calls in a node's listing ask and tell
 abbrev list-node-claims : ℕ → list-node-lts.Claims
-list-node-claims t = (list-places-reads.Asked, list-places-reads.Learnt, fanout-reads.Asked, fanout-reads.Learnt, list-group-below t, list-group.Post)
+list-node-claims t = (list-places-reads.Asked, list-places-reads.Learnt, next-of-reads.Asked, next-of-reads.Learnt, fanout-reads.Asked, fanout-reads.Learnt, list-group-below t, list-group.Post)
 
 -- the node is well formed
 facts : (t : ℕ) (c : list-node-lts.Start (list-node-claims t) (list-node-at t) list-node.Post)
@@ -59,14 +60,14 @@ facts t c = node-facts _ _ _ _ (c .pre .1 .1) (c .pre .1 .2) (c .pre .1 .3)
 
 -- its own frames are written, and those below are left
 written : (t : ℕ) (c : list-node-lts.Else1 (list-node-claims t) (list-node-at t) list-node.Post)
-    → let a = c .before .before .before .before .before .before .before .before .before .args in
-    let call = c .before .before .before .before .before .list-places in
+    → let a = c .before .before .before .before .before .before .before .before .args in
+    let call = c .before .before .before .before .list-places in
     let m = reads (a .image .now) in
-    Writing (ofNode (a .g) m (a .left) (a .n)) (a .list .now) (call .result) (below (a .g) m (a .left) (a .n) (a .list .now)) (call .last .1 .0)
+    Writing (ofNode (a .g) m (a .left) (a .n)) (a .list .now) (call .result) (below (a .g) m (a .left) (c .before .next-of .result)) (call .last .1 .0)
 written t c =
-    let pre = c .before .before .before .before .before .before .before .before .before .pre .1 in
-    let call = c .before .before .before .before .before .list-places in
-    own-written _ _ _ _ _ _ _ (pre .1) (pre .2) (c .if1 .left) (pre .4) (call .ensures .0) (call .ensures .1)
+    let pre = c .before .before .before .before .before .before .before .before .pre .1 in
+    let call = c .before .before .before .before .list-places in
+    own-written _ _ _ _ _ _ _ _ (pre .1) (pre .2) (c .before .next-of .ensures) (c .if1 .left) (pre .4) (call .ensures .0) (call .ensures .1)
 
 pub +list-group+list-node-spec : {M : Type 1} → statement M
 +list-group+list-node-spec = close μ-list-group μ-list-node (λ t. list-group-lts.spec (
@@ -101,16 +102,11 @@ pub +list-group+list-node-spec : {M : Type 1} → statement M
     let pre = c .before .before .before .pre .1 in
     let room = own-room (a .g) (reads (a .image .now)) (a .left) (a .n) (pre .1) (pre .2) in
     (pre .0, facts t (c .before .before .before) .inside, omega (arith, room, pre .4)))
+    (λ c κs. search (needs, facts t (c .before .before .before .before .before .before) .inside))
     (λ c. search needs)
-    (λ c. search needs)
-    (λ c. search (needs, facts t (c .before .before .before .before .before .before .before) .inside))
-    (λ c. search (needs, facts t (c .before .before .before .before .before .before .before) .inside))
-    (λ c. search (needs, facts t (c .before .before .before .before .before .before .before) .inside))
-    (λ c. search (needs, facts t (c .before .before .before .before .before .before .before .before) .inside))
-    (λ c. search needs)
-    (λ c. let a = c .before .before .before .before .before .before .before .before .before .args in
-    let pre = c .before .before .before .before .before .before .before .before .before .pre .1 in
-    rw (leaf-frames _ _ (a .left) (a .n) (pre .1) (pre .2) (c .if1 .taken)) (c .before .before .before .before .before .list-places .ensures))
+    (λ c. let a = c .before .before .before .before .before .before .before .before .args in
+    let pre = c .before .before .before .before .before .before .before .before .pre .1 in
+    rw (leaf-frames _ _ (a .left) (a .n) (pre .1) (pre .2) (c .before .next-of .ensures) (c .if1 .taken)) (c .before .before .before .before .list-places .ensures))
     (λ c. search (needs, written t c))
     (λ c. search (needs, written t c))
     (λ c. search (needs, written t c))
@@ -119,14 +115,14 @@ pub +list-group+list-node-spec : {M : Type 1} → statement M
     (λ c. search needs)
     (λ c. search needs)
     (λ c κs. search needs)
-    (λ c κs. let a = c .before .before .before .before .before .before .before .before .before .before .before .args in
-    let pre = c .before .before .before .before .before .before .before .before .before .before .before .pre .1 in
-    let link = linked-facts _ _ (a .left) (a .n) (pre .1) (pre .2) (c .before .before .if1 .left) (pre .3) in
+    (λ c κs. let a = c .before .before .before .before .before .before .before .before .before .before .args in
+    let pre = c .before .before .before .before .before .before .before .before .before .before .pre .1 in
+    let link = linked-facts _ _ (a .left) (a .n) (pre .1) (pre .2) (c .before .before .before .next-of .ensures) (c .before .before .if1 .left) (pre .3) in
     let room = rest-fits (pre .4) (written t (c .before .before)) in
     rw (c .fanout .ensures)
     (search needs, (pre .0, omega (arith, link .above), omega (arith, pre .2), omega (arith, link .inside, pre .0 .nodes-limit), link .formed, room .1)))
-    (λ c. let room = rest-fits (c .before .before .before .before .before .before .before .before .before .before .before .before .before .before .pre .1 .4) (written t (c .before .before .before .before .before)) in
+    (λ c. let room = rest-fits (c .before .before .before .before .before .before .before .before .before .before .before .before .before .pre .1 .4) (written t (c .before .before .before .before .before)) in
     search (needs, room .0, rw (c .before .before .before .fanout .ensures) at (c .before .before .list-group .ensures .0)))
     (λ c. search needs)
     (λ c. let e = rw (c .before .before .before .fanout .ensures) at (c .before .before .list-group .ensures) in
-    rest-written _ _ (c .before .before .before .before .before .before .before .before .before .before .before .before .before .before .pre .1 .4) (written t (c .before .before .before .before .before)) (e .0) (e .1))
+    rest-written _ _ (c .before .before .before .before .before .before .before .before .before .before .before .before .before .pre .1 .4) (written t (c .before .before .before .before .before)) (e .0) (e .1))

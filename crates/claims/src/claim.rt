@@ -26,6 +26,7 @@ use book::HEADS;
 use book::Head;
 use book::HeadState;
 use book::Target;
+use nodes::reels::slot_of;
 use operations::answer::HeadAnswer;
 use operations::answer::Refusal;
 use operations::checks::Buffer;
@@ -33,6 +34,10 @@ use operations::checks::Verdict;
 use operations::checks::checks;
 use operations::heads::is_busy;
 use operations::heads::state_in;
+use paths::descent::Placement;
+use paths::descent::room_for;
+use pool::pool_map::free_run;
+use pool::pool_map::mark_run;
 use rooms::room_script::locate_word;
 use rooms::room_script::put_branch_out;
 use rooms::room_script::put_locate;
@@ -42,11 +47,6 @@ use tree::path::Room;
 use tree::path::Spot;
 use tree::path::child;
 use tree::path::fanout;
-use pool::pool_map::free_run;
-use pool::pool_map::mark_run;
-use nodes::reels::slot_of;
-use paths::descent::Placement;
-use paths::descent::room_for;
 
 // Whether a claim may go on.
 pub enum Admission {

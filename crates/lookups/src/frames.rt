@@ -12,19 +12,19 @@ ghost use Rattle.operations.specs.HeadLists.{headsIn};
 ghost use Rattle.operations.specs.Ends.{buffers, noBuffers, state, ended, ends};
 use book::HEADS;
 use book::Head;
+use nodes::reels::slot_of;
 use operations::answer::Answer;
 use operations::answer::Refusal;
 use operations::checks::Buffer;
 use operations::checks::Verdict;
 use operations::checks::checks;
 use operations::heads::is_busy;
+use paths::descent::Found;
+use paths::descent::find;
 use tree::layout::Geometry;
 use tree::path::Spot;
 use tree::persistent::put_fenced_pair;
 use tree::persistent::without_bit;
-use nodes::reels::slot_of;
-use paths::descent::Found;
-use paths::descent::find;
 
 // Does a reel hold a frame? The count is 1 or 0.
 pub fn has(image: &[u64], reel: u64, frame: u64) -> Answer

@@ -6,13 +6,13 @@ ghost use lib.ListN.{length};
 ghost use Rattle.book.specs.State.{query, list as list-reel};
 ghost use Rattle.operations.specs.Answers.{answerOf, countOf};
 ghost use Rattle.operations.specs.Ends.{buffers, state, ended, ends};
+use nodes::reels::slot_of;
 use operations::answer::Answer;
 use operations::answer::Refusal;
 use operations::checks::Buffer;
 use operations::checks::Verdict;
 use operations::checks::checks;
 use pool::pool_map::clear_map;
-use nodes::reels::slot_of;
 use walks::trees::Listing;
 use walks::trees::list_tree;
 

@@ -8,18 +8,18 @@ ghost use Rattle.book.specs.Perform.{openScript};
 ghost use Rattle.book.specs.State.{openReel};
 ghost use Rattle.operations.specs.Answers.{answerOf, countOf};
 ghost use Rattle.operations.specs.Ends.{buffers, state, ended, ends};
+use nodes::reels::empty_slot;
+use nodes::reels::slot_of;
 use operations::answer::Answer;
 use operations::answer::Refusal;
 use operations::checks::Buffer;
 use operations::checks::Verdict;
 use operations::checks::checks;
 use operations::node_script::put_node;
-use tree::layout::Geometry;
-use tree::persistent::put_fenced_pair;
 use pool::pool_map::free_node;
 use pool::pool_map::mark;
-use nodes::reels::empty_slot;
-use nodes::reels::slot_of;
+use tree::layout::Geometry;
+use tree::persistent::put_fenced_pair;
 
 // The root node and the reel number, then the root.
 fn put_open(script: &mut [u64], g: Geometry, slot: usize, n: usize, reel: u64)

@@ -9,15 +9,15 @@ ghost use Rattle.operations.specs.HeadLists.{headsIn};
 ghost use Rattle.operations.specs.Ends.{buffers, state, ended, ends};
 use book::HEADS;
 use book::Head;
+use nodes::reels::slot_of;
 use operations::answer::Answer;
 use operations::answer::Refusal;
 use operations::checks::Buffer;
 use operations::checks::Verdict;
 use operations::checks::checks;
 use operations::heads::is_busy;
-use tree::persistent::put_fenced;
 use pool::pool_map::clear_map;
-use nodes::reels::slot_of;
+use tree::persistent::put_fenced;
 use walks::trees::free_tree;
 
 // Retire a reel: its root becomes 0. Past the checks the scratch map is all 0 in the end.

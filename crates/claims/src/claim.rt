@@ -38,11 +38,12 @@ use paths::descent::Placement;
 use paths::descent::room_for;
 use pool::pool_map::free_run;
 use pool::pool_map::mark_run;
-use rooms::room_script::locate_word;
 use rooms::room_script::put_branch_out;
 use rooms::room_script::put_locate;
 use rooms::room_script::put_scale_up;
 use tree::layout::Geometry;
+use tree::layout::LOCATE;
+use tree::layout::word_of;
 use tree::path::Room;
 use tree::path::Spot;
 use tree::path::child;
@@ -150,14 +151,14 @@ fn take_room(
 {
     match room {
         Room::Clear(t) => {
-            put_locate(script, g, t, locate_word(image, g, t.node));
+            put_locate(script, g, t, word_of(image, g, t.node, LOCATE));
             claimed(4, slot, t, frame)
         }
         Room::ScaleUp { node, size } => {
             let place = size as usize;
             let t = Spot { node, place };
             put_scale_up(script, g, node, size);
-            put_locate(&mut script[4..], g, t, locate_word(image, g, node));
+            put_locate(&mut script[4..], g, t, word_of(image, g, node, LOCATE));
             claimed(8, slot, t, frame)
         }
         Room::BranchOut { parent, depth } => {

@@ -16,6 +16,7 @@ use pool::pool_map::clear_map;
 use tree::layout::Geometry;
 use tree::layout::bad_image;
 use tree::layout::map_words;
+use tree::layout::root_at;
 
 // Words 0 to 63: edition, R, N, and zeros.
 fn put_header(image: &mut [u64], g: Geometry)
@@ -46,7 +47,7 @@ fn clear_roots(image: &mut [u64], g: Geometry)
 {
     let mut s = 0;
     while s < g.slots {
-        image[64 + 2 * s + 1] = 0;
+        image[root_at(s)] = 0;
         s += 1;
     }
 }

@@ -22,6 +22,10 @@ use operations::heads::is_busy;
 use paths::descent::Found;
 use paths::descent::find;
 use tree::layout::Geometry;
+use tree::layout::LOCATE;
+use tree::layout::SET;
+use tree::layout::node_at;
+use tree::layout::word_of;
 use tree::path::Spot;
 use tree::persistent::put_fenced_pair;
 use tree::persistent::without_bit;
@@ -56,14 +60,14 @@ fn put_remove(image: &[u64], g: Geometry, script: &mut [u64], t: Spot)
         now (script .exit) ≡ written (segmented (removeScript g (reads (now (image .entry))) t)) (now (script .entry))
         ⌝ }
 {
-    let at = 64 + 2 * g.slots + 80 * t.node;
+    let at = node_at(g, t.node);
     let place = t.place as u32;
     put_fenced_pair(
         script,
-        (at + 2) as u64,
-        without_bit(image[at + 2], place),
-        (at + 1) as u64,
-        without_bit(image[at + 1], place),
+        (at + SET) as u64,
+        without_bit(word_of(image, g, t.node, SET), place),
+        (at + LOCATE) as u64,
+        without_bit(word_of(image, g, t.node, LOCATE), place),
     );
 }
 

@@ -19,6 +19,8 @@ use operations::node_script::put_node;
 use pool::pool_map::free_node;
 use pool::pool_map::mark;
 use tree::layout::Geometry;
+use tree::layout::reel_at;
+use tree::layout::root_at;
 use tree::persistent::put_fenced_pair;
 
 // The root node and the reel number, then the root.
@@ -27,8 +29,9 @@ fn put_open(script: &mut [u64], g: Geometry, slot: usize, n: usize, reel: u64)
     ensures { λ _. ⌜ now (script .exit) ≡ written (segmented (openScript g slot n reel)) (now (script .entry)) ⌝ }
 {
     put_node(script, g, n, 0, 16);
-    let at = (64 + 2 * slot) as u64;
-    put_fenced_pair(&mut script[10..], at, reel, at + 1, (n + 1) as u64);
+    let number = reel_at(slot) as u64;
+    let root = root_at(slot) as u64;
+    put_fenced_pair(&mut script[10..], number, reel, root, (n + 1) as u64);
 }
 
 // Open a reel: the lowest empty slot, and the lowest free node as its root.

@@ -17,6 +17,7 @@ use operations::checks::Verdict;
 use operations::checks::checks;
 use operations::heads::is_busy;
 use pool::pool_map::clear_map;
+use tree::layout::root_at;
 use tree::persistent::put_fenced;
 use walks::trees::free_tree;
 
@@ -60,6 +61,6 @@ pub fn retire(
     if !free_tree(image, pool, scratch, g, slot) {
         return Answer::Refused(Refusal::Malformed);
     }
-    put_fenced(script, (64 + 2 * slot + 1) as u64, 0);
+    put_fenced(script, root_at(slot) as u64, 0);
     Answer::Done(4)
 }

@@ -3,25 +3,20 @@ ghost use mathlib.Core.Path.{_≡_};
 ghost use mathlib.Core.List.{[], _∷_, flatMap};
 ghost use Prim.Native.Nat.{suc, _+_, _*_, _≤_, _<_};
 ghost use lib.ListN.{length};
-ghost use Rattle.tree.specs.Memory.{reads, withBit, stores, segmented, written};
-ghost use Rattle.tree.specs.Layout.{Sized, nextAt, locateAt, sizeAt};
+ghost use Rattle.tree.specs.Memory.{withBit, stores, segmented, written};
+ghost use Rattle.tree.specs.Layout.{nextAt, locateAt, sizeAt};
 ghost use Rattle.tree.specs.Lists.{range};
 ghost use Rattle.tree.specs.Path.{fanout};
 ghost use Rattle.book.specs.Perform.{newNode};
 use operations::node_script::put_node;
 use tree::layout::Geometry;
+use tree::layout::LOCATE;
+use tree::layout::SIZE;
+use tree::layout::node_at;
 use tree::path::Spot;
 use tree::persistent::put_barrier;
 use tree::persistent::put_fenced;
 use tree::persistent::with_bit;
-
-// A node's locate word.
-pub fn locate_word(image: &[u64], g: Geometry, node: usize) -> u64
-    requires { ⌜ Sized (now image) g × (node < g .nodes) ⌝ }
-    ensures { λ r. ⌜ r ≡ reads (now (image .entry)) (locateAt g node) ⌝ }
-{
-    image[64 + 2 * g.slots + 80 * node + 1]
-}
 
 // The store that takes a place: the node's locate word, as it is by then, with the place's bit. Every claim's script ends
 // in it, so where room is made first, the rest of the script is lent on to this writer.
@@ -32,7 +27,7 @@ pub fn put_locate(script: &mut [u64], g: Geometry, t: Spot, locate: u64)
         ≡ written (segmented (((locateAt g (t .node), withBit locate (t .place)) ∷ []) ∷ [])) (now (script .entry))
         ⌝ }
 {
-    let at = (64 + 2 * g.slots + 80 * t.node + 1) as u64;
+    let at = (node_at(g, t.node) + LOCATE) as u64;
     put_fenced(script, at, with_bit(locate, t.place as u32));
 }
 
@@ -41,7 +36,7 @@ pub fn put_scale_up(script: &mut [u64], g: Geometry, node: usize, size: u64)
     requires { ⌜ (4 ≤ length (now script)) × (g .slots ≤ 4096) × (node < 65536) × (size < 64) ⌝ }
     ensures { λ _. ⌜ now (script .exit) ≡ written (segmented (((sizeAt g node, 2 * size) ∷ []) ∷ [])) (now (script .entry)) ⌝ }
 {
-    let at = (64 + 2 * g.slots + 80 * node + 4) as u64;
+    let at = (node_at(g, node) + SIZE) as u64;
     put_fenced(script, at, 2 * size);
 }
 
@@ -84,7 +79,7 @@ pub fn put_branch_out(
         ((nextAt g parent, start + 1) ∷ []) ∷ [])) (now (script .entry))
         ⌝ }
 {
-    let at = (64 + 2 * g.slots + 80 * parent) as u64;
+    let at = node_at(g, parent) as u64;
     put_nodes(script, g, start, count, depth + 1);
     put_barrier(&mut script[10 * count..]);
     put_fenced(&mut script[10 * count + 2..], at, (start + 1) as u64);

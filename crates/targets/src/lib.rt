@@ -25,7 +25,14 @@ use operations::checks::Buffer;
 use operations::checks::Verdict;
 use operations::checks::checks;
 use operations::heads::state_in;
+use tree::layout::FINGERPRINTS;
+use tree::layout::FRAMES;
 use tree::layout::Geometry;
+use tree::layout::LOCATE;
+use tree::layout::SET;
+use tree::layout::fingerprints_of;
+use tree::layout::node_at;
+use tree::layout::word_of;
 use tree::persistent::put_fenced;
 use tree::persistent::put_fenced_pair;
 use tree::persistent::with_bit;
@@ -47,15 +54,15 @@ fn put_fill(image: &[u64], g: Geometry, script: &mut [u64], t: Target)
         (now (script .entry))
         ⌝ }
 {
-    let at = 64 + 2 * g.slots + 80 * (t.node as usize);
+    let node = t.node as usize;
     let place = t.place as usize;
-    let prints = at + 8 + place / 8;
+    let at = node_at(g, node);
     put_fenced_pair(
         script,
-        (at + 16 + place) as u64,
+        (at + FRAMES + place) as u64,
         t.frame,
-        prints as u64,
-        fingerprint_word(image[prints], place, t.frame),
+        (at + FINGERPRINTS + place / 8) as u64,
+        fingerprint_word(fingerprints_of(image, g, node, place / 8), place, t.frame),
     );
 }
 
@@ -68,8 +75,10 @@ fn put_commit(image: &[u64], g: Geometry, script: &mut [u64], t: Target)
         (now (script .entry))
         ⌝ }
 {
-    let at = 64 + 2 * g.slots + 80 * (t.node as usize) + 2;
-    put_fenced(script, at as u64, with_bit(image[at], t.place as u32));
+    let node = t.node as usize;
+    let at = (node_at(g, node) + SET) as u64;
+    let bits = with_bit(word_of(image, g, node, SET), t.place as u32);
+    put_fenced(script, at, bits);
 }
 
 // Abandon's script: the locate word without it.
@@ -81,8 +90,10 @@ fn put_abandon(image: &[u64], g: Geometry, script: &mut [u64], t: Target)
         (now (script .entry))
         ⌝ }
 {
-    let at = 64 + 2 * g.slots + 80 * (t.node as usize) + 1;
-    put_fenced(script, at as u64, without_bit(image[at], t.place as u32));
+    let node = t.node as usize;
+    let at = (node_at(g, node) + LOCATE) as u64;
+    let bits = without_bit(word_of(image, g, node, LOCATE), t.place as u32);
+    put_fenced(script, at, bits);
 }
 
 pub fn fill(image: &[u64], heads: [Head; HEADS], script: &mut [u64], head: u64) -> HeadAnswer

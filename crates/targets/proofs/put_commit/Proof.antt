@@ -4,19 +4,20 @@ use Rattle.targets.proofs.put_commit.Statement.{statement}
 use Rattle.targets.proofs.put_commit.Tie as tie
 
 returns : tie.Need-returns
-returns c = rw (← c .before .before .before .with-bit .ensures) (fenced-written _ _ _ (c .before .before .put-fenced .ensures))
+returns c =
+    let put = c .before .before in
+    let bits = put .before .before in
+    let read = bits .before .before in
+    rw (← read .word-of .ensures, ← bits .with-bit .ensures, ← read .before .node-at .ensures)
+    (fenced-written _ _ _ (put .put-fenced .ensures))
 
 pub put-commit-spec : {M : Type 1} → statement M
 put-commit-spec =
     tie.close
     (tie.spec
+    (λ c κs. search needs)
     (λ c. search needs)
-    (λ c. search needs)
-    (λ c. search needs)
-    (λ c. search needs)
-    (λ c. search needs)
-    (λ c. search needs)
-    (λ c. search needs)
+    (λ c κs. search needs)
     (λ c. search needs)
     (λ c κs. search needs)
     (λ c κs. search needs)

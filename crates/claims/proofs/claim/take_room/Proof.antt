@@ -29,7 +29,7 @@ returns c =
     let told = put .before .before .before .before in
     let a = told .before .before .before .before .before .args in
     clear-taken (a .g) _ (a .slot) (a .frame) (a .start) (a .room) (a .pool .now) (a .script .now) (c .claimed .result) _ _
-    (put .put-locate .last .0) (told .room .given .1) (c .claimed .ensures) (put .before .locate-word .ensures) (put .put-locate .ensures)
+    (put .put-locate .last .0) (told .room .given .1) (c .claimed .ensures) (put .before .word-of .ensures) (put .put-locate .ensures)
 
 returns-2 : tie.Need-returns-2
 returns-2 c =
@@ -38,7 +38,7 @@ returns-2 c =
     let told = sized .before .before .before in
     let a = told .before .before .before .before .before .args in
     scale-taken (a .g) _ (a .slot) (a .frame) (a .start) (a .room) (a .pool .now) (a .script .now) (c .claimed2 .result) _ _ _
-    (sized .put-scale-up .last .0) (put .put-locate2 .last .0) (told .room2 .given .1) (c .claimed2 .ensures) (put .before .locate-word2 .ensures)
+    (sized .put-scale-up .last .0) (put .put-locate2 .last .0) (told .room2 .given .1) (c .claimed2 .ensures) (put .before .word-of2 .ensures)
     (sized .put-scale-up .ensures) (put .put-locate2 .ensures)
 
 returns-3 : tie.Need-returns-3

@@ -20,7 +20,7 @@ returns : tie.Need-returns Inv-loop μ-loop
 unfolding upTo
 returns c =
     let l = c .before .before .loop in
-    let a = c .before .before .before .args in
+    let a = c .before .before .before .before .args in
     let e : l .s ≡ a .g .slots = omega arith in
     l .inv .2 ∙ ap (λ (n : ℕ). apply (a .image .now) (stores (zeros rootAt (range 0 n)))) e
 
@@ -31,14 +31,12 @@ clear-roots-spec =
     Inv-loop
     μ-loop
     (λ c. (search needs, refl, zeroed-none rootAt _ 0))
+    (λ c κs. search needs)
     (λ c. search needs)
     (λ c. search needs)
     (λ c. search needs)
     (λ c. search needs)
-    (λ c. search needs)
-    (λ c. search needs)
-    (λ c. search needs)
-    (λ c. let l = c .before .before .loop in
-    (search needs, length-set (l .image) _ 0 ∙ l .inv .1, zeroed-more rootAt _ (l .image) 0 (l .s) _ _ (l .inv .2) refl (omega arith)))
+    (λ c. let l = c .before .before .before .loop in
+    (search needs, length-set (l .image) _ 0 ∙ l .inv .1, zeroed-more rootAt _ (l .image) 0 (l .s) _ _ (l .inv .2) refl (omega (arith, c .root-at .ensures))))
     (λ c. search needs)
     returns)

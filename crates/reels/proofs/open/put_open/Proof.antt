@@ -23,13 +23,16 @@ in-two g slot n reel =
 
 returns : tie.Need-returns
 returns c =
-    let a = c .before .before .before .before .before .before .before .before .before .args in
-    let one = c .before .before .before .before .before .before .put-node in
+    let slot = c .before .before .before .before in
+    let made = slot .before .before .before .before in
+    let a = made .before .before .before .args in
+    let one = made .put-node in
     let two = c .before .before .put-fenced-pair in
     let node = stores (newNode (a .g) (a .n) 0 16) in
     let rest = store (reelAt (a .slot)) (a .reel) ∷ barrier ∷ store (rootAt (a .slot)) (a .n + 1) ∷ barrier ∷ [] in
     let ten = ap (λ k. 2 * k) (segment-laws .length-stores (newNode (a .g) (a .n) 0 16)) in
-    written-rest node rest 10 (a .script .now) (one .last .0) (two .last .0) ten (one .ensures) (two .ensures)
+    written-rest node rest 10 (a .script .now) (one .last .0) (two .last .0) ten (one .ensures)
+    (rw (slot .root-at .ensures, slot .before .reel-at .ensures) at (two .ensures))
     ∙ ap (λ (es : List Entry). written es (a .script .now)) (in-two (a .g) (a .slot) (a .n) (a .reel))
 
 pub put-open-spec : {M : Type 1} → statement M
@@ -37,9 +40,8 @@ put-open-spec =
     tie.close
     (tie.spec
     (λ c κs. search needs)
-    (λ c. search needs)
-    (λ c. search needs)
-    (λ c. search needs)
+    (λ c κs. search needs)
+    (λ c κs. search needs)
     (λ c. search needs)
     (λ c. search needs)
     (λ c. search needs)

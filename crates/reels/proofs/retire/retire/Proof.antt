@@ -76,7 +76,8 @@ returns-4 c ws e =
 
 returns-5 : tie.Need-returns-5
 returns-5 c ws e =
-    let freed = c .before .before .before .before in
+    let root = c .before .before .before in
+    let freed = root .before .before in
     let walk = freed .before .before .before .before .before in
     let busy = walk .before .before .before in
     let tested = busy .before .before in
@@ -85,7 +86,8 @@ returns-5 c ws e =
     rw (f .2, ← slot-read reel .checked .scratch-words)
     (retired _ _ ws _ _ _ (slot-read reel)
     (tested .if1 .left) _ e (sym (busy .before .is-busy .ensures) ∙ busy .if2 .left)
-    (walk .free-tree .result) (f .0) _ (f .1) (freed .if3 .left) _ (c .before .before .put-fenced .ensures))
+    (walk .free-tree .result) (f .0) _ (f .1) (freed .if3 .left) _
+    (rw (root .root-at .ensures) at (c .before .before .put-fenced .ensures)))
 
 pub retire-spec : {M : Type 1} → statement M
 retire-spec =
@@ -107,11 +109,8 @@ retire-spec =
     (λ c. search needs)
     (λ c. search needs)
     returns-4
-    (λ c. let l = small (c .before .before .before .before .before .before .before .before .before .before .before) in search needs)
-    (λ c. let l = small (c .before .before .before .before .before .before .before .before .before .before .before) in search needs)
-    (λ c. let l = small (c .before .before .before .before .before .before .before .before .before .before .before) in search needs)
-    (λ c κs. let p = fine (c .before .before .before .before .before .before .before .before .before .before .before .before .before .before) in
-    search needs)
+    (λ c κs. small (c .before .before .before .before .before .before .before .before .before .before .before))
+    (λ c κs. let p = fine (c .before .before .before .before .before .before .before .before .before .before .before .before .before .before .before) in search needs)
     (λ c. search needs)
     (λ c. search needs)
     (λ c. search needs)

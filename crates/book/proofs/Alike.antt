@@ -30,7 +30,7 @@ use Rattle.book.specs.Agrees.{EachOnce, Agrees}
 use Rattle.book.specs.Ways.{SlotHas, Lacks}
 use Rattle.book.specs.Histories.{replied}
 use Rattle.book.specs.Demands.{IsFormat, is-format, Alike}
-use Rattle.book.proofs.Refusals.{decided, denies, denied, passes}
+use Rattle.book.proofs.Refusals.{Named, Passes, decided, denies, denied, passes}
 use Rattle.book.proofs.Performed.{answer-is, work-granted, work-refused, reply-is, reply-granted, reply-refused}
 use Rattle.book.proofs.Level31.{never-level31, lacks-open, lacks-claim}
 use Rattle.book.proofs.Paired.{Paired, end, same, skip, run, paired-answer, paired-run}
@@ -155,15 +155,9 @@ module _ {s : State} {t : Table} (a : Agrees s t) where
 
 -- ---- what is handed back
 
--- Has and List answer 0 only for a reel that is present
-has-passes : (reel f : ℕ) (x : Fed) (t : Table) → reply (query (has reel f)) x t .answer ≡ 0 → isPresent t reel ≡ true
-unfolding tableRefusals
-has-passes reel f x t h = not-false _ (passes (tableRefusals (query (has reel f)) x t) (omega arith) (sym (reply-is (query (has reel f)) x t) ∙ h) .0)
-
-list-passes : (scratch room reel : ℕ) (x : Fed) (t : Table) → reply (query (list scratch room reel)) x t .answer ≡ 0 → isPresent t reel ≡ true
-unfolding tableRefusals
-list-passes scratch room reel x t h =
-    not-false _ (passes (tableRefusals (query (list scratch room reel)) x t) (omega arith) (sym (reply-is (query (list scratch room reel)) x t) ∙ h) .1 .0)
+-- an operation that is answered passes each of the table's tests
+table-passes : (op : Operation) (x : Fed) (t : Table) → Named (tableRefusals op x t) → reply op x t .answer ≡ 0 → Passes (tableRefusals op x t)
+table-passes op x t named h = passes (tableRefusals op x t) named (sym (reply-is op x t) ∙ h)
 
 none-once : EachOnce [] []
 none-once = record { once = empty; once-too = empty; same = λ x. (λ y. y, λ y. y) }
@@ -174,7 +168,7 @@ record SameWork (w : Work) (u : TableWork) : Type 0 where
   listing : EachOnce (w .handed .listing) (u .handed .listing)
 
 granted-alike : {s : State} {t : Table} → Agrees s t → (op : Operation) (x : Fed) → reply op x t .answer ≡ 0 → SameWork (granted op s) (tableWork op t)
-unfolding granted tableWork
+unfolding granted tableWork tableRefusals
 granted-alike a (format words slots nodes) x h = record { value = refl; listing = none-once }
 granted-alike a (recover words) x h = record { value = refl; listing = none-once }
 granted-alike a (openReel words script reel) x h = record { value = refl; listing = none-once }
@@ -185,10 +179,10 @@ granted-alike a (abandon script h') x h = record { value = refl; listing = none-
 granted-alike a (remove script reel f) x h = record { value = refl; listing = none-once }
 granted-alike a (retire words scratch script reel) x h = record { value = refl; listing = none-once }
 granted-alike {s} {t} a (query (has reel f)) x h =
-    let r = slot-has (a .shows) reel (has-passes reel f x t h) in
+    let r = slot-has (a .shows) reel (not-false _ (table-passes (query (has reel f)) x t (omega arith) h .0)) in
     record { value = ap oneIf (same-held (a .shows) r f); listing = none-once }
 granted-alike {s} {t} a (query (list scratch room reel)) x h =
-    let r = slot-has (a .shows) reel (list-passes scratch room reel x t h) in
+    let r = slot-has (a .shows) reel (not-false _ (table-passes (query (list scratch room reel)) x t (omega arith) h .1 .0)) in
     record { value = same-length (same-frames (a .shows) r); listing = same-frames (a .shows) r }
 
 work-alike : {s : State} {t : Table} → Agrees s t → (op : Operation) → perform op s .answer ≡ replied op s t .answer

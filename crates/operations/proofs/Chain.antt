@@ -29,7 +29,7 @@ use Rattle.book.proofs.Demands.{demand1, demand2, scripts}
 use Rattle.book.proofs.Done.{done-same}
 use Rattle.book.proofs.Performed.{answer-is, work-granted, work-refused}
 use Rattle.operations.specs.Ends.{Buffers, state, Ends, ended, found, ends}
-use Rattle.operations.specs.Chain.{Counted, nothing, script-words, yes-or-no, frames, counted, wordsIn, framesIn, valueIn, next, Answered, Refused, OtherMap, by-format, by-recover, by-open, by-claim, by-retire, Unread, Fits, OtherBuffer, another-length, to-format, Called, with-its-map, with-another, afterCall, GoesOn, Chain}
+use Rattle.operations.specs.Chain.{Counted, nothing, script-words, number-alone, frames, counted, wordsIn, framesIn, valueIn, next, Answered, Refused, OtherMap, by-format, by-recover, by-open, by-claim, by-retire, Unread, Fits, OtherBuffer, another-length, to-format, Called, with-its-map, with-another, afterCall, GoesOn, Chain}
 use Rattle.operations.proofs.Endings.{refused as ends-refused, done as ends-done}
 
 -- ---- what is handed back
@@ -74,7 +74,7 @@ granted-over (retire words scratch script reel) s b = (script-laws .take-written
 pub nothing-over : (k : Counted) (e : Ends) → e .count ≡ 0 → (wordsIn k e ≡ []) × (valueIn k e ≡ 0) × (framesIn k e ≡ [])
 nothing-over script-words e z = (rw z refl, refl, refl)
 nothing-over frames e z = (refl, z, rw z refl)
-nothing-over yes-or-no e z = (refl, z, refl)
+nothing-over number-alone e z = (refl, z, refl)
 nothing-over nothing e z = (refl, refl, refl)
 
 module _ (op : Operation) (s : State) (b : Buffers) where

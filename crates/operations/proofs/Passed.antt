@@ -1,6 +1,6 @@
 -- The checks that come first, passed or not: 1, 2 and 3 as every operation but Format makes them.
 use mathlib.Core.Path.{_≡_, refl, sym, _∙_, ap}
-use mathlib.Core.Bool.{true, false}
+use mathlib.Core.Bool.{true, false, and-false}
 use mathlib.Core.Logic.{inl, inr, _≢_}
 use mathlib.Core.Option.{Option, none, some}
 use mathlib.Core.List.{List}
@@ -14,9 +14,9 @@ use Rattle.tree.specs.declared.layout.Geometry.{Geometry}
 use Rattle.tree.specs.Layout.{Sized, badImage, editionAt, geometryOf}
 use Rattle.tree.proofs.Cases.{test}
 use Rattle.book.specs.Refusals.{Refusal, refusal}
-use Rattle.book.specs.State.{State, Operation, format, recover, openReel, claim, fill, commit, abandon, remove, retire, query, has, list, scratchAfter}
+use Rattle.book.specs.State.{State, Operation, format, recover, openReel, claim, fill, commit, abandon, remove, retire, query, scratchAfter}
 use Rattle.book.specs.Checks.{checked, refusals}
-use Rattle.book.specs.Perform.{leaves, clears}
+use Rattle.book.specs.Perform.{leaves, borrowsScratch, clears}
 use Rattle.book.proofs.Refusals.{Denies, denies}
 use Rattle.book.proofs.Inside.{sized}
 use Rattle.operations.specs.declared.checks.Buffer.{Buffer}
@@ -205,7 +205,7 @@ early-leaves (query q) s n h = refl
 
 early-keeps : (op : Operation) (n : ℕ) → n ≢ 0 → n ≤ 3 → clears op n ≡ false
 unfolding clears
-early-keeps (query (list scratch room reel)) n z h = rw (ne-eqb n 0 z, le-ltb 3 n h) refl
+early-keeps (query q) n z h = rw (ne-eqb n 0 z, le-ltb 3 n h) (and-false (borrowsScratch q))
 early-keeps (retire map scratch script reel) n z h = rw (ne-eqb n 0 z, le-ltb 3 n h) refl
 early-keeps (recover map) n z h = refl
 early-keeps (format map slots nodes) n z h = refl
@@ -215,7 +215,6 @@ early-keeps (fill script head) n z h = refl
 early-keeps (commit script head) n z h = refl
 early-keeps (abandon script head) n z h = refl
 early-keeps (remove script reel f) n z h = refl
-early-keeps (query (has reel f)) n z h = refl
 
 -- as the code ends there: v is the checks' verdict, and it refuses
 pub ended-early : (op : Operation) (s : State) (b : Buffers) (map scratch script : Buffer) (rest : List Refusal) {v : Verdict} {why : enums.Refusal}

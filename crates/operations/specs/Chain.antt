@@ -23,10 +23,10 @@ use Rattle.operations.specs.Ends.{Buffers, state, Ends, ended, ends}
 
 -- what the count handed back is a count of
 pub data Counted : Type 0 where
-  nothing script-words yes-or-no frames : Counted
+  nothing script-words number-alone frames : Counted
 
 abbrev pub queryCounted : Query → Counted
-queryCounted (has reel f) = yes-or-no
+queryCounted (has reel f) = number-alone
 queryCounted (list scratch room reel) = frames
 
 abbrev pub counted : Operation → Counted
@@ -45,7 +45,7 @@ counted (query q) = queryCounted q
 abbrev pub wordsIn : Counted → Ends → List ℕ
 wordsIn script-words e = take (e .count) (e .buffers .script)
 wordsIn nothing e = []
-wordsIn yes-or-no e = []
+wordsIn number-alone e = []
 wordsIn frames e = []
 
 -- List's frames
@@ -53,11 +53,11 @@ abbrev pub framesIn : Counted → Ends → List ℕ
 framesIn frames e = take (e .count) (e .buffers .list)
 framesIn nothing e = []
 framesIn script-words e = []
-framesIn yes-or-no e = []
+framesIn number-alone e = []
 
 -- Has's yes or no, and how many frames List has
 abbrev pub valueIn : Counted → Ends → ℕ
-valueIn yes-or-no e = e .count
+valueIn number-alone e = e .count
 valueIn frames e = e .count
 valueIn nothing e = 0
 valueIn script-words e = 0

@@ -1,8 +1,19 @@
-// Lines of output: a label, then numbers.
-pub use printing::number;
-pub use printing::words;
+// What is printed behind a line.
+use libc::STDOUT_FILENO;
 
-// The words of the heads.
-pub fn heads(ws: &[u64; 10]) {
-    words(b"  heads:", ws);
+pub fn line(text: &[u8]) {
+    io::write_all(STDOUT_FILENO, text);
+}
+
+// Nothing came out of it, or it is mistaken.
+pub fn end(right: bool) {
+    if right {
+        printing::words(b"", &[]);
+    } else {
+        printing::words(b" = ?", &[]);
+    }
+}
+
+pub fn outcome(words: &[u64]) {
+    printing::words(b" =", words);
 }

@@ -2,6 +2,6 @@
 // those that it prints.
 pub mod answer;
 pub mod decimal;
-mod field;
+pub mod field;
 pub mod input;
 pub mod line;

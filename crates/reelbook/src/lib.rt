@@ -12,7 +12,8 @@ ghost use Rattle.book.specs.State.{format, recover, openReel, claim, fill, comm
 ghost use Rattle.book.specs.State.{query, has, list as list-reel};
 ghost use Rattle.book.specs.CarryOut.{carry, carried};
 ghost use Rattle.operations.specs.Ends.{buffers, noBuffers, state, ended, ends};
-use book::HEAD_WORDS;
+// how many words the record of the heads has
+pub use book::HEAD_WORDS;
 use operations::apply;
 use operations::claim;
 use operations::format;

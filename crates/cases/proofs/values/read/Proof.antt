@@ -1,0 +1,36 @@
+use Prim.Native.Nat.{_≤_, _-_}
+use lib.ListN.{length}
+use borrow.Author.Needs.{needs}
+use Rattle.cases.proofs.values.read.Statement.{statement}
+use Rattle.cases.proofs.values.read.Tie as tie
+
+abbrev Inv-loop : tie.InvT-loop
+Inv-loop line values₀ at₀ count₀ values at count = (at ≤ length line) × (count ≤ 12)
+
+abbrev μ-loop : tie.MeasureT-loop
+μ-loop line values₀ at₀ count₀ values at count = length line - at
+
+pub read-spec : {M : Type 1} → statement M
+read-spec =
+    tie.close
+    (tie.spec
+    Inv-loop
+    μ-loop
+    (λ c κs. search needs)
+    (λ c. search needs)
+    (λ c. search needs)
+    (λ c. search needs)
+    (λ c κs. search needs)
+    (λ c. search needs)
+    (λ c. search needs)
+    (λ c. search needs)
+    (λ c κs. search needs)
+    (λ c. search needs)
+    (λ c. search needs)
+    (λ c. search needs)
+    (λ c. search needs)
+    (λ c. search needs)
+    (λ c. search needs)
+    (λ c. search needs)
+    (λ c. search needs)
+    (λ c. search needs))

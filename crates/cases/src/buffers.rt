@@ -1,91 +1,19 @@
-// The buffers of a driver: how many words they have, how many of them are lent, words put and shown.
-ghost use Prim.Native.Nat.{_≤_};
-use crate::calls::front;
+// Words of a buffer put and shown. A place past its end is a mistake of the line.
 use crate::command::ALL;
 use crate::command::Command;
 use crate::command::PUT;
 use crate::command::RAMP;
+use crate::lent::least;
 use crate::print;
-use crate::values::IMAGE;
-use crate::values::LIST;
-use crate::values::MAP;
-use crate::values::SCRATCH;
-use crate::values::SCRIPT;
-use crate::values::VALUES;
 
-// An image of 128 nodes and its maps; the longest script; the frames of a path down to level 31.
-pub const IMAGE_WORDS: usize = 10306;
+// The most words that a line puts: its values but the first two.
+const PUTS: usize = 6;
 
-pub const MAP_WORDS: usize = 2;
-
-pub const SCRIPT_WORDS: usize = 50;
-
-pub const LIST_WORDS: usize = 2016;
-
-// How many words are lent, the first ones; and whether a script is held, or carried out as soon as it is written.
-pub struct Lent {
-    pub image: usize,
-    pub map: usize,
-    pub scratch: usize,
-    pub script: usize,
-    pub list: usize,
-    pub held: bool,
-}
-
-impl Lent {
-    pub fn nothing() -> Self {
-        Self {
-            image: 0,
-            map: 0,
-            scratch: 0,
-            script: 0,
-            list: 0,
-            held: false,
-        }
-    }
-
-    pub fn with(mut self, buffer: u64, words: usize) -> Self {
-        match buffer {
-            IMAGE => self.image = words,
-            MAP => self.map = words,
-            SCRATCH => self.scratch = words,
-            SCRIPT => self.script = words,
-            LIST => self.list = words,
-            _ => {}
-        }
-        self
-    }
-
-    pub fn holding(mut self, held: bool) -> Self {
-        self.held = held;
-        self
-    }
-}
-
-// Does a buffer have so many words to lend?
-pub fn has_words(buffer: u64, words: usize) -> bool {
-    match buffer {
-        IMAGE => words <= IMAGE_WORDS,
-        MAP => words <= MAP_WORDS,
-        SCRATCH => words <= MAP_WORDS,
-        SCRIPT => words <= SCRIPT_WORDS,
-        LIST => words <= LIST_WORDS,
-        _ => false,
-    }
-}
-
-pub fn least(a: usize, b: usize) -> usize
-    ensures { λ r. ⌜ (r ≤ a) × (r ≤ b) ⌝ }
-{
-    if a < b { a } else { b }
-}
-
-// Puts or shows words of a buffer. A place past its end is a mistake of the line.
-pub fn run_words(command: Command, buffer: &mut [u64], v: &[u64; VALUES], count: usize) {
+pub fn run_words(command: Command, buffer: &mut [u64]) {
     let name = command.name;
     let n = buffer.len() as u64;
     match name {
-        PUT => print::end(put(buffer, v, count)),
+        PUT => print::end(put(buffer, command)),
         ALL => print::end(ramp(buffer, 0, 1, n, command.b, 0)),
         RAMP => print::end(ramp(
             buffer,
@@ -95,20 +23,28 @@ pub fn run_words(command: Command, buffer: &mut [u64], v: &[u64; VALUES], count:
             command.e,
             command.f,
         )),
-        _ => show(buffer, command.b, command.c),
+        _ => show(buffer, command.b as usize, command.c as usize),
     }
 }
 
-// Puts the values behind the second, from the place that this one is. Are they all inside?
-fn put(buffer: &mut [u64], v: &[u64; VALUES], count: usize) -> bool {
-    let mut at = v[1] as usize;
-    let end = least(count, VALUES);
+// Are all of them inside?
+fn put(buffer: &mut [u64], command: Command) -> bool {
+    let words = [
+        command.c,
+        command.d,
+        command.e,
+        command.f,
+        command.g,
+        command.h,
+    ];
+    let end = least(command.count, PUTS + 2);
+    let mut at = command.b as usize;
     let mut i = 2;
     while i < end {
         if buffer.len() <= at {
             return false;
         }
-        buffer[at] = v[i];
+        buffer[at] = words[i - 2];
         at += 1;
         i += 1;
     }
@@ -132,16 +68,22 @@ fn ramp(buffer: &mut [u64], from: u64, step: u64, words: u64, value: u64, rise: 
     true
 }
 
-fn show(buffer: &[u64], from: u64, words: u64) {
-    let start = from as usize;
-    if buffer.len() < start {
+fn show(buffer: &[u64], start: usize, count: usize) {
+    let shown = part(buffer, start, count);
+    if shown.len() == count {
+        print::words(shown);
+    } else {
         print::end(false);
-        return;
     }
-    let rest = &buffer[start..];
-    if rest.len() < words as usize {
-        print::end(false);
-        return;
+}
+
+// So many words from a place on, or none where there are not so many.
+pub fn part(words: &[u64], start: usize, count: usize) -> &[u64] {
+    if words.len() < start {
+        return &words[..0];
     }
-    print::outcome(front(rest, words));
+    if words.len() - start < count {
+        return &words[..0];
+    }
+    &words[start..start + count]
 }

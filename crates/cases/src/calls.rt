@@ -1,15 +1,13 @@
-// The operations called, over the words that they are lent.
+// The operations called, with the numbers behind the command.
 use crate::command::ABANDON;
 use crate::command::CLAIM;
 use crate::command::COMMIT;
-use crate::command::Command;
 use crate::command::FILL;
 use crate::command::FORMAT;
 use crate::command::HAS;
 use crate::command::OPEN;
 use crate::command::RECOVER;
 use crate::command::REMOVE;
-use crate::print;
 use reelbook::HEAD_WORDS;
 use reelbook::reelbook_abandon;
 use reelbook::reelbook_apply;
@@ -24,108 +22,91 @@ use reelbook::reelbook_recover;
 use reelbook::reelbook_remove;
 use reelbook::reelbook_retire;
 
-// What stands where a count is handed back, before it is.
-const NO_COUNT: u64 = 999;
-
 // Format, Recover, Carry out.
-pub fn run_whole(
-    command: Command,
+pub fn call_whole(
+    name: u64,
     image: &mut [u64],
     map: &mut [u64],
     heads: &mut [u64; HEAD_WORDS],
     script: &[u64],
-) {
-    let answer = call_whole(command, image, map, heads, script);
-    print::outcome(&[answer]);
-}
-
-fn call_whole(
-    command: Command,
-    image: &mut [u64],
-    map: &mut [u64],
-    heads: &mut [u64; HEAD_WORDS],
-    script: &[u64],
+    a: u64,
+    b: u64,
 ) -> u64 {
-    let name = command.name;
     match name {
-        FORMAT => reelbook_format(image, map, heads, command.a, command.b),
+        FORMAT => reelbook_format(image, map, heads, a, b),
         RECOVER => reelbook_recover(image, map, heads),
         _ => reelbook_apply(image, script),
     }
 }
 
 // Has, List.
-pub fn run_query(command: Command, image: &[u64], scratch: &mut [u64], list: &mut [u64]) {
-    let mut count = NO_COUNT;
-    let answer = call_query(command, image, scratch, list, &mut count);
-    print::outcome(&[answer, count]);
-}
-
-fn call_query(
-    command: Command,
+pub fn call_query(
+    name: u64,
     image: &[u64],
     scratch: &mut [u64],
     list: &mut [u64],
+    a: u64,
+    b: u64,
     count: &mut u64,
 ) -> u64 {
-    let name = command.name;
     match name {
-        HAS => reelbook_has(image, command.a, command.b, count),
-        _ => reelbook_list(image, scratch, list, command.a, count),
+        HAS => reelbook_has(image, a, b, count),
+        _ => reelbook_list(image, scratch, list, a, count),
     }
 }
 
-// The others, whose script is carried out at once if it is not held.
-pub fn run_scripted(
-    command: Command,
-    image: &mut [u64],
-    map: &mut [u64],
-    heads: &mut [u64; HEAD_WORDS],
-    scratch: &mut [u64],
-    script: &mut [u64],
-    held: bool,
-) {
-    let mut used = NO_COUNT;
-    let answer = call_scripted(command, image, map, heads, scratch, script, &mut used);
-    print::outcome(&[answer, used]);
-    if !held {
-        carry(image, script, used);
-    }
-}
-
-fn call_scripted(
-    command: Command,
+// The others, which write a script.
+pub fn call_scripted(
+    name: u64,
     image: &[u64],
     map: &mut [u64],
     heads: &mut [u64; HEAD_WORDS],
     scratch: &mut [u64],
     script: &mut [u64],
+    a: u64,
+    b: u64,
+    c: u64,
     used: &mut u64,
 ) -> u64 {
-    let name = command.name;
-    let a = command.a;
-    let b = command.b;
+    match name {
+        FILL..=ABANDON => call_head(name, image, heads, script, a, used),
+        _ => call_reel(name, image, map, heads, scratch, script, a, b, c, used),
+    }
+}
+
+// Open, Claim, Remove, Retire.
+fn call_reel(
+    name: u64,
+    image: &[u64],
+    map: &mut [u64],
+    heads: &mut [u64; HEAD_WORDS],
+    scratch: &mut [u64],
+    script: &mut [u64],
+    a: u64,
+    b: u64,
+    c: u64,
+    used: &mut u64,
+) -> u64 {
     match name {
         OPEN => reelbook_open(image, map, script, a, used),
-        CLAIM => reelbook_claim(image, map, heads, script, a, b, command.c, used),
-        FILL => reelbook_fill(image, heads, script, a, used),
-        COMMIT => reelbook_commit(image, heads, script, a, used),
-        ABANDON => reelbook_abandon(image, heads, script, a, used),
+        CLAIM => reelbook_claim(image, map, heads, script, a, b, c, used),
         REMOVE => reelbook_remove(image, heads, script, a, b, used),
         _ => reelbook_retire(image, map, heads, scratch, script, a, used),
     }
 }
 
-// Carries out the words of a script that are used.
-pub fn carry(image: &mut [u64], script: &[u64], used: u64) {
-    reelbook_apply(image, front(script, used));
-}
-
-// The first words of a buffer.
-pub fn front(words: &[u64], n: u64) -> &[u64] {
-    let count = n as usize;
-    if count <= words.len() {
-        return &words[..count];
+// Fill, Commit, Abandon.
+fn call_head(
+    name: u64,
+    image: &[u64],
+    heads: &mut [u64; HEAD_WORDS],
+    script: &mut [u64],
+    head: u64,
+    used: &mut u64,
+) -> u64 {
+    match name {
+        FILL => reelbook_fill(image, heads, script, head, used),
+        COMMIT => reelbook_commit(image, heads, script, head, used),
+        _ => reelbook_abandon(image, heads, script, head, used),
     }
-    words
 }

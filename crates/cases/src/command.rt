@@ -1,7 +1,9 @@
 // The commands.
+use crate::print;
 use crate::values::VALUES;
 use crate::values::index_of;
 use crate::values::place_of;
+use crate::values::read_values;
 
 // Their numbers, in the sequence of their names below. First the operations that write to the image, that write a script, and
 // that only read.
@@ -25,11 +27,11 @@ pub const REMOVE: u64 = 8;
 
 pub const RETIRE: u64 = 9;
 
-pub const HAS: u64 = 10;
+pub const ADD: u64 = 10;
 
-pub const LIST: u64 = 11;
+pub const HAS: u64 = 11;
 
-pub const ADD: u64 = 12;
+pub const LIST: u64 = 12;
 
 pub const CRASH: u64 = 13;
 
@@ -51,30 +53,41 @@ pub const HEADING: u64 = 21;
 
 pub const UNKNOWN: u64 = 22;
 
-// A command's number, and the first six values behind it.
+// A command's number, how many values stand behind it, and the values.
 pub struct Command {
     pub name: u64,
+    pub count: usize,
     pub a: u64,
     pub b: u64,
     pub c: u64,
     pub d: u64,
     pub e: u64,
     pub f: u64,
+    pub g: u64,
+    pub h: u64,
 }
 
-// The command of a line that has so many values.
-pub fn command_of(line: &[u8], v: &[u64; VALUES], count: usize) -> Command {
+// Reads a line, and prints it: what comes out of it is printed behind it.
+pub fn read_command(line: &[u8]) -> Command {
+    print::line(line);
+    let mut v = [0u64; VALUES];
+    let count = read_values(line, &mut v);
+    let name = name_of(line, count);
     Command {
-        name: name_of(line, count),
+        name,
+        count,
         a: v[0],
         b: v[1],
         c: v[2],
         d: v[3],
         e: v[4],
         f: v[5],
+        g: v[6],
+        h: v[7],
     }
 }
 
+// The command of a line that has so many values.
 fn name_of(line: &[u8], count: usize) -> u64 {
     if line.len() == 0 {
         return HEADING;
@@ -90,7 +103,7 @@ fn name_of(line: &[u8], count: usize) -> u64 {
 fn named(word: &[u8]) -> u64 {
     index_of(
         word,
-        b"format  recover apply   open    claim   fill    commit  abandon remove  retire  has     list    add     crash   put     all     ramp    show    lend    hold    carry   ",
+        b"format recover apply open claim fill commit abandon remove retire add has list crash put all ramp show lend hold carry",
     )
 }
 

@@ -2,10 +2,10 @@
 // the others lost.
 ghost use Prim.Native.Nat.{_*_, _≤_};
 ghost use lib.ListN.{length};
-use crate::buffers::IMAGE_WORDS;
-use crate::buffers::LIST_WORDS;
-use crate::buffers::least;
 use crate::command::Command;
+use crate::lent::IMAGE_WORDS;
+use crate::lent::LIST_WORDS;
+use crate::lent::least;
 use crate::print;
 use crate::values::ONES;
 use reelbook::HEAD_WORDS;

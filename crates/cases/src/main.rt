@@ -1,38 +1,39 @@
 // Calls the C interface as the lines of standard input say, and prints each line with what came out. Beside src/, stdin has
 // the cases and stdout what must come out.
 //
-// A line is empty, a heading that starts with #, or a command and its values with one blank before each. A value is a decimal
-// number, a power of 2 written as 2^51, the name of a buffer, or `ones`, the word whose bits are all 1.
+// A line is empty, a heading that starts with #, or a command with its values, each behind one blank. A value is a decimal
+// number, a power of 2 written as 2^51, the name of a buffer, or `ones`, the word whose bits are all 1. A command has the first
+// words of each buffer, as many as are lent, and all words of the heads.
 //
-//   lend BUFFER WORDS        from now on an operation is lent the first words of a buffer; the heads are always lent whole
-//   format SLOTS NODES       the operations: their answer, and what they hand back (words of the script, yes or no, frames)
-//   recover                  ..
-//   apply                    carries out the words of the script that are lent
-//   add REEL FROM STEP COUNT claims, fills and commits frames with head 0, up to the first answer that is not 0
-//   hold, carry              from now on scripts are only written, or carried out at once, as in the beginning
-//   put BUFFER PLACE WORD .. words of a buffer put
-//   all BUFFER WORD          .. everywhere
+//   lend BUFFER WORDS          so many words from now on, none in the beginning
+//   format .., and so on       the operations; what comes out is the answer, and what is handed back
+//   apply                      carries out a script, the words of `script` that are lent
+//   hold, carry                from now on scripts are left where they are written; or carried out at once, as in the beginning
+//   add REEL FROM STEP COUNT   claims, fills and commits frames with head 0, up to the first answer that is not 0
+//   put BUFFER PLACE WORD ..   words put from a place on
+//   all BUFFER WORD            one word put everywhere
 //   ramp BUFFER PLACE STEP COUNT WORD RISE
-//                            .. at `step` places from each other, each greater by `rise`
-//   show BUFFER PLACE COUNT  words of a buffer
-//   crash REEL MAP MAP       all crashes of the script that is lent (crash.rt)
+//                              words put, each `step` places behind the one before and greater by `rise`
+//   show BUFFER PLACE COUNT    words shown
+//   crash REEL MAP MAP         all crashes of a script, the words of `script` that are lent (crash.rt)
 mod buffers;
 mod calls;
 mod command;
 mod crash;
-mod frames;
-mod line;
+mod lent;
 mod print;
+mod run;
 mod values;
 
-use buffers::IMAGE_WORDS;
-use buffers::LIST_WORDS;
-use buffers::Lent;
-use buffers::MAP_WORDS;
-use buffers::SCRIPT_WORDS;
+use command::read_command;
+use lent::IMAGE_WORDS;
+use lent::LIST_WORDS;
+use lent::Lent;
+use lent::MAP_WORDS;
+use lent::SCRIPT_WORDS;
 use libc::STDIN_FILENO;
-use line::run_line;
 use reelbook::HEAD_WORDS;
+use run::run_lent;
 use values::place_of;
 
 fn main() {
@@ -56,7 +57,11 @@ fn run_text(text: &[u8]) {
     let mut at = 0;
     while at < text.len() {
         let end = place_of(b'\n', text, at);
-        lent = run_line(
+        let command = read_command(&text[at..end]);
+        at = end + 1;
+        lent = lent.after(command);
+        run_lent(
+            command,
             &mut image,
             &mut map,
             &mut heads,
@@ -64,8 +69,6 @@ fn run_text(text: &[u8]) {
             &mut script,
             &mut list,
             lent,
-            &text[at..end],
         );
-        at = end + 1;
     }
 }

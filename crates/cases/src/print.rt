@@ -1,19 +1,28 @@
-// What is printed behind a line.
+// What is printed: a line, and behind it what came out.
 use libc::STDOUT_FILENO;
 
 pub fn line(text: &[u8]) {
     io::write_all(STDOUT_FILENO, text);
 }
 
-// Nothing came out of it, or it is mistaken.
-pub fn end(right: bool) {
-    if right {
-        printing::words(b"", &[]);
-    } else {
-        printing::words(b" = ?", &[]);
-    }
+pub fn words(ws: &[u64]) {
+    printing::words(b" =", ws);
 }
 
-pub fn outcome(words: &[u64]) {
-    printing::words(b" =", words);
+pub fn answer(number: u64) {
+    words(&[number]);
+}
+
+// An answer, and a number that is handed back.
+pub fn counted(number: u64, count: u64) {
+    words(&[number, count]);
+}
+
+// Nothing came out, or the line is mistaken: it cannot be read, or names a place that is not there.
+pub fn end(right: bool) {
+    if right {
+        io::write_all(STDOUT_FILENO, b"\n");
+    } else {
+        io::write_all(STDOUT_FILENO, b" = ?\n");
+    }
 }

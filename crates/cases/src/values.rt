@@ -6,7 +6,7 @@ use lines::field::read_one;
 use lines::field::text_at;
 
 // The most values that a line has.
-pub const VALUES: usize = 12;
+pub const VALUES: usize = 8;
 
 const UNREADABLE: usize = VALUES + 1;
 
@@ -40,33 +40,31 @@ pub fn place_of(b: u8, text: &[u8], from: usize) -> usize
     at
 }
 
-// Which of some names is this word? Blanks fill each name up to eight bytes. For no name, as many as there are.
+// Which of some names, each behind one blank but the first, is this word? For none of them, how many there are.
 pub fn index_of(word: &[u8], names: &[u8]) -> u64 {
-    let count = names.len() / 8;
-    let mut i: usize = 0;
-    while i < count {
-        let start = 8 * i;
-        if is_name(word, &names[start..start + 8]) {
-            return i as u64;
+    let mut at = 0;
+    let mut i: u64 = 0;
+    while at < names.len() {
+        let end = place_of(b' ', names, at);
+        if same(word, &names[at..end]) {
+            return i;
         }
-        i += 1;
+        i = std::num::wrapping_add_u64(i, 1);
+        at = end + 1;
     }
-    i as u64
+    i
 }
 
-fn is_name(word: &[u8], name: &[u8]) -> bool {
-    if !text_at(name, 0, word) {
+fn same(word: &[u8], name: &[u8]) -> bool {
+    if word.len() != name.len() {
         return false;
     }
-    if name.len() <= word.len() {
-        return false;
-    }
-    name[word.len()] == b' '
+    text_at(word, 0, name)
 }
 
 // Reads the values behind a line's first word, and answers how many there are; more than there may be, where one cannot be
 // read or there are too many.
-pub fn read(line: &[u8], values: &mut [u64; VALUES]) -> usize {
+pub fn read_values(line: &[u8], values: &mut [u64; VALUES]) -> usize {
     let mut at = place_of(b' ', line, 0);
     let mut count = 0;
     while at < line.len() {
@@ -92,10 +90,7 @@ fn value_of(word: &[u8]) -> One {
     if let One::Number(exponent) = read_one(word, 0, b"2^") {
         return power(exponent);
     }
-    named(index_of(
-        word,
-        b"image   map     heads   scratch script  list    ones    ",
-    ))
+    named(index_of(word, b"image map heads scratch script list ones"))
 }
 
 fn power(exponent: u64) -> One {

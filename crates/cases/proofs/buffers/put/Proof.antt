@@ -1,4 +1,4 @@
-use Prim.Native.Nat.{_-_}
+use Prim.Native.Nat.{_≤_, _-_}
 use mathlib.Core.Path.{_≡_}
 use lib.ListN.{length}
 use borrow.Author.Needs.{needs}
@@ -6,10 +6,10 @@ use Rattle.cases.proofs.buffers.put.Statement.{statement}
 use Rattle.cases.proofs.buffers.put.Tie as tie
 
 abbrev Inv-loop : tie.InvT-loop
-Inv-loop buffer₀ v count at₀ end i₀ buffer at i = (length buffer ≡ length buffer₀)
+Inv-loop buffer₀ words end at₀ i₀ buffer at i = (length buffer ≡ length buffer₀) × (2 ≤ i)
 
 abbrev μ-loop : tie.MeasureT-loop
-μ-loop buffer₀ v count at₀ end i₀ buffer at i = end - i
+μ-loop buffer₀ words end at₀ i₀ buffer at i = end - i
 
 pub put-spec : {M : Type 1} → statement M
 put-spec =
@@ -19,6 +19,7 @@ put-spec =
     μ-loop
     (λ c. search needs)
     (λ c κs. search needs)
+    (λ c. search needs)
     (λ c. search needs)
     (λ c. search needs)
     (λ c. search needs)

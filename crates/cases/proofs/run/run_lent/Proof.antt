@@ -1,8 +1,8 @@
 use mathlib.Core.Path.{sym}
 use lib.Seq.{length-take-le}
 use borrow.Author.Needs.{needs}
-use Rattle.cases.proofs.line.run_lent.Statement.{statement}
-use Rattle.cases.proofs.line.run_lent.Tie as tie
+use Rattle.cases.proofs.run.run_lent.Statement.{statement}
+use Rattle.cases.proofs.run.run_lent.Tie as tie
 
 pub run-lent-spec : {M : Type 1} → statement M
 run-lent-spec =

@@ -7,6 +7,7 @@ ghost use Prim.Native.Nat.{_≤_};
 ghost use lib.ListN.{length};
 use libc::STDIN_FILENO;
 use lines::input::take_piece;
+use reelbook::HEAD_WORDS;
 use reelbook::reelbook_format;
 
 // Runs the lines that end in a piece of input. The first bytes of `line` are those of the line that has not ended; answers
@@ -14,7 +15,7 @@ use reelbook::reelbook_format;
 fn run_piece(
     image: &mut [u64],
     map: &mut [u64],
-    heads: &mut [u64; 10],
+    heads: &mut [u64; HEAD_WORDS],
     piece: &[u8],
     line: &mut [u8],
     held: usize,
@@ -42,7 +43,7 @@ fn run_piece(
 fn main() {
     let mut image = [0u64; 1352];
     let mut map = [0u64; 1];
-    let mut heads = [0u64; 10];
+    let mut heads = [0u64; HEAD_WORDS];
     let mut line = [0u8; 81];
     reelbook_format(&mut image, &mut map, &mut heads, 4, 16);
     let mut held = 0;

@@ -4,6 +4,7 @@ ghost use lib.ListN.{length};
 use crate::answer;
 use lines::line::Line;
 use lines::line::read_line;
+use reelbook::HEAD_WORDS;
 use reelbook::count_stores;
 use reelbook::reelbook_abandon;
 use reelbook::reelbook_apply;
@@ -19,7 +20,7 @@ use reelbook::reelbook_retire;
 // The answer to a line that is none of the nine kinds.
 const NO_SUCH_LINE: u64 = 15;
 
-pub fn run_line(image: &mut [u64], map: &mut [u64], heads: &mut [u64; 10], bytes: &[u8]) {
+pub fn run_line(image: &mut [u64], map: &mut [u64], heads: &mut [u64; HEAD_WORDS], bytes: &[u8]) {
     match read_line(bytes) {
         Line::Open { reel } => run_open(image, map, reel),
         Line::Claim { head, reel, frame } => run_claim(image, map, heads, head, reel, frame),
@@ -53,7 +54,7 @@ fn run_open(image: &mut [u64], map: &mut [u64], reel: u64) {
 fn run_claim(
     image: &mut [u64],
     map: &mut [u64],
-    heads: &mut [u64; 10],
+    heads: &mut [u64; HEAD_WORDS],
     head: u64,
     reel: u64,
     frame: u64,
@@ -64,28 +65,28 @@ fn run_claim(
     finish(image, &script, used, number);
 }
 
-fn run_fill(image: &mut [u64], heads: &mut [u64; 10], head: u64) {
+fn run_fill(image: &mut [u64], heads: &mut [u64; HEAD_WORDS], head: u64) {
     let mut script = [0u64; 50];
     let mut used = 0;
     let number = reelbook_fill(image, heads, &mut script, head, &mut used);
     finish(image, &script, used, number);
 }
 
-fn run_commit(image: &mut [u64], heads: &mut [u64; 10], head: u64) {
+fn run_commit(image: &mut [u64], heads: &mut [u64; HEAD_WORDS], head: u64) {
     let mut script = [0u64; 50];
     let mut used = 0;
     let number = reelbook_commit(image, heads, &mut script, head, &mut used);
     finish(image, &script, used, number);
 }
 
-fn run_abandon(image: &mut [u64], heads: &mut [u64; 10], head: u64) {
+fn run_abandon(image: &mut [u64], heads: &mut [u64; HEAD_WORDS], head: u64) {
     let mut script = [0u64; 50];
     let mut used = 0;
     let number = reelbook_abandon(image, heads, &mut script, head, &mut used);
     finish(image, &script, used, number);
 }
 
-fn run_remove(image: &mut [u64], heads: &[u64; 10], reel: u64, frame: u64) {
+fn run_remove(image: &mut [u64], heads: &[u64; HEAD_WORDS], reel: u64, frame: u64) {
     let mut script = [0u64; 50];
     let mut used = 0;
     let number = reelbook_remove(image, heads, &mut script, reel, frame, &mut used);
@@ -108,7 +109,7 @@ fn run_list(image: &[u64], reel: u64) {
     answer::frames(&list[..count as usize]);
 }
 
-fn run_retire(image: &mut [u64], map: &mut [u64], heads: &[u64; 10], reel: u64) {
+fn run_retire(image: &mut [u64], map: &mut [u64], heads: &[u64; HEAD_WORDS], reel: u64) {
     let mut scratch = [0u64; 1];
     let mut script = [0u64; 50];
     let mut used = 0;

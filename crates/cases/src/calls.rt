@@ -1,5 +1,4 @@
 // The operations called, with the numbers behind the command.
-use crate::command::ABANDON;
 use crate::command::CLAIM;
 use crate::command::COMMIT;
 use crate::command::FILL;
@@ -8,6 +7,7 @@ use crate::command::HAS;
 use crate::command::OPEN;
 use crate::command::RECOVER;
 use crate::command::REMOVE;
+use crate::command::RETIRE;
 use reelbook::HEAD_WORDS;
 use reelbook::reelbook_abandon;
 use reelbook::reelbook_apply;
@@ -69,29 +69,11 @@ pub fn call_scripted(
     used: &mut u64,
 ) -> u64 {
     match name {
-        FILL..=ABANDON => call_head(name, image, heads, script, a, used),
-        _ => call_reel(name, image, map, heads, scratch, script, a, b, c, used),
-    }
-}
-
-// Open, Claim, Remove, Retire.
-fn call_reel(
-    name: u64,
-    image: &[u64],
-    map: &mut [u64],
-    heads: &mut [u64; HEAD_WORDS],
-    scratch: &mut [u64],
-    script: &mut [u64],
-    a: u64,
-    b: u64,
-    c: u64,
-    used: &mut u64,
-) -> u64 {
-    match name {
         OPEN => reelbook_open(image, map, script, a, used),
         CLAIM => reelbook_claim(image, map, heads, script, a, b, c, used),
         REMOVE => reelbook_remove(image, heads, script, a, b, used),
-        _ => reelbook_retire(image, map, heads, scratch, script, a, used),
+        RETIRE => reelbook_retire(image, map, heads, scratch, script, a, used),
+        _ => call_head(name, image, heads, script, a, used),
     }
 }
 

@@ -1,50 +1,74 @@
-// Executes vectors over the C interface and prints what came out, one line each. The file stdout beside
-// src/ has what they should be.
-mod book;
-mod book_refusals;
-mod head_refusals;
-mod place_cases;
+// Calls the C interface as the lines of standard input say, and prints each line with what came out. Beside src/, stdin has
+// the cases and stdout what must come out.
+//
+// A line is empty, a heading that starts with #, or a command with its values, each behind one blank. A value is a decimal
+// number, a power of 2 written as 2^51, the name of a buffer, or `ones`, the word whose bits are all 1. A command has the first
+// words of each buffer, as many as are lent, and all words of the heads.
+//
+//   lend BUFFER WORDS          so many words from now on, none in the beginning
+//   format .., and so on       the operations; what comes out is the answer, and what is handed back
+//   apply                      carries out a script, the words of `script` that are lent
+//   hold, carry                from now on scripts are left where they are written; or carried out at once, as in the beginning
+//   add REEL FROM STEP COUNT   claims, fills and commits frames with head 0, up to the first answer that is not 0
+//   put BUFFER PLACE WORD ..   words put from a place on
+//   all BUFFER WORD            one word put everywhere
+//   ramp BUFFER PLACE STEP COUNT WORD RISE
+//                              words put, each `step` places behind the one before and greater by `rise`
+//   show BUFFER PLACE COUNT    words shown
+//   crash REEL MAP MAP         all crashes of a script, the words of `script` that are lent (crash.rt)
+mod buffers;
+mod calls;
+mod command;
+mod crash;
+mod lent;
 mod print;
-mod reel_refusals;
-mod turn_cases;
+mod run;
+mod values;
+
+use command::read_command;
+use lent::IMAGE_WORDS;
+use lent::LIST_WORDS;
+use lent::Lent;
+use lent::MAP_WORDS;
+use lent::SCRIPT_WORDS;
+use libc::STDIN_FILENO;
+use reelbook::HEAD_WORDS;
+use run::run_lent;
+use values::place_of;
 
 fn main() {
-    places();
-    turns();
-    refusals();
+    let mut text = io::large_buffer();
+    let n = io::read_full(STDIN_FILENO, &mut text);
+    run_text(&text[..n]);
+    if n == text.len() {
+        print::end(false);
+    }
 }
 
-fn places() {
-    place_cases::sizes();
-    place_cases::one_node();
-    place_cases::runs();
-    place_cases::across_map_words();
-    place_cases::limits();
-    place_cases::used_again();
-    place_cases::deep();
-}
-
-fn turns() {
-    turn_cases::held_below_a_clear_place();
-    turn_cases::unfinished();
-    turn_cases::crashed_branch_out();
-    turn_cases::retired_whole();
-    turn_cases::hostile();
-}
-
-fn refusals() {
-    book_refusals::format();
-    book_refusals::recover();
-    book_refusals::open();
-    head_refusals::claim_buffers();
-    head_refusals::claim();
-    head_refusals::settling(b"fill, 1 to 3, number, idle, node, place:", 0);
-    head_refusals::settling(b"commit:", 1);
-    head_refusals::settling(b"abandon:", 2);
-    head_refusals::settled();
-    reel_refusals::remove();
-    reel_refusals::has();
-    reel_refusals::list();
-    reel_refusals::retire();
-    reel_refusals::carry_out();
+// Runs the lines of a text, one after the other, over the buffers of a driver.
+fn run_text(text: &[u8]) {
+    let mut image = [0u64; IMAGE_WORDS];
+    let mut map = [0u64; MAP_WORDS];
+    let mut heads = [0u64; HEAD_WORDS];
+    let mut scratch = [0u64; MAP_WORDS];
+    let mut script = [0u64; SCRIPT_WORDS];
+    let mut list = [0u64; LIST_WORDS];
+    let mut lent = Lent::nothing();
+    let mut at = 0;
+    while at < text.len() {
+        let end = place_of(b'\n', text, at);
+        let command = read_command(&text[at..end]);
+        at = end + 1;
+        lent = lent.after(command);
+        run_lent(
+            command,
+            &mut image,
+            &mut map,
+            &mut heads,
+            &mut scratch,
+            &mut script,
+            &mut list,
+            lent,
+        );
+    }
 }

@@ -1,8 +1,28 @@
-// Lines of output: a label, then numbers.
-pub use printing::number;
-pub use printing::words;
+// What is printed: a line, and behind it what came out.
+use libc::STDOUT_FILENO;
 
-// The words of the heads.
-pub fn heads(ws: &[u64; 10]) {
-    words(b"  heads:", ws);
+pub fn line(text: &[u8]) {
+    io::write_all(STDOUT_FILENO, text);
+}
+
+pub fn words(ws: &[u64]) {
+    printing::words(b" =", ws);
+}
+
+pub fn answer(number: u64) {
+    words(&[number]);
+}
+
+// An answer, and a number that is handed back.
+pub fn counted(number: u64, count: u64) {
+    words(&[number, count]);
+}
+
+// Nothing came out, or the line is mistaken: it cannot be read, or names a place that is not there.
+pub fn end(right: bool) {
+    if right {
+        io::write_all(STDOUT_FILENO, b"\n");
+    } else {
+        io::write_all(STDOUT_FILENO, b" = ?\n");
+    }
 }

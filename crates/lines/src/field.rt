@@ -75,7 +75,7 @@ fn number_at(line: &[u8], at: usize) -> Field
 }
 
 // Does a text stand at a place?
-fn text_at(line: &[u8], at: usize, text: &[u8]) -> bool
+pub fn text_at(line: &[u8], at: usize, text: &[u8]) -> bool
     requires { ⌜ at ≤ length (now line) ⌝ }
     ensures { λ r. ⌜ r ≡ begins (now (text .entry)) (drop at (now (line .entry))) ⌝ }
 {

@@ -1,23 +1,25 @@
 use Prim.Native.Nat.{_≤_, _-_}
+use mathlib.Core.Path.{_≡_}
+use lib.ListN.{length}
 use borrow.Author.Needs.{needs}
-use Rattle.cases.proofs.turn_cases.lists_as_before.Statement.{statement}
-use Rattle.cases.proofs.turn_cases.lists_as_before.Tie as tie
+use Rattle.cases.proofs.crash.copy.Statement.{statement}
+use Rattle.cases.proofs.crash.copy.Tie as tie
 
 abbrev Inv-loop : tie.InvT-loop
-Inv-loop image list count listed same₀ i₀ same i = i ≤ 64
+Inv-loop from to₀ end i₀ to i = (length to ≡ length to₀) × (i ≤ end)
 
 abbrev μ-loop : tie.MeasureT-loop
-μ-loop image list count listed same₀ i₀ same i = 64 - i
+μ-loop from to₀ end i₀ to i = end - i
 
-pub lists-as-before-spec : {M : Type 1} → statement M
-lists-as-before-spec =
+pub copy-spec : {M : Type 1} → statement M
+copy-spec =
     tie.close
     (tie.spec
     Inv-loop
     μ-loop
-    (λ c. search needs)
-    (λ c. search needs)
     (λ c κs. search needs)
+    (λ c. search needs)
+    (λ c. search needs)
     (λ c. search needs)
     (λ c. search needs)
     (λ c. search needs)

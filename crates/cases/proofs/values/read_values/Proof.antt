@@ -1,33 +1,30 @@
 use Prim.Native.Nat.{_≤_, _-_}
+use lib.ListN.{length}
 use borrow.Author.Needs.{needs}
-use Rattle.cases.proofs.turn_cases.kept.Statement.{statement}
-use Rattle.cases.proofs.turn_cases.kept.Tie as tie
+use Rattle.cases.proofs.values.read_values.Statement.{statement}
+use Rattle.cases.proofs.values.read_values.Tie as tie
 
 abbrev Inv-loop : tie.InvT-loop
-Inv-loop script first barrier mixture stores₀ bits₀ entry₀ stores bits entry = entry ≤ 25
+Inv-loop line values₀ at₀ count₀ values at count = (at ≤ length line) × (count ≤ 8)
 
 abbrev μ-loop : tie.MeasureT-loop
-μ-loop script first barrier mixture stores₀ bits₀ entry₀ stores bits entry = 25 - entry
+μ-loop line values₀ at₀ count₀ values at count = length line - at
 
-pub kept-spec : {M : Type 1} → statement M
-kept-spec =
+pub read-values-spec : {M : Type 1} → statement M
+read-values-spec =
     tie.close
     (tie.spec
     Inv-loop
     μ-loop
+    (λ c κs. search needs)
     (λ c. search needs)
     (λ c. search needs)
     (λ c. search needs)
+    (λ c κs. search needs)
     (λ c. search needs)
     (λ c. search needs)
     (λ c. search needs)
-    (λ c. search needs)
-    (λ c. search needs)
-    (λ c. search needs)
-    (λ c. search needs)
-    (λ c. search needs)
-    (λ c. search needs)
-    (λ c. search needs)
+    (λ c κs. search needs)
     (λ c. search needs)
     (λ c. search needs)
     (λ c. search needs)

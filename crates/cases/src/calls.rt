@@ -1,0 +1,94 @@
+// The operations called, with the numbers behind the command.
+use crate::command::CLAIM;
+use crate::command::COMMIT;
+use crate::command::FILL;
+use crate::command::FORMAT;
+use crate::command::HAS;
+use crate::command::OPEN;
+use crate::command::RECOVER;
+use crate::command::REMOVE;
+use crate::command::RETIRE;
+use reelbook::HEAD_WORDS;
+use reelbook::reelbook_abandon;
+use reelbook::reelbook_apply;
+use reelbook::reelbook_claim;
+use reelbook::reelbook_commit;
+use reelbook::reelbook_fill;
+use reelbook::reelbook_format;
+use reelbook::reelbook_has;
+use reelbook::reelbook_list;
+use reelbook::reelbook_open;
+use reelbook::reelbook_recover;
+use reelbook::reelbook_remove;
+use reelbook::reelbook_retire;
+
+// Format, Recover, Carry out.
+pub fn call_whole(
+    name: u64,
+    image: &mut [u64],
+    map: &mut [u64],
+    heads: &mut [u64; HEAD_WORDS],
+    script: &[u64],
+    a: u64,
+    b: u64,
+) -> u64 {
+    match name {
+        FORMAT => reelbook_format(image, map, heads, a, b),
+        RECOVER => reelbook_recover(image, map, heads),
+        _ => reelbook_apply(image, script),
+    }
+}
+
+// Has, List.
+pub fn call_query(
+    name: u64,
+    image: &[u64],
+    scratch: &mut [u64],
+    list: &mut [u64],
+    a: u64,
+    b: u64,
+    count: &mut u64,
+) -> u64 {
+    match name {
+        HAS => reelbook_has(image, a, b, count),
+        _ => reelbook_list(image, scratch, list, a, count),
+    }
+}
+
+// The others, which write a script.
+pub fn call_scripted(
+    name: u64,
+    image: &[u64],
+    map: &mut [u64],
+    heads: &mut [u64; HEAD_WORDS],
+    scratch: &mut [u64],
+    script: &mut [u64],
+    a: u64,
+    b: u64,
+    c: u64,
+    used: &mut u64,
+) -> u64 {
+    match name {
+        OPEN => reelbook_open(image, map, script, a, used),
+        CLAIM => reelbook_claim(image, map, heads, script, a, b, c, used),
+        REMOVE => reelbook_remove(image, heads, script, a, b, used),
+        RETIRE => reelbook_retire(image, map, heads, scratch, script, a, used),
+        _ => call_head(name, image, heads, script, a, used),
+    }
+}
+
+// Fill, Commit, Abandon.
+fn call_head(
+    name: u64,
+    image: &[u64],
+    heads: &mut [u64; HEAD_WORDS],
+    script: &mut [u64],
+    head: u64,
+    used: &mut u64,
+) -> u64 {
+    match name {
+        FILL => reelbook_fill(image, heads, script, head, used),
+        COMMIT => reelbook_commit(image, heads, script, head, used),
+        _ => reelbook_abandon(image, heads, script, head, used),
+    }
+}

@@ -1,4 +1,4 @@
-# make check-header: include/reelbook.h as C and as C++, and its constants against the library.
+# make check-header: include/reelbook.h as C and as C++, refused on other platforms, and its constants against the library.
 # make check-stores: Recover's stores to the image, one by one.
 # make fuzz: the library against the model in CASES cases of calls and a history for every 50 of them: a minute on two cores.
 # SEED=random takes new cases; SEED=number repeats one.
@@ -15,6 +15,10 @@ HEADER_AS_CXX = $(CXX) -x c++ -std=c++11 $(HEADER_WARNINGS) -Iinclude $(CFLAGS)
 check-header: build/header-c build/header-c++
 	echo '#include "reelbook.h"' | $(HEADER_AS_C) -fsyntax-only -
 	echo '#include "reelbook.h"' | $(HEADER_AS_CXX) -Wold-style-cast -fsyntax-only -
+	for other in -U__x86_64__ -U__ELF__ -mx32; do \
+	    echo '#include "reelbook.h"' | LC_ALL=C $(HEADER_AS_C) -ffreestanding $$other -fsyntax-only - 2>&1 | \
+	        grep -q 'error.*reelbook: x86-64' || { echo "the header is not refused with $$other" >&2; exit 1; }; \
+	done
 	build/header-c
 	build/header-c++
 

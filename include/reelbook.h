@@ -112,8 +112,9 @@ static inline const char *reelbook_answer_text(uint64_t answer) {
     }
 }
 
-/* The words of an image, for numbers within the maxima. (SIZE_MAX instead of a cast, which C and C++ write differently.) */
+/* The words of an image, for numbers within the maxima. */
 static inline size_t reelbook_image_words(uint64_t slots, uint64_t nodes) {
+    /* SIZE_MAX instead of a cast, which C and C++ write differently. */
     return (REELBOOK_HEADER_WORDS + REELBOOK_SLOT_WORDS * slots + REELBOOK_NODE_WORDS * nodes) & SIZE_MAX;
 }
 

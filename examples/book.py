@@ -94,6 +94,8 @@ def frames_after_failure(entries, kept):
         book.image[:] = book.lasting
     book.map[:], book.heads[:] = [BARRIER] * len(book.map), [BARRIER] * HEADS_WORDS  # lost: anything may be in them
     book.recover()
+    book.power = None
+    book.open(8)  # the book goes on: its map has free nodes again
     return book.list(7)
 
 

@@ -5,10 +5,11 @@ set -eu
 tool=$1
 version=$2
 here=$(dirname "$0")
-{
-    "$tool" --help
-    for name in $("$tool" --help | sed -n 's/^  reelbook \([a-z]*\) .*/\1/p'); do
-        echo "@COMMAND@ $name"
-        "$tool" "$name" --help
-    done
-} | awk -v version="$version" -f "$here/tool.awk" - "$here/reelbook.1.in"
+said=$("$tool" --help)
+for name in $(printf '%s\n' "$said" | sed -n 's/^  reelbook \([a-z]*\) FILE.*/\1/p'); do
+    own=$("$tool" "$name" --help)
+    said="$said
+@COMMAND@ $name
+$own"
+done
+printf '%s\n' "$said" | awk -v version="$version" -f "$here/tool.awk" - "$here/reelbook.1.in"

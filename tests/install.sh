@@ -70,7 +70,7 @@ try_files() {
     cmp "$prefix/include/reelbook.h" include/reelbook.h
     cmp "$prefix/lib/libreelbook.a" build/libreelbook.a
     "$prefix/bin/reelbook" format "$work/book" --reels 4 --nodes 16
-    same 'the tool' "$("$prefix/bin/reelbook" check "$work/book")" 'sound; closed cleanly; locate words that differ: 0'
+    "$prefix/bin/reelbook" check "$work/book" >"$work/log" || fail "the tool: $(cat "$work/log")"
 }
 
 try_shared_object() {
@@ -155,7 +155,7 @@ try_pages() {
     $cc $(pkg-config --cflags reelbook) -fsyntax-only "$work/synopsis.c" || fail "the synopsis is not the header's"
     same 'answers in the page' "$(grep -c '^[0-9]*	.*REELBOOK_' "$prefix/share/man/man3/reelbook.3")" 15
     same 'commands in the page' "$(sed -n 's/^\.SS //p' "$prefix/share/man/man1/reelbook.1")" \
-        "$("$prefix/bin/reelbook" --help | sed -n 's/^  reelbook \([a-z]*\) .*/\1/p')"
+        "$("$prefix/bin/reelbook" --help | sed -n 's/^  reelbook \([a-z]*\) FILE.*/\1/p')"
 }
 
 # A package: what is made for one folder is put together below another.

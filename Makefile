@@ -38,7 +38,7 @@ endef
 help:
 	@:$(info $(HELP))
 
-# On standard input, or on the paper's Case A where nothing is given: at a terminal, from /dev/null, or with standard input closed.
+# On the paper's Case A where nothing is given: at a terminal, from /dev/null, or with standard input closed.
 run:
 	@mkdir -p target
 	@rt check bookrun >target/run.log 2>&1 </dev/null || { cat target/run.log; exit 1; }

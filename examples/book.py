@@ -33,7 +33,7 @@ def words(count, contents=()):
 
 
 class Book:
-    """In ordinary memory. `lasting` is the image at the last barrier; `power` is for how many entries there is power, if not None."""
+    """In ordinary memory. lasting is the image at the last barrier; power, if not None, suffices for so many entries."""
 
     def __init__(self, reels=4, nodes=16):
         self.image, self.map, self.heads = words(64 + 2 * reels + 80 * nodes), words((nodes + 63) // 64), words(HEADS_WORDS)

@@ -1,6 +1,6 @@
-# make install: the header, the library as an archive and as a shared object, reelbook.pc, the tool, and a man page for each of the
-# two, below PREFIX. DESTDIR, for packages, goes before every path and into no file. BINDIR, INCLUDEDIR, LIBDIR and MANDIR are other
-# folders. make uninstall: takes the same files out again.
+# make install: the header, the library as an archive and as a shared object, reelbook.pc, the tool, and a man page for each
+# of the two, below PREFIX. DESTDIR, for packages, goes before every path and into no file. BINDIR, INCLUDEDIR, LIBDIR and
+# MANDIR are other folders. make uninstall: takes the same files out again.
 # make check-install: installs into empty folders, and compiles and runs examples/ against what is there, by pkg-config alone.
 .PHONY: shared man install uninstall check-install
 

@@ -1,4 +1,4 @@
-# The tool's help texts, each command's after a line "@COMMAND@ name", then man/reelbook.1.in: gives the page. version is a variable.
+# reelbook.1 from the tool's help, each command's own after a line "@COMMAND@ name", and man/reelbook.1.in; version is a variable.
 # In a help text an option is a line "  --option ..  text"; other indented lines are kept as they are, the rest is filled.
 
 function roff(text) {

@@ -21,7 +21,8 @@ done
 
 # Sections that are loaded and writable and not empty, thread-local ones too; and what has no section yet.
 writable() {
-    readelf -SW "$1" | sed -n -E 's/.* [0-9a-f]{16} [0-9a-f]+ ([0-9a-f]+) [0-9a-f]+ +[A-Z]*W[A-Z]* .*/writable section of 0x\1 bytes/p' |
+    readelf -SW "$1" |
+        sed -n -E 's/.* [0-9a-f]{16} [0-9a-f]+ ([0-9a-f]+) [0-9a-f]+ +[A-Z]*W[A-Z]* .*/writable section of 0x\1 bytes/p' |
         grep -v ' 0x0* bytes' || true
     nm "$1" | sed -n 's/.* [BbCcDdGgSsVvu] /writable symbol /p'
 }

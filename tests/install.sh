@@ -82,8 +82,9 @@ try_shared_object() {
     # What the dynamic linker fills in and then makes read-only is not the library's.
     same 'writable sections' "$(readelf -SW "$object" | sed 's/^ *\[ *[0-9]*\]//' |
         awk '$7 ~ /W/ && $1 !~ /^\.(dynamic|got|got\.plt)$/ && $5 !~ /^0*$/ { print $1 }')" ''
-    same 'memory writable after the start' "$(readelf -lW "$object" | awk '$1 == "LOAD" && /RW/ { size = $6 } $1 == "GNU_RELRO" { kept = $6 }
-        END { print (size == kept) ? "none" : size " of which " kept }')" none
+    same 'memory writable after the start' "$(readelf -lW "$object" |
+        awk '$1 == "LOAD" && /RW/ { size = $6 } $1 == "GNU_RELRO" { kept = $6 }
+            END { print (size == kept) ? "none" : size " of which " kept }')" none
     same 'an executable stack' "$(readelf -lW "$object" | awk '$1 == "GNU_STACK" && $7 ~ /E/')" ''
 }
 

@@ -1,7 +1,6 @@
-# make run: prove and build the bench program, and run it on standard input, or on the paper's Case A where nothing is given: at a
-# terminal, from /dev/null, or with standard input closed. make test: the whole gate. make lib: build/libreelbook.a for a driver.
-# driver/, tests/ and bench/ have targets of their own: make tool, check-tool, check-header, check-stores, fuzz, faults, bench.
-.PHONY: run lib test
+# make, make help: what there is. Each build.mk says more of its own targets.
+.PHONY: help run lib test clean
+.DEFAULT_GOAL = help
 
 CC ?= cc
 CXX ?= c++
@@ -12,6 +11,34 @@ LIBRARY = build/libreelbook.a
 PROGRAMS = $(patsubst %/src/main.rt,%,$(wildcard crates/*/src/main.rt))
 RATTLE_SOURCES = crates.txt $(shell find $(filter-out $(PROGRAMS),$(wildcard crates/*)) -name '*.rt' -o -name '*.antt')
 
+define HELP
+Programs and the library; rt, of the Rattle kit, is needed for all:
+  make run            prove, build and run bookrun, the bench program, on standard input or on the paper's Case A
+  make lib            prove the library: build/libreelbook.a
+  make shared         the library as a shared object
+  make tool           the command-line tool: build/reelbook
+  make man            the man pages: build/man/
+  make install        header, libraries, reelbook.pc, tool and man pages below PREFIX=/usr/local; DESTDIR= for packages
+  make uninstall      take the same files out again
+  make bench          times beside other stores; QUICK=1 for the book alone
+  make bench-docs     the tables and the plot of the last whole run go to docs/
+  make clean          remove build/; what is proved, in target/, stays
+
+Tests:
+  make test           the whole gate: every proof from nothing, then all of these
+  make check-header   the header in C and C++, its constants against the library
+  make check-archive  no writable data in the library; its stack use; two books in two threads
+  make check-stores   Recover's stores, one by one
+  make check-tool     the tool's commands, errors and power failures
+  make check-install  an installation, and examples/ compiled against it
+  make fuzz           the library against a model; CASES=, SEED=
+  make faults         deliberate faults, each of which must be found
+endef
+
+help:
+	@:$(info $(HELP))
+
+# On the paper's Case A where nothing is given: at a terminal, from /dev/null, or with standard input closed.
 run:
 	@mkdir -p target
 	@rt check bookrun >target/run.log 2>&1 </dev/null || { cat target/run.log; exit 1; }
@@ -28,7 +55,10 @@ $(LIBRARY): $(RATTLE_SOURCES)
 	@rt staticlib reelbook >build/library.log 2>&1 </dev/null || { cat build/library.log; exit 1; }
 	cp target/staticlib/libreelbook.a $@
 
-include driver/build.mk tests/build.mk
+clean:
+	rm -rf build
+
+include driver/build.mk tests/build.mk install/build.mk
 -include bench/build.mk
 
 # Every proof from nothing first: the library that the C side tests is then the one just proved, and nothing is proved twice. The
@@ -38,5 +68,5 @@ test:
 	python3 tests/unused.py
 	@mkdir -p build
 	@{ rt ci && echo 0 >build/ci.status || echo 1 >build/ci.status; } 2>&1 | tee build/ci.log; read status <build/ci.status; exit $$status
-	$(MAKE) --no-print-directory check-header check-stores check-tool faults fuzz
+	$(MAKE) --no-print-directory check-header check-archive check-stores check-tool check-install faults fuzz
 	@tail -n 1 build/ci.log

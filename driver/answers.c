@@ -21,7 +21,7 @@ static const char *const refusals[] = {
     [REELBOOK_FRAME_HELD] = "held already",
     [REELBOOK_NOT_HELD] = "not held",
     [REELBOOK_BAD_HEAD] = "no such head",
-    [REELBOOK_HEAD_STATE] = "the head is in another state",
+    [REELBOOK_WRONG_STATE] = "the head is in another state",
     [REELBOOK_BUSY] = "a head is about this reel",
     [REELBOOK_LIST_SHORT] = "the list has too little room",
 };

@@ -19,11 +19,22 @@
 #include <stddef.h>
 #include <stdint.h>
 
+/* The library is machine code for this platform alone. */
+#if !defined(__x86_64__) || !defined(__ELF__) || SIZE_MAX != UINT64_MAX
+#error "reelbook: x86-64 with a size_t of 64 bits and the System V calling convention (Linux) only"
+#endif
+
+/* The version of this header, and of the library beside which it is installed. */
+#define REELBOOK_VERSION_MAJOR 1
+#define REELBOOK_VERSION_MINOR 0
+#define REELBOOK_VERSION_PATCH 0
+#define REELBOOK_VERSION "1.0.0"
+
 #ifdef __cplusplus
 extern "C" {
 #endif
 
-/* Answers. */
+/* Answers; reelbook_answer_text has each in words. */
 enum {
     REELBOOK_DONE = 0,
     REELBOOK_BAD_IMAGE = 1,    /* the image's length, its number of slots or its number of nodes is wrong */
@@ -37,7 +48,7 @@ enum {
     REELBOOK_FRAME_HELD = 9,   /* the reel holds the frame already */
     REELBOOK_NOT_HELD = 10,    /* the reel does not hold the frame */
     REELBOOK_BAD_HEAD = 11,    /* no such head */
-    REELBOOK_HEAD_STATE = 12,  /* the head is in another state than the operation needs */
+    REELBOOK_WRONG_STATE = 12, /* the head is in another state than the operation needs */
     REELBOOK_BUSY = 13,        /* a head that is not idle is about this reel */
     REELBOOK_LIST_SHORT = 14   /* the list has too little room */
 };
@@ -79,8 +90,31 @@ enum {
 enum { REELBOOK_IDLE = 0, REELBOOK_CLAIMED = 1, REELBOOK_FILLED = 2 };
 #define REELBOOK_HEADS_WORDS (REELBOOK_HEADS * REELBOOK_HEAD_WORDS)
 
-/* The words of an image, for numbers within the maxima. (SIZE_MAX instead of a cast, which C and C++ write differently.) */
+/* An answer in words. */
+static inline const char *reelbook_answer_text(uint64_t answer) {
+    switch (answer) {
+    case REELBOOK_DONE: return "done";
+    case REELBOOK_BAD_IMAGE: return "the image's length or numbers are wrong";
+    case REELBOOK_BAD_EDITION: return "the image is of another edition";
+    case REELBOOK_BAD_BUFFER: return "a buffer has the wrong length";
+    case REELBOOK_MALFORMED: return "the tree is malformed";
+    case REELBOOK_NO_REEL: return "no such reel";
+    case REELBOOK_ALREADY_OPEN: return "the reel is open already";
+    case REELBOOK_NO_SLOT: return "no empty reel slot";
+    case REELBOOK_NO_RUN: return "not enough adjacent free nodes";
+    case REELBOOK_FRAME_HELD: return "held already";
+    case REELBOOK_NOT_HELD: return "not held";
+    case REELBOOK_BAD_HEAD: return "no such head";
+    case REELBOOK_WRONG_STATE: return "the head is in another state";
+    case REELBOOK_BUSY: return "a head is about this reel";
+    case REELBOOK_LIST_SHORT: return "the list has too little room";
+    default: return "unknown answer";
+    }
+}
+
+/* The words of an image, for numbers within the maxima. */
 static inline size_t reelbook_image_words(uint64_t slots, uint64_t nodes) {
+    /* SIZE_MAX instead of a cast, which C and C++ write differently. */
     return (REELBOOK_HEADER_WORDS + REELBOOK_SLOT_WORDS * slots + REELBOOK_NODE_WORDS * nodes) & SIZE_MAX;
 }
 

@@ -1,9 +1,10 @@
-# make check-header: include/reelbook.h as C and as C++, and its constants against the library.
+# make check-header: include/reelbook.h as C and as C++, refused on other platforms, and its constants against the library.
+# make check-archive: nothing writable in the library; the stack that each function needs; two books in two threads.
 # make check-stores: Recover's stores to the image, one by one.
 # make fuzz: the library against the model in CASES cases of calls and a history for every 50 of them: a minute on two cores.
 # SEED=random takes new cases; SEED=number repeats one.
 # make faults: deliberate faults, each of which the fuzzing has to find.
-.PHONY: check-header check-stores fuzz faults
+.PHONY: check-header check-archive check-stores fuzz faults
 
 RUSTC ?= rustc
 CASES ?= 500000
@@ -15,6 +16,10 @@ HEADER_AS_CXX = $(CXX) -x c++ -std=c++11 $(HEADER_WARNINGS) -Iinclude $(CFLAGS)
 check-header: build/header-c build/header-c++
 	echo '#include "reelbook.h"' | $(HEADER_AS_C) -fsyntax-only -
 	echo '#include "reelbook.h"' | $(HEADER_AS_CXX) -Wold-style-cast -fsyntax-only -
+	for other in -U__x86_64__ -U__ELF__ -mx32; do \
+	    echo '#include "reelbook.h"' | LC_ALL=C $(HEADER_AS_C) -ffreestanding $$other -fsyntax-only - 2>&1 | \
+	        grep -q 'error.*reelbook: x86-64' || { echo "the header is not refused with $$other" >&2; exit 1; }; \
+	done
 	build/header-c
 	build/header-c++
 
@@ -23,6 +28,18 @@ build/header-c: tests/header.c tests/book.c tests/book.h include/reelbook.h $(LI
 
 build/header-c++: tests/header.c tests/book.c tests/book.h include/reelbook.h $(LIBRARY)
 	$(HEADER_AS_CXX) -o $@ tests/header.c tests/book.c -x none $(LIBRARY)
+
+check-archive: build/stack build/threads
+	CC='$(CC)' sh tests/archive.sh $(LIBRARY)
+	sh tests/stack.sh build/stack
+	build/threads
+
+# -z now: the dynamic linker would else look memset up on the painted stack.
+build/stack: tests/stack.c tests/book.c tests/book.h include/reelbook.h $(LIBRARY)
+	$(CC) $(WARNINGS) $(CFLAGS) -Iinclude -Wl,-z,now -o $@ tests/stack.c tests/book.c $(LIBRARY)
+
+build/threads: tests/threads.c include/reelbook.h $(LIBRARY)
+	$(CC) $(WARNINGS) $(CFLAGS) -Iinclude -pthread -o $@ tests/threads.c $(LIBRARY)
 
 check-stores: build/stores
 	build/stores

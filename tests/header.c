@@ -7,6 +7,14 @@
 
 enum { REELS = 3, NODES = 24 };
 
+static void same_text(const char *found, const char *expected, const char *what) {
+    checks++;
+    if (strcmp(found, expected) != 0) {
+        failures++;
+        printf("%s: expected \"%s\", found \"%s\"\n", what, expected, found);
+    }
+}
+
 /* The answer of a format with these lengths. */
 static uint64_t format_answer(size_t image_words, size_t map_words, uint64_t slots, uint64_t nodes) {
     uint64_t heads[REELBOOK_HEADS_WORDS];
@@ -150,9 +158,9 @@ static void check_refusals_of_heads(void) {
     make_tree(&b);
     equal(book_claim(&b, 0, 10, 1), REELBOOK_NO_REEL, "REELBOOK_NO_REEL");
     equal(book_claim(&b, 0, 7, 1), REELBOOK_FRAME_HELD, "REELBOOK_FRAME_HELD");
-    equal(book_fill(&b, 0), REELBOOK_HEAD_STATE, "REELBOOK_HEAD_STATE");
+    equal(book_fill(&b, 0), REELBOOK_WRONG_STATE, "REELBOOK_WRONG_STATE");
     equal(book_claim(&b, 0, 7, 100), REELBOOK_DONE, "claim");
-    equal(book_claim(&b, 0, 8, 100), REELBOOK_HEAD_STATE, "REELBOOK_HEAD_STATE");
+    equal(book_claim(&b, 0, 8, 100), REELBOOK_WRONG_STATE, "REELBOOK_WRONG_STATE");
     equal(book_claim(&b, 1, 7, 101), REELBOOK_BUSY, "REELBOOK_BUSY");
     equal(book_remove(&b, 7, 1), REELBOOK_BUSY, "REELBOOK_BUSY");
     equal(book_retire(&b, 7), REELBOOK_BUSY, "REELBOOK_BUSY");
@@ -197,7 +205,34 @@ static void check_refusals_of_images(void) {
     book_free(&b);
 }
 
+static void check_version(void) {
+    char version[64];
+    equal(REELBOOK_VERSION_MAJOR, 1, "REELBOOK_VERSION_MAJOR");
+    equal(REELBOOK_VERSION_MINOR, 0, "REELBOOK_VERSION_MINOR");
+    equal(REELBOOK_VERSION_PATCH, 0, "REELBOOK_VERSION_PATCH");
+    snprintf(version, sizeof version, "%d.%d.%d", REELBOOK_VERSION_MAJOR, REELBOOK_VERSION_MINOR, REELBOOK_VERSION_PATCH);
+    same_text(REELBOOK_VERSION, version, "REELBOOK_VERSION");
+}
+
+/* By number, so that a name with another's number is found too. */
+static void check_texts(void) {
+    static const char *const texts[] = {
+        "done", "the image's length or numbers are wrong", "the image is of another edition", "a buffer has the wrong length",
+        "the tree is malformed", "no such reel", "the reel is open already", "no empty reel slot",
+        "not enough adjacent free nodes", "held already", "not held", "no such head", "the head is in another state",
+        "a head is about this reel", "the list has too little room", "unknown answer"};
+    uint64_t answer;
+    equal(sizeof texts / sizeof texts[0], REELBOOK_LIST_SHORT + 2, "a text for each answer, and one for any other");
+    for (answer = 0; answer < sizeof texts / sizeof texts[0]; answer++) {
+        same_text(reelbook_answer_text(answer), texts[answer], "reelbook_answer_text");
+    }
+    same_text(reelbook_answer_text(UINT64_MAX), "unknown answer", "reelbook_answer_text of no answer");
+    same_text(reelbook_answer_text(UINT64_C(1) << 32), "unknown answer", "reelbook_answer_text of a number above 32 bits");
+}
+
 int main(void) {
+    check_version();
+    check_texts();
     check_sizes();
     check_maxima();
     check_header_words();

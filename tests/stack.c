@@ -1,0 +1,135 @@
+/* How many bytes of stack each function needs, arguments and return address included: it is called on a stack of its own that is
+ * painted before, and what has another colour afterwards was used. The trees are as deep as there can be, since Recover, List and
+ * Retire go down them by calls. Prints a line for each function. */
+#define _XOPEN_SOURCE 600 /* for ucontext.h */
+#include <stdio.h>
+#include <string.h>
+#include <ucontext.h>
+
+#include "book.h"
+
+enum { STACK_WORDS = 8192, COLOUR = 0x5c, LAST_LEVEL = 31, NODES = 1 + 3 * 2 + 28 * 4 + 4 };
+
+static uint64_t stack[STACK_WORDS];
+static ucontext_t outside, inside;
+static struct book deep, wide, *b = &deep;
+static const void *top;
+static uint64_t answer;
+
+/* The bytes of stack below top that a call has used. */
+static size_t stack_of(void (*call)(void)) {
+    size_t lowest = 0;
+    uint64_t colour;
+    memset(stack, COLOUR, sizeof stack);
+    colour = stack[0];
+    getcontext(&inside);
+    inside.uc_stack.ss_sp = stack;
+    inside.uc_stack.ss_size = sizeof stack;
+    inside.uc_link = &outside;
+    makecontext(&inside, call, 0);
+    swapcontext(&outside, &inside);
+    while (lowest < STACK_WORDS && stack[lowest] == colour) {
+        lowest++;
+    }
+    return (size_t)((const char *)top - (const char *)&stack[lowest]);
+}
+
+/* A sound tree with one path down to the last level: node 0, then the first of each group of children. Level k has frame
+ * k * 2^59 in place 0; all of these agree in bits 0 to 58, which are 0, so that they go to the first child each time, and have
+ * the fingerprint of 0, which is 144. */
+static void make_deep(void) {
+    uint64_t node = 0, next = 1, level, child;
+    book_format(b, 1, NODES);
+    equal(book_open(b, 7), REELBOOK_DONE, "open");
+    for (level = 0; level <= LAST_LEVEL; level++) {
+        uint64_t children = level == LAST_LEVEL ? 0 : level < 3 ? 2 : 4;
+        for (child = 0; child < children; child++) {
+            memset(&b->image[node_index(b, next + child, 0)], 0, REELBOOK_NODE_WORDS * sizeof *b->image);
+            b->image[node_index(b, next + child, REELBOOK_NODE_LEVEL)] = level + 1;
+            b->image[node_index(b, next + child, REELBOOK_NODE_SIZE)] = 64;
+        }
+        b->image[node_index(b, node, REELBOOK_NODE_NEXT)] = children ? next + 1 : 0;
+        b->image[node_index(b, node, REELBOOK_NODE_SIZE)] = 64;
+        b->image[node_index(b, node, REELBOOK_NODE_LOCATE)] = b->image[node_index(b, node, REELBOOK_NODE_SET)] = 1;
+        b->image[node_index(b, node, REELBOOK_NODE_FINGERPRINTS)] = 144;
+        b->image[node_index(b, node, REELBOOK_NODE_FRAMES)] = level << 59;
+        node = next;
+        next += children;
+    }
+    equal(book_recover(b), REELBOOK_DONE, "recover of the deep tree");
+}
+
+/* The slices that a call is lent. */
+#define IMAGE b->image, b->image_words
+#define MAP b->map, b->map_words
+#define SCRATCH b->scratch, b->map_words
+#define SCRIPT b->script, REELBOOK_SCRIPT_WORDS
+
+/* What runs on the painted stack. The frame's address is above the arguments that are passed on the stack. */
+#define CALL(name, ...) \
+    static void call_##name(void) { \
+        top = __builtin_frame_address(0); \
+        answer = reelbook_##name(__VA_ARGS__); \
+    }
+
+CALL(format, IMAGE, MAP, b->heads, 1, NODES)
+CALL(recover, IMAGE, MAP, b->heads)
+CALL(open, IMAGE, MAP, SCRIPT, 7, &b->used)
+CALL(claim, IMAGE, MAP, b->heads, SCRIPT, 0, 7, 8 * 256, &b->used)
+CALL(fill, IMAGE, b->heads, SCRIPT, 0, &b->used)
+CALL(commit, IMAGE, b->heads, SCRIPT, 0, &b->used)
+CALL(abandon, IMAGE, b->heads, SCRIPT, 0, &b->used)
+CALL(remove, IMAGE, b->heads, SCRIPT, 7, UINT64_C(31) << 59, &b->used)
+CALL(has, IMAGE, 7, UINT64_C(31) << 59, &b->count)
+CALL(list, IMAGE, SCRATCH, b->list, LIST_WORDS, 7, &b->count)
+CALL(retire, IMAGE, MAP, b->heads, SCRATCH, SCRIPT, 7, &b->used)
+CALL(apply, IMAGE, b->script, (size_t)b->used)
+
+/* Calls, in a sequence in which each is answered; its script is carried out. */
+static size_t measured(void (*call)(void), int has_script) {
+    size_t bytes = stack_of(call);
+    equal(answer, REELBOOK_DONE, "the answer of a measured call");
+    if (has_script) {
+        equal(reelbook_apply(IMAGE, b->script, (size_t)b->used), REELBOOK_DONE, "apply");
+    }
+    return bytes;
+}
+
+static void line(const char *name, size_t bytes) {
+    printf("reelbook_%s %zu\n", name, bytes);
+}
+
+/* In wide, frame 8 * 256 needs a branch-out, with the longest script; in deep it goes down the whole path. */
+static void measure_claim(void) {
+    size_t in_deep = measured(call_claim, 1), in_wide;
+    b = &wide;
+    book_format(b, 1, NODES);
+    equal(book_open(b, 7), REELBOOK_DONE, "open");
+    book_add(b, 7, 0, 8, 256);
+    in_wide = measured(call_claim, 1);
+    equal(b->used, REELBOOK_SCRIPT_WORDS, "the longest script");
+    book_free(b);
+    b = &deep;
+    line("claim", in_deep > in_wide ? in_deep : in_wide);
+}
+
+int main(void) {
+    make_deep();
+    line("recover", measured(call_recover, 0));
+    line("has", measured(call_has, 0));
+    equal(b->count, 1, "the deepest frame is held");
+    line("list", measured(call_list, 0));
+    equal(b->count, LAST_LEVEL + 1, "a frame at each level");
+    measure_claim();
+    line("abandon", measured(call_abandon, 1));
+    measured(call_claim, 1);
+    line("fill", measured(call_fill, 1));
+    line("commit", measured(call_commit, 1));
+    line("remove", measured(call_remove, 1));
+    line("apply", measured(call_apply, 0));
+    line("retire", measured(call_retire, 1));
+    line("open", measured(call_open, 1));
+    line("format", measured(call_format, 0));
+    book_free(b);
+    return failures != 0;
+}

@@ -43,6 +43,8 @@ const char *answer_words(uint64_t answer) {
         return "in use by another process";
     case BOOK_EXISTS:
         return "exists already; --force overwrites it";
+    case BOOK_WRONG_MAP:
+        return "the saved map is not the image's";
     default:
         snprintf(words, sizeof words, "%s (%" PRIu64 ")", refusals[answer], answer);
         return words;

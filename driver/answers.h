@@ -11,7 +11,8 @@ enum {
     BOOK_OTHER_VERSION,
     BOOK_WRONG_LENGTH,
     BOOK_LOCKED,
-    BOOK_EXISTS
+    BOOK_EXISTS,
+    BOOK_WRONG_MAP
 };
 
 /* An answer in words, a refusal with its number. Overwritten by the next call. */

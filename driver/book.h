@@ -34,6 +34,9 @@ uint64_t book_open(struct book *b, const char *path, enum book_mode mode, struct
 uint64_t book_recover(struct book *b);
 uint64_t book_close(struct book *b);
 
+/* Is a private copy sound, and the saved map its map? It stays as it was: `mended` is how many locate words a recovery would. */
+uint64_t book_check(struct book *b);
+
 uint64_t book_open_reel(struct book *b, uint64_t reel);
 uint64_t book_add(struct book *b, uint64_t reel, uint64_t frame); /* claim, fill, commit */
 uint64_t book_remove(struct book *b, uint64_t reel, uint64_t frame);

@@ -36,13 +36,25 @@ int run_list(const struct arguments *a) {
     return finish(&b, a, 0);
 }
 
+/* A sound book alone is counted. One that was not closed cleanly has just been recovered, which checks as much. */
+static uint64_t check_and_count(struct book *b, struct survey *s, const char *path) {
+    uint64_t answer = b->recovered ? REELBOOK_DONE : book_check(b);
+    if (answer != REELBOOK_DONE) {
+        say("%s: not sound: %s", path, answer_words(answer));
+        return answer;
+    }
+    answer = survey_take(s, b);
+    if (answer != REELBOOK_DONE)
+        refuse(answer, path);
+    return answer;
+}
+
 static int begin_survey(struct book *b, struct survey *s, const struct arguments *a) {
     if (begin(b, a, BOOK_READ) != 0)
         return -1;
-    uint64_t answer = survey_take(s, b);
-    if (answer == REELBOOK_DONE)
+    if (check_and_count(b, s, a->operands[0]) == REELBOOK_DONE)
         return 0;
-    finish(b, a, refuse(answer, a->operands[0]));
+    finish(b, a, 1);
     return -1;
 }
 
@@ -72,22 +84,15 @@ int run_stat(const struct arguments *a) {
     return finish(&b, a, 0);
 }
 
-/* The saved map counts only if the book was closed cleanly: then the next opening trusts it. */
-static int saved_map_wrong(const struct book *b) {
-    return b->file.clean && memcmp(b->map, b->medium.words + b->file.map_at, b->file.map_words * sizeof *b->map) != 0;
-}
-
 int run_check(const struct arguments *a) {
     struct book b;
     int status = 1;
     if (begin(&b, a, BOOK_COPY) != 0)
         return 1;
     const char *closed = b.file.clean ? "closed cleanly" : "not closed cleanly";
-    uint64_t answer = book_recover(&b);
+    uint64_t answer = book_check(&b);
     if (answer != REELBOOK_DONE)
         say("%s: not sound: %s; %s", a->operands[0], answer_words(answer), closed);
-    else if (saved_map_wrong(&b))
-        say("%s: not sound: the saved map is not the image's; %s", a->operands[0], closed);
     else
         status = printf("sound; %s; locate words that differ: %zu\n", closed, b.mended) < 0;
     return finish(&b, a, status);

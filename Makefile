@@ -61,8 +61,10 @@ clean:
 include driver/build.mk tests/build.mk install/build.mk
 -include bench/build.mk
 
-# Every proof from nothing first: the library that the C side tests is then the one just proved, and nothing is proved twice. The
-# last line is that of `rt ci` once more.
+# Every proof from nothing first: the library that the C side tests is then the one just proved, and nothing is proved twice. `rt ci`
+# waits for the slowest of those that run at a time: with four at a time two cores are seldom idle. The last line is that of `rt ci`
+# once more.
+export RT_JOBS ?= 4
 test:
 	rt fmt --check
 	python3 tests/unused.py

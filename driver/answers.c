@@ -26,6 +26,12 @@ static const char *const refusals[] = {
     [REELBOOK_LIST_SHORT] = "the list has too little room",
 };
 
+int answer_status(uint64_t answer) {
+    if (answer == REELBOOK_DONE)
+        return STATUS_DONE;
+    return answer < BOOK_SYSTEM || answer == BOOK_WRONG_MAP ? STATUS_REFUSED : STATUS_SYSTEM;
+}
+
 const char *answer_words(uint64_t answer) {
     static char words[80];
     switch (answer) {
@@ -43,6 +49,10 @@ const char *answer_words(uint64_t answer) {
         return "in use by another process";
     case BOOK_EXISTS:
         return "exists already; --force overwrites it";
+    case BOOK_REPLACED:
+        return "replaced by another process, again and again";
+    case BOOK_WRONG_MAP:
+        return "the saved map is not the image's";
     default:
         snprintf(words, sizeof words, "%s (%" PRIu64 ")", refusals[answer], answer);
         return words;

@@ -11,8 +11,15 @@ enum {
     BOOK_OTHER_VERSION,
     BOOK_WRONG_LENGTH,
     BOOK_LOCKED,
-    BOOK_EXISTS
+    BOOK_EXISTS,
+    BOOK_REPLACED, /* another file took its name before it was locked */
+    BOOK_WRONG_MAP
 };
+
+/* The tool's exit statuses; 1 alone comes without a line on standard error. */
+enum { STATUS_DONE, STATUS_NO, STATUS_REFUSED, STATUS_USAGE, STATUS_SYSTEM };
+
+int answer_status(uint64_t answer);
 
 /* An answer in words, a refusal with its number. Overwritten by the next call. */
 const char *answer_words(uint64_t answer);

@@ -5,22 +5,26 @@
 
 #include "answers.h"
 
+enum value { WITHOUT, WITH, PERHAPS /* only after = */ };
+
 static const struct {
-    const char *name;
-    const char *value; /* what it is called in the help, or NULL for none */
+    const char *name, *brief;
+    enum value value;
+    const char *value_name; /* in the help */
     int is_number;
     const char *about;
 } options[OPTIONS] = {
-    [OPTION_REELS] = {"--reels", "R", 1, "room for R reels"},
-    [OPTION_NODES] = {"--nodes", "N", 1, "a pool of N nodes"},
-    [OPTION_FORCE] = {"--force", NULL, 0, "overwrite a file that is there, a book or not"},
-    [OPTION_SKIP_HELD] = {"--skip-held", NULL, 0, "pass over frames that the reel holds already"},
-    [OPTION_PROGRESS] = {"--progress", NULL, 0, "tell the progress though standard error is no terminal"},
-    [OPTION_BY_REEL] = {"--by-reel", NULL, 0, "a line for each reel besides"},
-    [OPTION_OUTPUT] = {"-o", "OUT", 0, "write to OUT, not to standard output"},
-    [OPTION_CRASH_AFTER] = {"--crash-after", "K", 1, "simulate a power failure after K entries of the command's scripts"},
-    [OPTION_SEED] = {"--seed", "S", 1, "which of the stores since the last barrier are kept then"},
-    [OPTION_HELP] = {"--help", NULL, 0, "this text"},
+    [OPTION_REELS] = {"--reels", NULL, WITH, "R", 1, "room for R reels"},
+    [OPTION_NODES] = {"--nodes", NULL, WITH, "N", 1, "a pool of N nodes"},
+    [OPTION_FORCE] = {"--force", NULL, WITHOUT, NULL, 0, "overwrite a file that is there, a book or not"},
+    [OPTION_SKIP_HELD] = {"--skip-held", NULL, WITHOUT, NULL, 0, "pass over frames that the reel holds already"},
+    [OPTION_PROGRESS] = {"--progress", NULL, WITHOUT, NULL, 0, "tell the progress though standard error is no terminal"},
+    [OPTION_BY_REEL] = {"--by-reel", NULL, WITHOUT, NULL, 0, "a line for each reel besides"},
+    [OPTION_OUTPUT] = {"--output", "-o", WITH, "OUT", 0, "write to OUT; - is standard output"},
+    [OPTION_CRASH_AFTER] = {"--crash-after", NULL, WITH, "K", 1, "simulate a power failure after K entries of the command's scripts"},
+    [OPTION_SEED] = {"--seed", NULL, WITH, "S", 1, "which of the stores since the last barrier are kept then"},
+    [OPTION_WAIT] = {"--wait", NULL, PERHAPS, "SECONDS", 1, "wait for a book in use by another process, without end or so long"},
+    [OPTION_HELP] = {"--help", "-h", WITHOUT, NULL, 0, "this text"},
 };
 
 int number_in(const char *text, uint64_t *number) {
@@ -32,7 +36,8 @@ int number_in(const char *text, uint64_t *number) {
             break;
         *number = *number * 10 + digit;
     }
-    return at != text && *at == '\0';
+    int leading_zeros = text[0] == '0' && text[1] != '\0';
+    return at != text && *at == '\0' && !leading_zeros;
 }
 
 int arguments_number(const char *text, uint64_t *number) {
@@ -43,16 +48,32 @@ int arguments_number(const char *text, uint64_t *number) {
 }
 
 static int allowed(const struct command *c, int option) {
-    return option == OPTION_HELP || (c->options >> option & 1) != 0;
+    return option == OPTION_WAIT || option == OPTION_HELP || (c->options >> option & 1) != 0;
+}
+
+/* A long name may have a value after it. */
+static int is_option(int option, const char *word) {
+    size_t length = strlen(options[option].name);
+    if (options[option].brief && strcmp(word, options[option].brief) == 0)
+        return 1;
+    return strncmp(word, options[option].name, length) == 0 && (word[length] == '\0' || word[length] == '=');
 }
 
 static int find_option(const struct command *c, const char *word) {
     int option = 0;
-    while (option < OPTIONS && strcmp(word, options[option].name) != 0)
+    while (option < OPTIONS && !is_option(option, word))
         option++;
     if (option < OPTIONS && allowed(c, option))
         return option;
     say("%s: %s", word, option == OPTION_CRASH_AFTER && c->steady ? c->steady : "no such option");
+    return -1;
+}
+
+static int misplaced_value(int option, const char *inside) {
+    if (!inside && options[option].value == WITH)
+        say("%s: %s is missing", options[option].name, options[option].value_name);
+    else
+        say("%s: takes no value", options[option].name);
     return -1;
 }
 
@@ -61,26 +82,43 @@ static int read_option(struct arguments *a, const struct command *c, int count, 
     int option = find_option(c, words[0]);
     if (option < 0)
         return -1;
-    if (!options[option].value) {
-        a->values[option] = words[0];
-        return 1;
-    }
-    if (count < 2) {
-        say("%s: %s is missing", words[0], options[option].value);
+    enum value value = options[option].value;
+    const char *equals = strchr(words[0], '='), *inside = equals ? equals + 1 : NULL;
+    if (inside ? value == WITHOUT : value == WITH && count < 2)
+        return misplaced_value(option, inside);
+    int taken = !inside && value == WITH ? 2 : 1;
+    a->values[option] = inside ? inside : words[taken - 1];
+    if (options[option].is_number && (inside || taken == 2) && arguments_number(a->values[option], &a->numbers[option]) != 0)
         return -1;
-    }
-    a->values[option] = words[1];
-    if (options[option].is_number && arguments_number(words[1], &a->numbers[option]) != 0)
-        return -1;
-    return 2;
+    if (option == OPTION_WAIT && !inside)
+        a->numbers[option] = UINT64_MAX;
+    return taken;
 }
 
-/* Operands are gathered at the start of `words`; after -- everything is one, and so is -. */
+static int complete(const struct arguments *a, const struct command *c) {
+    if (a->count < c->least || a->count > c->most) {
+        say("too %s arguments: reelbook %s %s", a->count < c->least ? "few" : "many", c->name, c->operands);
+        return -1;
+    }
+    for (int option = 0; option < OPTIONS; option++)
+        if ((c->required >> option & 1) != 0 && !a->values[option]) {
+            say("%s is missing: reelbook %s %s", options[option].name, c->name, c->operands);
+            return -1;
+        }
+    return 0;
+}
+
+/* - alone is an operand, and so is -5: where a number is wanted it is then told that it is none. */
+static int is_operand(const char *word) {
+    return word[0] != '-' || word[1] == '\0' || (word[1] >= '0' && word[1] <= '9');
+}
+
+/* Operands are gathered at the start of `words`; after -- everything is one. */
 int arguments_read(struct arguments *a, const struct command *c, int count, char **words) {
     int operands_only = 0;
     *a = (struct arguments){.operands = words};
     for (int i = 0; i < count;) {
-        if (operands_only || words[i][0] != '-' || words[i][1] == '\0') {
+        if (operands_only || is_operand(words[i])) {
             a->operands[a->count++] = words[i++];
         } else if (strcmp(words[i], "--") == 0) {
             operands_only = 1;
@@ -92,19 +130,26 @@ int arguments_read(struct arguments *a, const struct command *c, int count, char
             i += taken;
         }
     }
-    if (a->values[OPTION_HELP] || (a->count >= c->least && a->count <= c->most))
-        return 0;
-    say("too %s arguments: reelbook %s %s", a->count < c->least ? "few" : "many", c->name, c->operands);
-    return -1;
+    return a->values[OPTION_HELP] ? 0 : complete(a, c);
+}
+
+static int put_name(int option) {
+    static const char *const before[] = {[WITHOUT] = "", [WITH] = " ", [PERHAPS] = "[="};
+    const char *brief = options[option].brief, *value = options[option].value_name;
+    enum value kind = options[option].value;
+    return printf("  %s%s%s%s%s%s", brief ? brief : "", brief ? ", " : "", options[option].name, before[kind], value ? value : "",
+                  kind == PERHAPS ? "]" : "");
 }
 
 void arguments_help(const struct command *c) {
+    const int column = 22;
     printf("reelbook %s %s\n\n%s\n\n", c->name, c->operands, c->about);
+    if (c->more)
+        printf("%s\n\n", c->more);
     for (int option = 0; option < OPTIONS; option++) {
         if (!allowed(c, option))
             continue;
-        const char *value = options[option].value;
-        int width = printf("  %s%s%s", options[option].name, value ? " " : "", value ? value : "");
-        printf("%*s%s\n", width < 20 ? 20 - width : 1, "", options[option].about);
+        int width = put_name(option);
+        printf("%*s%s\n", width < column ? column - width : 1, "", options[option].about);
     }
 }

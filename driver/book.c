@@ -1,5 +1,6 @@
 #include "book.h"
 
+#include <errno.h>
 #include <stdlib.h>
 #include <string.h>
 #include <sys/mman.h>
@@ -65,12 +66,12 @@ static uint64_t write_book(const struct file *f, struct medium *m, const char *p
     return done_unless(medium_barrier(m));
 }
 
-uint64_t book_format(const char *path, uint64_t slots, uint64_t nodes, int force) {
+uint64_t book_format(const char *path, uint64_t slots, uint64_t nodes, int force, double until) {
     struct file f;
     struct medium m;
     int created;
     file_lay_out(&f, slots, nodes);
-    uint64_t answer = file_create(&f, path, force, &created);
+    uint64_t answer = file_create(&f, path, force, until, &created);
     if (answer != REELBOOK_DONE)
         return answer;
     answer = done_unless(medium_map(&m, f.fd, f.words, 1));
@@ -125,21 +126,29 @@ static uint64_t prepare(struct book *b, enum book_mode mode) {
     return answer;
 }
 
-uint64_t book_open(struct book *b, const char *path, enum book_mode mode, struct crash *crash) {
+/* To be recovered, and so to be written, unless that may not be. */
+static uint64_t reopen_unclean(struct book *b, const char *path, double until) {
+    file_close(&b->file);
+    uint64_t answer = file_open(&b->file, path, 1, until);
+    b->writable = answer == REELBOOK_DONE;
+    int forbidden = answer == BOOK_SYSTEM && (errno == EACCES || errno == EPERM || errno == EROFS);
+    return forbidden ? file_open(&b->file, path, 0, until) : answer;
+}
+
+uint64_t book_open(struct book *b, const char *path, enum book_mode mode, struct crash *crash, double until) {
     *b = (struct book){.crash = crash};
     b->writable = mode == BOOK_WRITE || mode == BOOK_RECOVER;
-    uint64_t answer = file_open(&b->file, path, b->writable);
+    uint64_t answer = file_open(&b->file, path, b->writable, until);
     b->unclean = answer == REELBOOK_DONE && !b->file.clean;
-    if (b->unclean && mode == BOOK_READ) {
-        file_close(&b->file);
-        b->writable = 1;
-        answer = file_open(&b->file, path, b->writable);
-    }
+    if (b->unclean && mode == BOOK_READ)
+        answer = reopen_unclean(b, path, until);
     if (answer != REELBOOK_DONE)
         return answer;
     answer = map_book(b);
     if (answer == REELBOOK_DONE && b->writable)
         answer = prepare(b, mode);
+    else if (answer == REELBOOK_DONE && mode == BOOK_READ && !b->file.clean)
+        answer = book_recover(b);
     if (answer != REELBOOK_DONE)
         let_go(b);
     return answer;

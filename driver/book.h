@@ -7,7 +7,7 @@
 #include "medium.h"
 
 enum book_mode {
-    BOOK_READ,   /* a private copy; a book that was not closed cleanly is opened to be written, and recovered */
+    BOOK_READ,   /* a private copy; a book that was not closed cleanly is recovered, or, if it may not be written, the copy */
     BOOK_COPY,   /* a private copy, however it was closed */
     BOOK_WRITE,  /* recovered if it was not closed cleanly */
     BOOK_RECOVER /* recovered however it was closed */
@@ -28,11 +28,15 @@ struct book {
     struct crash *crash; /* a power failure to come, or NULL */
 };
 
-/* Each answers REELBOOK_DONE, a refusal of the library or a number of answers.h. */
-uint64_t book_format(const char *path, uint64_t slots, uint64_t nodes, int force);
-uint64_t book_open(struct book *b, const char *path, enum book_mode mode, struct crash *crash);
+/* Each answers REELBOOK_DONE, a refusal of the library or a number of answers.h. A lock is waited for until then, by
+ * clock_seconds(). */
+uint64_t book_format(const char *path, uint64_t slots, uint64_t nodes, int force, double until);
+uint64_t book_open(struct book *b, const char *path, enum book_mode mode, struct crash *crash, double until);
 uint64_t book_recover(struct book *b);
 uint64_t book_close(struct book *b);
+
+/* Is a private copy sound, and the saved map its map? It stays as it was: `mended` is how many locate words a recovery would. */
+uint64_t book_check(struct book *b);
 
 uint64_t book_open_reel(struct book *b, uint64_t reel);
 uint64_t book_add(struct book *b, uint64_t reel, uint64_t frame); /* claim, fill, commit */

@@ -4,7 +4,7 @@
 
 int refuse(uint64_t answer, const char *about) {
     say("%s: %s", about, answer_words(answer));
-    return 1;
+    return answer_status(answer);
 }
 
 int refuse_reel(uint64_t answer, uint64_t reel) {
@@ -15,14 +15,15 @@ int refuse_reel(uint64_t answer, uint64_t reel) {
 
 int begin(struct book *b, const struct arguments *a, enum book_mode mode) {
     const char *path = a->operands[0];
-    uint64_t answer = book_open(b, path, mode, a->crash);
+    uint64_t answer = book_open(b, path, mode, a->crash, a->until);
     if (answer != REELBOOK_DONE) {
         say("%s: %s%s", path, b->unclean ? "not closed cleanly, and not recovered: " : "", answer_words(answer));
-        return -1;
+        return answer_status(answer);
     }
-    if (b->unclean && b->recovered && mode != BOOK_RECOVER)
-        say("%s: not closed cleanly; recovered, locate words mended: %zu", path, b->mended);
-    return 0;
+    if (b->recovered && mode != BOOK_RECOVER)
+        say("%s: not closed cleanly; %s, locate words mended: %zu", path,
+            b->writable ? "recovered" : "it may not be written, so a copy is recovered and read", b->mended);
+    return STATUS_DONE;
 }
 
 int finish(struct book *b, const struct arguments *a, int status) {

@@ -1,9 +1,17 @@
-/* The tool's commands. Each answers the exit status, and has said what went wrong where that is not 0. */
+/* The tool's commands. Each answers the exit status, and has said what went wrong where that is 2 or more. */
 #ifndef COMMANDS_H
 #define COMMANDS_H
 
 #include "arguments.h"
 #include "book.h"
+
+#define TOOL_VERSION "1.0.0"
+
+/* NULL if there is none of that name. */
+const struct command *command_named(const char *name);
+
+/* The text of reelbook --help. */
+void commands_help(void);
 
 int run_format(const struct arguments *a);
 int run_open(const struct arguments *a);
@@ -18,13 +26,13 @@ int run_stat(const struct arguments *a);
 int run_check(const struct arguments *a);
 int run_draw(const struct arguments *a);
 
-/* Opens the book that the first operand names. 0, or -1 after a line on standard error. */
+/* Opens the book that the first operand names. 0, or the exit status after a line on standard error. */
 int begin(struct book *b, const struct arguments *a, enum book_mode mode);
 
-/* Closes it. The status given, or 1 if closing failed. */
+/* Closes it. The status given, or that of a failure to close. */
 int finish(struct book *b, const struct arguments *a, int status);
 
-/* Say what an answer is about and what it means. The status 1. */
+/* Say what an answer is about and what it means. Its exit status. */
 int refuse(uint64_t answer, const char *about);
 int refuse_reel(uint64_t answer, uint64_t reel);
 

@@ -1,4 +1,4 @@
-#define _DEFAULT_SOURCE 1 /* for flock */
+#define _DEFAULT_SOURCE 1 /* for flock, nanosleep */
 #include "file.h"
 
 #include <errno.h>
@@ -8,7 +8,13 @@
 #include <string.h>
 #include <sys/file.h>
 #include <sys/stat.h>
+#include <time.h>
 #include <unistd.h>
+
+#include "clock.h"
+
+/* A file that another takes the name of is opened anew, so often at most. */
+enum { MOST_TRIES = 16 };
 
 static size_t next_page(size_t words) {
     return (words + FILE_PAGE_WORDS - 1) / FILE_PAGE_WORDS * FILE_PAGE_WORDS;
@@ -33,8 +39,21 @@ static int open_any(const char *path, int flags) {
     return open(path, flags | O_CLOEXEC | O_NONBLOCK, 0666);
 }
 
+/* Tries again until the time is up. */
+static uint64_t lock(int fd, int kind, double until) {
+    const struct timespec pause = {.tv_nsec = 10000000};
+    while (flock(fd, kind | LOCK_NB) != 0) {
+        if (errno != EWOULDBLOCK && errno != EINTR)
+            return BOOK_SYSTEM;
+        if (clock_seconds() >= until)
+            return BOOK_LOCKED;
+        nanosleep(&pause, NULL);
+    }
+    return REELBOOK_DONE;
+}
+
 /* Locks a regular file and tells its length, which stays so while it is locked. */
-static uint64_t lock_regular(int fd, int kind, off_t *bytes) {
+static uint64_t lock_regular(int fd, int kind, double until, off_t *bytes) {
     struct stat status;
     if (fstat(fd, &status) != 0)
         return BOOK_SYSTEM;
@@ -44,12 +63,17 @@ static uint64_t lock_regular(int fd, int kind, off_t *bytes) {
     }
     if (!S_ISREG(status.st_mode))
         return BOOK_NOT_REGULAR;
-    if (flock(fd, kind | LOCK_NB) != 0)
-        return errno == EWOULDBLOCK ? BOOK_LOCKED : BOOK_SYSTEM;
-    if (fstat(fd, &status) != 0)
-        return BOOK_SYSTEM;
+    uint64_t answer = lock(fd, kind, until);
+    if (answer == REELBOOK_DONE && fstat(fd, &status) != 0)
+        answer = BOOK_SYSTEM;
     *bytes = status.st_size;
-    return REELBOOK_DONE;
+    return answer;
+}
+
+/* Another file may take the name while a lock is waited for; what is then written to this one would be lost. */
+static int still_named(int fd, const char *path) {
+    struct stat this, named;
+    return fstat(fd, &this) == 0 && stat(path, &named) == 0 && this.st_dev == named.st_dev && this.st_ino == named.st_ino;
 }
 
 /* 1 if the file starts with a header, whatever it says; 0 if it is too short. */
@@ -72,16 +96,23 @@ static uint64_t check_header(struct file *f, off_t bytes) {
     return bytes == in_bytes(f->words) ? REELBOOK_DONE : BOOK_WRONG_LENGTH;
 }
 
-uint64_t file_open(struct file *f, const char *path, int writable) {
+static uint64_t open_once(struct file *f, const char *path, int writable, double until) {
     off_t bytes;
     f->fd = open_any(path, writable ? O_RDWR : O_RDONLY);
     if (f->fd < 0)
         return BOOK_SYSTEM;
-    uint64_t answer = lock_regular(f->fd, writable ? LOCK_EX : LOCK_SH, &bytes);
+    uint64_t answer = lock_regular(f->fd, writable ? LOCK_EX : LOCK_SH, until, &bytes);
     if (answer == REELBOOK_DONE)
-        answer = check_header(f, bytes);
+        answer = still_named(f->fd, path) ? check_header(f, bytes) : BOOK_REPLACED;
     if (answer != REELBOOK_DONE)
         file_close(f);
+    return answer;
+}
+
+uint64_t file_open(struct file *f, const char *path, int writable, double until) {
+    uint64_t answer = BOOK_REPLACED;
+    for (int tries = 0; answer == BOOK_REPLACED && tries < MOST_TRIES; tries++)
+        answer = open_once(f, path, writable, until);
     return answer;
 }
 
@@ -96,15 +127,17 @@ static uint64_t allocate(const struct file *f, off_t old_bytes) {
 }
 
 /* Between making a file and locking it another process may make it a book: then it is one that was there. */
-static uint64_t lock_new(const struct file *f, int force, int *created, off_t *old_bytes) {
-    uint64_t answer = lock_regular(f->fd, LOCK_EX, old_bytes);
+static uint64_t lock_new(const struct file *f, const char *path, int force, double until, int *created, off_t *old_bytes) {
+    uint64_t answer = lock_regular(f->fd, LOCK_EX, until, old_bytes);
+    if (answer == REELBOOK_DONE && !still_named(f->fd, path))
+        return BOOK_REPLACED;
     if (answer != REELBOOK_DONE || !*created || *old_bytes == 0)
         return answer;
     *created = 0;
     return force ? REELBOOK_DONE : BOOK_EXISTS;
 }
 
-uint64_t file_create(struct file *f, const char *path, int force, int *created) {
+static uint64_t create_once(struct file *f, const char *path, int force, double until, int *created) {
     off_t old_bytes;
     f->fd = open_any(path, O_RDWR | O_CREAT | O_EXCL);
     *created = f->fd >= 0;
@@ -115,7 +148,7 @@ uint64_t file_create(struct file *f, const char *path, int force, int *created) 
     }
     if (f->fd < 0)
         return BOOK_SYSTEM;
-    uint64_t answer = lock_new(f, force, created, &old_bytes);
+    uint64_t answer = lock_new(f, path, force, until, created, &old_bytes);
     if (answer == REELBOOK_DONE) {
         answer = allocate(f, old_bytes);
         if (answer != REELBOOK_DONE && *created)
@@ -123,6 +156,13 @@ uint64_t file_create(struct file *f, const char *path, int force, int *created) 
     }
     if (answer != REELBOOK_DONE)
         file_close(f);
+    return answer;
+}
+
+uint64_t file_create(struct file *f, const char *path, int force, double until, int *created) {
+    uint64_t answer = BOOK_REPLACED;
+    for (int tries = 0; answer == BOOK_REPLACED && tries < MOST_TRIES; tries++)
+        answer = create_once(f, path, force, until, created);
     return answer;
 }
 

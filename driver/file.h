@@ -24,12 +24,13 @@ struct file {
 /* Where everything is in a file for so many slots and nodes. */
 void file_lay_out(struct file *f, uint64_t slots, uint64_t nodes);
 
-/* Opens a book's file and locks it, for this process alone if it is to be written. */
-uint64_t file_open(struct file *f, const char *path, int writable);
+/* Opens a book's file and locks it, for this process alone if it is to be written. The lock is waited for until then, by
+ * clock_seconds(), and it is that of the file that has the name when it is got. */
+uint64_t file_open(struct file *f, const char *path, int writable, double until);
 
 /* Makes a file of the length that was laid out, all of it allocated, or takes an existing one if `force`; locks it. A file that
  * was there keeps its contents, and if this fails its length. *created says whether it was not there. */
-uint64_t file_create(struct file *f, const char *path, int force, int *created);
+uint64_t file_create(struct file *f, const char *path, int force, double until, int *created);
 
 /* Returns when the file's length and name are lasting. */
 uint64_t file_settle(const struct file *f, const char *path);

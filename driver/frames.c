@@ -7,11 +7,11 @@
 #include <signal.h>
 #include <stdio.h>
 #include <string.h>
-#include <time.h>
 #include <unistd.h>
 
 #include "answers.h"
 #include "arguments.h"
+#include "clock.h"
 
 static volatile sig_atomic_t interrupted;
 
@@ -68,13 +68,12 @@ static int read_frame(struct frames *f) {
         return 0;
     if (ferror(stdin)) {
         snprintf(f->error, sizeof f->error, "standard input: %s", strerror(errno));
-        return 0;
-    }
-    if (some && !number_in(word, &f->frame)) {
+        f->status = STATUS_SYSTEM;
+    } else if (some && !number_in(word, &f->frame)) {
         snprintf(f->error, sizeof f->error, NOT_A_NUMBER, word, UINT64_MAX);
-        return 0;
+        f->status = STATUS_USAGE;
     }
-    return some;
+    return some && !f->error[0];
 }
 
 int frames_next(struct frames *f) {
@@ -85,22 +84,16 @@ int frames_next(struct frames *f) {
     return f->count-- > 0 && number_in(*f->words++, &f->frame);
 }
 
-static double seconds(void) {
-    struct timespec now;
-    clock_gettime(CLOCK_MONOTONIC, &now);
-    return (double)now.tv_sec + (double)now.tv_nsec / 1e9;
-}
-
 void progress_begin(struct progress *p, int wanted) {
     int terminal = isatty(STDERR_FILENO);
-    *p = (struct progress){.wanted = wanted || terminal, .rewritten = terminal, .last = seconds()};
+    *p = (struct progress){.wanted = wanted || terminal, .rewritten = terminal, .last = clock_seconds()};
 }
 
 void progress_show(struct progress *p, uint64_t frames) {
     const double interval = 0.25;
-    if (!p->wanted || seconds() - p->last < interval)
+    if (!p->wanted || clock_seconds() - p->last < interval)
         return;
-    p->last = seconds();
+    p->last = clock_seconds();
     p->shown = 1;
     fprintf(stderr, "%sreelbook: %s: %" PRIu64 " frames%s", p->rewritten ? "\r" : "", say_command, frames,
             p->rewritten ? "" : "\n");

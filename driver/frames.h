@@ -8,7 +8,8 @@ struct frames {
     char **words;    /* or NULL for standard input */
     int count;       /* of words left */
     uint64_t frame;  /* the last one */
-    char error[120]; /* why there is no next one, or empty */
+    char error[160]; /* why there is no next one, or empty */
+    int status;      /* the exit status that goes with it */
 };
 
 /* Frames that are given as words, or, if there is none or just -, on standard input, separated by white space. 0, or -1 after a

@@ -1,4 +1,5 @@
 #include <stdlib.h>
+#include <string.h>
 
 #include "book.h"
 #include "carry.h"
@@ -59,6 +60,10 @@ uint64_t book_list(struct book *b, uint64_t reel, uint64_t **frames, uint64_t *c
     return answer;
 }
 
+static size_t locate_at(const struct book *b, uint64_t node) {
+    return (size_t)(book_node(b, node) + REELBOOK_NODE_LOCATE - b->image);
+}
+
 static uint64_t *copy_locate_words(const struct book *b) {
     uint64_t *copy = malloc((size_t)b->file.nodes * sizeof *copy);
     for (uint64_t node = 0; copy && node < b->file.nodes; node++)
@@ -75,10 +80,9 @@ static size_t count_mended(const struct book *b, const uint64_t *before) {
 
 /* The barrier over the whole image ends the recovery. On a private copy it is none. */
 static int end_recovery(struct book *b, const uint64_t *before) {
-    size_t locate_at = (size_t)(book_node(b, 0) + REELBOOK_NODE_LOCATE - b->image);
     b->mended = count_mended(b, before);
     b->recovered = 1;
-    if (b->crash && crash_recovery(b->crash, &b->medium, b->file.image_at, locate_at, b->file.nodes, before) != 0)
+    if (b->crash && crash_recovery(b->crash, &b->medium, b->file.image_at, locate_at(b, 0), b->file.nodes, before) != 0)
         return -1;
     return medium_barrier_over(&b->medium, b->file.image_at, b->file.image_words);
 }
@@ -90,6 +94,32 @@ uint64_t book_recover(struct book *b) {
     uint64_t answer = reelbook_recover(IMAGE, MAP, b->heads);
     if (answer == REELBOOK_DONE && end_recovery(b, before) != 0)
         answer = BOOK_SYSTEM;
+    free(before);
+    return answer;
+}
+
+/* Only where they differ: every other page of the private copy stays the file's. */
+static void put_back(const struct book *b, const uint64_t *before) {
+    for (uint64_t node = 0; node < b->file.nodes; node++)
+        if (b->image[locate_at(b, node)] != before[node])
+            b->image[locate_at(b, node)] = before[node];
+}
+
+/* The saved map counts only if the book was closed cleanly: then the next opening trusts it. */
+static int saved_map_wrong(const struct book *b) {
+    return b->file.clean && memcmp(b->map, b->medium.words + b->file.map_at, b->file.map_words * sizeof *b->map) != 0;
+}
+
+uint64_t book_check(struct book *b) {
+    uint64_t *before = copy_locate_words(b);
+    if (!before)
+        return BOOK_SYSTEM;
+    uint64_t answer = reelbook_recover(IMAGE, MAP, b->heads);
+    if (answer == REELBOOK_DONE) {
+        b->mended = count_mended(b, before);
+        put_back(b, before);
+        answer = saved_map_wrong(b) ? BOOK_WRONG_MAP : REELBOOK_DONE;
+    }
     free(before);
     return answer;
 }

@@ -12,38 +12,55 @@
 int run_has(const struct arguments *a) {
     struct book b;
     uint64_t reel, frame, yes;
-    if (arguments_number(a->operands[1], &reel) != 0 || arguments_number(a->operands[2], &frame) != 0 ||
-        begin(&b, a, BOOK_READ) != 0)
-        return 1;
+    if (arguments_number(a->operands[1], &reel) != 0 || arguments_number(a->operands[2], &frame) != 0)
+        return STATUS_USAGE;
+    int status = begin(&b, a, BOOK_READ);
+    if (status != STATUS_DONE)
+        return status;
     uint64_t answer = book_has(&b, reel, frame, &yes);
     if (answer != REELBOOK_DONE)
         return finish(&b, a, refuse_reel(answer, reel));
     puts(yes ? "yes" : "no");
-    return finish(&b, a, 0);
+    return finish(&b, a, yes ? STATUS_DONE : STATUS_NO);
 }
 
 int run_list(const struct arguments *a) {
     struct book b;
     uint64_t reel, *frames, count;
-    if (arguments_number(a->operands[1], &reel) != 0 || begin(&b, a, BOOK_READ) != 0)
-        return 1;
+    if (arguments_number(a->operands[1], &reel) != 0)
+        return STATUS_USAGE;
+    int status = begin(&b, a, BOOK_READ);
+    if (status != STATUS_DONE)
+        return status;
     uint64_t answer = book_list(&b, reel, &frames, &count);
     if (answer != REELBOOK_DONE)
         return finish(&b, a, refuse_reel(answer, reel));
     for (uint64_t i = 0; i < count; i++)
         printf("%" PRIu64 "\n", frames[i]);
     free(frames);
-    return finish(&b, a, 0);
+    return finish(&b, a, STATUS_DONE);
 }
 
+/* A sound book alone is counted. One that was not closed cleanly has just been recovered, which checks as much. */
+static uint64_t check_and_count(struct book *b, struct survey *s, const char *path) {
+    uint64_t answer = b->recovered ? REELBOOK_DONE : book_check(b);
+    if (answer != REELBOOK_DONE) {
+        say("%s: not sound: %s", path, answer_words(answer));
+        return answer;
+    }
+    answer = survey_take(s, b);
+    if (answer != REELBOOK_DONE)
+        refuse(answer, path);
+    return answer;
+}
+
+/* 0, or the exit status after a line on standard error. */
 static int begin_survey(struct book *b, struct survey *s, const struct arguments *a) {
-    if (begin(b, a, BOOK_READ) != 0)
-        return -1;
-    uint64_t answer = survey_take(s, b);
-    if (answer == REELBOOK_DONE)
-        return 0;
-    finish(b, a, refuse(answer, a->operands[0]));
-    return -1;
+    int status = begin(b, a, BOOK_READ);
+    if (status != STATUS_DONE)
+        return status;
+    uint64_t answer = check_and_count(b, s, a->operands[0]);
+    return answer == REELBOOK_DONE ? STATUS_DONE : finish(b, a, answer_status(answer));
 }
 
 static void print_reels(const struct survey *s) {
@@ -59,8 +76,9 @@ static void print_reels(const struct survey *s) {
 int run_stat(const struct arguments *a) {
     struct book b;
     struct survey s;
-    if (begin_survey(&b, &s, a) != 0)
-        return 1;
+    int status = begin_survey(&b, &s, a);
+    if (status != STATUS_DONE)
+        return status;
     printf("reels    %zu of %" PRIu64 "\n", s.count, b.file.slots);
     printf("frames   %" PRIu64 "\n", s.total.frames);
     printf("nodes    %" PRIu64 " used, %" PRIu64 " free\n", s.total.nodes, b.file.nodes - s.total.nodes);
@@ -69,28 +87,21 @@ int run_stat(const struct arguments *a) {
     if (a->values[OPTION_BY_REEL])
         print_reels(&s);
     survey_free(&s);
-    return finish(&b, a, 0);
-}
-
-/* The saved map counts only if the book was closed cleanly: then the next opening trusts it. */
-static int saved_map_wrong(const struct book *b) {
-    return b->file.clean && memcmp(b->map, b->medium.words + b->file.map_at, b->file.map_words * sizeof *b->map) != 0;
+    return finish(&b, a, STATUS_DONE);
 }
 
 int run_check(const struct arguments *a) {
     struct book b;
-    int status = 1;
-    if (begin(&b, a, BOOK_COPY) != 0)
-        return 1;
+    int status = begin(&b, a, BOOK_COPY);
+    if (status != STATUS_DONE)
+        return status;
     const char *closed = b.file.clean ? "closed cleanly" : "not closed cleanly";
-    uint64_t answer = book_recover(&b);
-    if (answer != REELBOOK_DONE)
-        say("%s: not sound: %s; %s", a->operands[0], answer_words(answer), closed);
-    else if (saved_map_wrong(&b))
-        say("%s: not sound: the saved map is not the image's; %s", a->operands[0], closed);
+    uint64_t answer = book_check(&b);
+    if (answer == REELBOOK_DONE)
+        printf("sound; %s; locate words that differ: %zu\n", closed, b.mended);
     else
-        status = printf("sound; %s; locate words that differ: %zu\n", closed, b.mended) < 0;
-    return finish(&b, a, status);
+        say("%s: not sound: %s; %s", a->operands[0], answer_words(answer), closed);
+    return finish(&b, a, answer_status(answer));
 }
 
 static int draw_to_file(const char *to, const struct book *b, const struct survey *s, const char *path) {
@@ -108,16 +119,17 @@ static int draw_to_file(const char *to, const struct book *b, const struct surve
 int run_draw(const struct arguments *a) {
     struct book b;
     struct survey s;
-    int status = 0;
     const char *to = a->values[OPTION_OUTPUT];
-    if (to && file_is_book(to)) {
+    int to_file = to && strcmp(to, "-") != 0;
+    if (to_file && file_is_book(to)) {
         say("%s: a reel book, not overwritten", to);
-        return 1;
+        return STATUS_SYSTEM;
     }
-    if (begin_survey(&b, &s, a) != 0)
-        return 1;
-    if (to)
-        status = draw_to_file(to, &b, &s, a->operands[0]);
+    int status = begin_survey(&b, &s, a);
+    if (status != STATUS_DONE)
+        return status;
+    if (to_file)
+        status = draw_to_file(to, &b, &s, a->operands[0]) ? STATUS_SYSTEM : STATUS_DONE;
     else
         draw(stdout, &b, &s, a->operands[0]);
     survey_free(&s);

@@ -32,7 +32,7 @@ struct survey {
     struct tally total;
 };
 
-/* REELBOOK_MALFORMED if the trees cannot be walked through; more than that only recovery finds out. */
+/* REELBOOK_MALFORMED if the trees cannot be walked through; book_check() finds the rest. */
 uint64_t survey_take(struct survey *s, const struct book *b);
 
 void survey_free(struct survey *s);

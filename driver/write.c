@@ -16,18 +16,21 @@ static int out_of_range(const char *name, uint64_t number, uint64_t most) {
 int run_format(const struct arguments *a) {
     uint64_t reels = a->numbers[OPTION_REELS], nodes = a->numbers[OPTION_NODES];
     if (out_of_range("--reels", reels, REELBOOK_MAX_SLOTS) || out_of_range("--nodes", nodes, REELBOOK_MAX_NODES))
-        return 1;
-    uint64_t answer = book_format(a->operands[0], reels, nodes, a->values[OPTION_FORCE] != NULL);
-    return answer == REELBOOK_DONE ? 0 : refuse(answer, a->operands[0]);
+        return STATUS_USAGE;
+    uint64_t answer = book_format(a->operands[0], reels, nodes, a->values[OPTION_FORCE] != NULL, a->until);
+    return answer == REELBOOK_DONE ? STATUS_DONE : refuse(answer, a->operands[0]);
 }
 
 static int on_reel(const struct arguments *a, uint64_t (*operation)(struct book *, uint64_t)) {
     struct book b;
     uint64_t reel;
-    if (arguments_number(a->operands[1], &reel) != 0 || begin(&b, a, BOOK_WRITE) != 0)
-        return 1;
+    if (arguments_number(a->operands[1], &reel) != 0)
+        return STATUS_USAGE;
+    int status = begin(&b, a, BOOK_WRITE);
+    if (status != STATUS_DONE)
+        return status;
     uint64_t answer = operation(&b, reel);
-    return finish(&b, a, answer == REELBOOK_DONE ? 0 : refuse_reel(answer, reel));
+    return finish(&b, a, answer == REELBOOK_DONE ? STATUS_DONE : refuse_reel(answer, reel));
 }
 
 int run_open(const struct arguments *a) {
@@ -73,15 +76,20 @@ static uint64_t do_frames(struct book *b, const struct arguments *a, struct job 
 }
 
 static int report(const struct job *j, const struct frames *f, uint64_t answer) {
-    if (answer != REELBOOK_DONE)
+    if (answer != REELBOOK_DONE) {
         say("reel %" PRIu64 ": frame %" PRIu64 ": %s; %s before it", j->reel, f->frame, answer_words(answer), summary(j));
-    else if (f->error[0])
+        return answer_status(answer);
+    }
+    if (f->error[0]) {
         say("%s; %s before it", f->error, summary(j));
-    else if (frames_interrupted())
+        return f->status;
+    }
+    if (frames_interrupted()) {
         say("interrupted; %s", summary(j));
-    else
-        return puts(summary(j)) < 0;
-    return 1;
+        return STATUS_SYSTEM;
+    }
+    puts(summary(j));
+    return STATUS_DONE;
 }
 
 /* The frames on the command line are all read before the first is done; Has tells whether there is such a reel, even if no frame
@@ -91,9 +99,10 @@ static int on_frames(const struct arguments *a, struct job j) {
     struct frames f;
     uint64_t yes;
     if (arguments_number(a->operands[1], &j.reel) != 0 || frames_begin(&f, a->operands + 2, a->count - 2) != 0)
-        return 1;
-    if (begin(&b, a, BOOK_WRITE) != 0)
-        return 1;
+        return STATUS_USAGE;
+    int status = begin(&b, a, BOOK_WRITE);
+    if (status != STATUS_DONE)
+        return status;
     uint64_t answer = book_has(&b, j.reel, 0, &yes);
     if (answer != REELBOOK_DONE)
         return finish(&b, a, refuse_reel(answer, j.reel));
@@ -113,13 +122,14 @@ int run_remove(const struct arguments *a) {
 int run_recover(const struct arguments *a) {
     struct book b;
     struct survey s;
-    if (begin(&b, a, BOOK_RECOVER) != 0)
-        return 1;
+    int status = begin(&b, a, BOOK_RECOVER);
+    if (status != STATUS_DONE)
+        return status;
     uint64_t answer = survey_take(&s, &b);
     if (answer != REELBOOK_DONE)
         return finish(&b, a, refuse(answer, a->operands[0]));
     printf("%s; reels: %zu, frames: %" PRIu64 ", locate words mended: %zu\n", b.unclean ? "not closed cleanly" : "closed cleanly",
            s.count, s.total.frames, b.mended);
     survey_free(&s);
-    return finish(&b, a, 0);
+    return finish(&b, a, STATUS_DONE);
 }

@@ -48,6 +48,7 @@ pub const LEND: u64 = 18;
 pub const HOLD: u64 = 19;
 
 pub const CARRY: u64 = 20;
+
 // An empty line or one that starts with #; and one that cannot be read.
 pub const HEADING: u64 = 21;
 

@@ -98,8 +98,8 @@ fn is_recovered(
     let n = least(image.len(), IMAGE_WORDS);
     copy(image, &mut copied);
     let left = &mut copied[..n];
-    crash(left, script, first, barrier, mixture);
-    is_as_due(left, list, command)
+    let stored = crash(left, script, first, barrier, mixture);
+    stored & is_as_due(left, list, command)
 }
 
 fn copy(from: &[u64], to: &mut [u64]) {
@@ -111,21 +111,24 @@ fn copy(from: &[u64], to: &mut [u64]) {
     }
 }
 
-// Stores what a crash keeps: the entries before the first, and of the pending stores those whose bit of the mixture is 1.
-fn crash(image: &mut [u64], script: &[u64], first: usize, barrier: usize, mixture: u64)
+// Stores what a crash keeps: the entries before the first, and of the pending stores those whose bit of the mixture is 1. Is all
+// of that answered 0?
+fn crash(image: &mut [u64], script: &[u64], first: usize, barrier: usize, mixture: u64) -> bool
     requires { ⌜ (first ≤ barrier) × (2 * barrier ≤ length (now script)) ⌝ }
 {
-    reelbook_apply(image, &script[..2 * first]);
+    let mut stored = reelbook_apply(image, &script[..2 * first]) == 0;
     let mut bits = mixture;
     let mut entry = first;
     while entry < barrier {
         // the words of an entry, or none of them
         let start = 2 * entry;
         let words = 2 * (bits % 2) as usize;
-        reelbook_apply(image, &script[start..start + words]);
+        let answer = reelbook_apply(image, &script[start..start + words]);
+        stored = stored & (answer == 0);
         bits = bits / 2;
         entry += 1;
     }
+    stored
 }
 
 // Map and heads are lost: they come up as all ones.

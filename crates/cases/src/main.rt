@@ -6,16 +6,21 @@
 // words of each buffer, as many as are lent, and all words of the heads.
 //
 //   lend BUFFER WORDS          so many words from now on, none in the beginning
-//   format .., and so on       the operations; what comes out is the answer, and what is handed back
-//   apply                      carries out a script, the words of `script` that are lent
-//   hold, carry                from now on scripts are left where they are written; or carried out at once, as in the beginning
-//   add REEL FROM STEP COUNT   claims, fills and commits frames with head 0, up to the first answer that is not 0
-//   put BUFFER PLACE WORD ..   words put from a place on
+//   format SLOTS NODES, ..     the operations, with their numbers in the sequence of the C interface: what comes out is the
+//                              answer, and behind it what is handed back
+//   apply                      carries out a script: the words of `script` that are lent
+//   hold, carry                from now on, scripts that an operation writes are left; or they are carried out at once, as in
+//                              the beginning
+//   add REEL FROM STEP COUNT   claims, fills and commits frames with head 0, up to the first answer that is not 0: what comes
+//                              out of the last operation
+//   put BUFFER PLACE WORD ..   up to six words put from a place on
 //   all BUFFER WORD            one word put everywhere
 //   ramp BUFFER PLACE STEP COUNT WORD RISE
 //                              words put, each `step` places behind the one before and greater by `rise`
 //   show BUFFER PLACE COUNT    words shown
-//   crash REEL MAP MAP         all crashes of a script, the words of `script` that are lent (crash.rt)
+//   crash REEL MAP MAP         all crashes of a script (crash.rt)
+//
+// Behind a line that cannot be read, or names a place that is not there, stands = ?.
 mod buffers;
 mod calls;
 mod command;

@@ -7,10 +7,10 @@ use Rattle.cases.proofs.crash.crash.Statement.{statement}
 use Rattle.cases.proofs.crash.crash.Tie as tie
 
 abbrev Inv-loop : tie.InvT-loop
-Inv-loop image₀ script first barrier mixture bits₀ entry₀ image bits entry = (first ≤ entry) × (entry ≤ barrier) × (length image ≡ length image₀)
+Inv-loop image₀ script first barrier mixture stored₀ bits₀ entry₀ image stored bits entry = (first ≤ entry) × (entry ≤ barrier) × (length image ≡ length image₀)
 
 abbrev μ-loop : tie.MeasureT-loop
-μ-loop image₀ script first barrier mixture bits₀ entry₀ image bits entry = barrier - entry
+μ-loop image₀ script first barrier mixture stored₀ bits₀ entry₀ image stored bits entry = barrier - entry
 
 pub crash-spec : {M : Type 1} → statement M
 crash-spec =

@@ -29,6 +29,6 @@ int begin(struct book *b, const struct arguments *a, enum book_mode mode) {
 int finish(struct book *b, const struct arguments *a, int status) {
     uint64_t answer = book_close(b);
     if (a->crash)
-        say("ended before the power failure, after %" PRIu64 " entries", a->crash->passed);
+        say("ended before the power failure, after %" PRIu64 " %s", a->crash->passed, entries_word(a->crash->passed));
     return answer == REELBOOK_DONE ? status : refuse(answer, a->operands[0]);
 }

@@ -51,7 +51,7 @@ int crash_carry_out(struct crash *c, struct medium *m, size_t image_at, const ui
     size_t made = 2 * (size_t)left, fenced = last_barrier(script, made);
     if (carry_out(m, image_at, script, fenced) != 0 || keep_some(c, m, image_at, script + fenced, made - fenced) != 0)
         return -1;
-    say("crashed after %" PRIu64 " entries, seed %" PRIu64, c->after, c->seed);
+    say("crashed after %" PRIu64 " %s, seed %" PRIu64, c->after, entries_word(c->after), c->seed);
     exit(EXIT_SUCCESS);
 }
 

@@ -11,6 +11,10 @@ struct crash {
     uint64_t state; /* of the generator, at first the seed */
 };
 
+static inline const char *entries_word(uint64_t count) {
+    return count == 1 ? "entry" : "entries";
+}
+
 /* carry_out(), but if the power fails before the script has ended, or with its end, then the process ends there: each word stored
  * to since the last barrier has its content from then or that of any one of those stores. */
 int crash_carry_out(struct crash *c, struct medium *m, size_t image_at, const uint64_t *script, size_t words);

@@ -1,7 +1,8 @@
 #include "draw.h"
 
 #include <inttypes.h>
-#include <string.h>
+
+#include "names.h"
 
 enum { TILES = 5, SWATCH = 11, GAP = 34 };
 
@@ -30,7 +31,7 @@ static void put_free(FILE *out, struct box b) {
 }
 
 static void put_numbers(FILE *out, uint64_t node, struct box b, const struct tally *t) {
-    const double roomy = 40, wide = 24, high = 30;
+    const double roomy = 40, wide = 24, high = 28;
     int numbered = b.height >= high && b.width >= wide;
     double x = b.x + b.width / 2, y = b.y + b.height / 2 + (numbered ? 8 : 4);
     if (t && b.width >= roomy)
@@ -90,7 +91,6 @@ static double draw_samples(const struct picture *p, double y) {
         svg_text(p->out, x + 25, y + 13, "label", "%s", names[i]);
         x += widths[i];
     }
-    svg_text(p->out, x, y + 13, "label", "In a box: the node's number; its frames / its places.");
     return y + 18;
 }
 
@@ -120,9 +120,9 @@ static double draw_legend(const struct picture *p, double y) {
     return y;
 }
 
-static double draw_all(const struct picture *p, const char *title) {
+static double draw_all(const struct picture *p, const char *name) {
     double y = DRAW_MARGIN + 20;
-    svg_text(p->out, DRAW_MARGIN, y, "title", "Reel book %s", title);
+    svg_text(p->out, DRAW_MARGIN, y, "title", "Reel book %s", name);
     y = draw_numbers(p, y + GAP);
     y = draw_legend(p, y);
     y = draw_pool(p, y + GAP);
@@ -130,11 +130,15 @@ static double draw_all(const struct picture *p, const char *title) {
     return y + DRAW_MARGIN;
 }
 
+/* The picture has the name as far as there is room; the file, which a viewer may show above it, has all of it. */
 void draw(FILE *out, const struct book *b, const struct survey *s, const char *path) {
+    const double before_name = 165;
+    char name[192], whole[1024];
     struct picture p = {NULL, b, s};
-    const char *slash = strrchr(path, '/'), *title = slash ? slash + 1 : path;
-    svg_begin(out, DRAW_WIDTH, draw_all(&p, title));
+    name_as_text(name, sizeof name, name_of_path(path), DRAW_INNER - before_name);
+    name_as_text(whole, sizeof whole, name_of_path(path), 1e9);
+    svg_begin(out, DRAW_WIDTH, draw_all(&p, name), whole);
     p.out = out;
-    draw_all(&p, title);
+    draw_all(&p, name);
     svg_end(out);
 }

@@ -167,7 +167,7 @@ uint64_t file_create(struct file *f, const char *path, int force, double until, 
 }
 
 /* A directory that may not be read cannot be opened for this: then the file's own fsync has to do. */
-static int settle_name(const char *path) {
+int file_settle_name(const char *path) {
     char *copy = strdup(path);
     if (!copy)
         return -1;
@@ -177,11 +177,11 @@ static int settle_name(const char *path) {
         return errno == EACCES ? 0 : -1;
     int failed = fsync(directory) != 0 && errno != EINVAL; /* EINVAL: this file system has no need of it */
     close(directory);
-    return failed;
+    return failed ? -1 : 0;
 }
 
 uint64_t file_settle(const struct file *f, const char *path) {
-    if (ftruncate(f->fd, in_bytes(f->words)) != 0 || fsync(f->fd) != 0 || settle_name(path) != 0)
+    if (ftruncate(f->fd, in_bytes(f->words)) != 0 || fsync(f->fd) != 0 || file_settle_name(path) != 0)
         return BOOK_SYSTEM;
     return REELBOOK_DONE;
 }

@@ -35,6 +35,9 @@ uint64_t file_create(struct file *f, const char *path, int force, double until, 
 /* Returns when the file's length and name are lasting. */
 uint64_t file_settle(const struct file *f, const char *path);
 
+/* Returns when a name is lasting. 0, or -1 with errno. */
+int file_settle_name(const char *path);
+
 void file_close(struct file *f);
 
 /* Does this path name a file that starts as a book does? */

@@ -95,8 +95,8 @@ void progress_show(struct progress *p, uint64_t frames) {
         return;
     p->last = clock_seconds();
     p->shown = 1;
-    fprintf(stderr, "%sreelbook: %s: %" PRIu64 " frames%s", p->rewritten ? "\r" : "", say_command, frames,
-            p->rewritten ? "" : "\n");
+    fprintf(stderr, "%sreelbook: %s: %" PRIu64 " frame%s%s", p->rewritten ? "\r" : "", say_command, frames,
+            frames == 1 ? "" : "s", p->rewritten ? "" : "\n");
 }
 
 void progress_end(struct progress *p) {

@@ -10,12 +10,14 @@
 
 #include "clock.h"
 #include "commands.h"
+#include "unfinished.h"
 
 /* A mapped file can fail under any load or store. The book is then as after a power failure: the next command recovers it. */
 static void on_bus_error(int signal_number) {
     static const char line[] = "reelbook: the file cannot be read or written: damaged, cut short meanwhile, or on a full disk\n";
     ssize_t written = write(STDERR_FILENO, line, sizeof line - 1);
     (void)signal_number, (void)written;
+    unfinished_remove();
     _exit(STATUS_SYSTEM);
 }
 

@@ -9,14 +9,18 @@ struct grid {
     unsigned columns;
     double width, height; /* of a cell */
     int boxes;
+    const char *about;
 };
 
 static struct grid grid_for(uint64_t nodes) {
-    static const struct grid grids[] = {{128, 16, 66, 46, 1},
-                                        {512, 32, 33, 33, 1},
-                                        {2048, 64, 16, 16, 1},
-                                        {8192, 128, 8, 8, 0},
-                                        {REELBOOK_MAX_NODES, 256, 4, 4, 0}};
+    static const char dots[] = "A dot for each node. The deeper its colour, the more of its places are held.";
+    static const struct grid grids[] = {
+        {128, 16, 66, 46, 1, "In a box: the node's number; its frames / its places."},
+        {512, 32, 33, 33, 1, "In a box: the node's number; its frames."},
+        {2048, 64, 16, 16, 1, "A box for each node; before each line, the number of its first one."},
+        {8192, 128, 8, 8, 0, dots},
+        {REELBOOK_MAX_NODES, 256, 4, 4, 0, dots},
+    };
     const struct grid *g = grids;
     while (g->nodes < nodes)
         g++;
@@ -61,8 +65,7 @@ double draw_pool(const struct picture *p, double y) {
     struct grid g = grid_for(nodes);
     double x = DRAW_MARGIN + label;
     svg_text(p->out, DRAW_MARGIN, y + 14, "head", "The pool");
-    if (!g.boxes)
-        svg_text(p->out, x + 60, y + 14, "label", "A dot for each node. The deeper its colour, the more of its places are held.");
+    svg_text(p->out, x + 60, y + 14, "label", "%s", g.about);
     y += 30;
     unsigned every = g.boxes ? 1 : (unsigned)(label_height / g.height);
     svg_put(p->out, "<g%s>\n", g.boxes ? "" : " shape-rendering=\"crispEdges\"");

@@ -1,5 +1,4 @@
 /* The commands that read. */
-#include <errno.h>
 #include <inttypes.h>
 #include <stdio.h>
 #include <stdlib.h>
@@ -7,6 +6,7 @@
 
 #include "commands.h"
 #include "draw.h"
+#include "output.h"
 #include "survey.h"
 
 int run_has(const struct arguments *a) {
@@ -104,34 +104,19 @@ int run_check(const struct arguments *a) {
     return finish(&b, a, answer_status(answer));
 }
 
-static int draw_to_file(const char *to, const struct book *b, const struct survey *s, const char *path) {
-    FILE *out = fopen(to, "w");
-    if (out)
-        draw(out, b, s, path);
-    int failed = !out || ferror(out);
-    if (out && fclose(out) != 0)
-        failed = 1;
-    if (failed)
-        say("%s: %s", to, strerror(errno));
-    return failed;
-}
-
 int run_draw(const struct arguments *a) {
     struct book b;
     struct survey s;
+    struct output o;
     const char *to = a->values[OPTION_OUTPUT];
-    int to_file = to && strcmp(to, "-") != 0;
-    if (to_file && file_is_book(to)) {
-        say("%s: a reel book, not overwritten", to);
-        return STATUS_SYSTEM;
-    }
     int status = begin_survey(&b, &s, a);
     if (status != STATUS_DONE)
         return status;
-    if (to_file)
-        status = draw_to_file(to, &b, &s, a->operands[0]) ? STATUS_SYSTEM : STATUS_DONE;
-    else
-        draw(stdout, &b, &s, a->operands[0]);
+    status = output_begin(&o, to) == 0 ? STATUS_DONE : STATUS_SYSTEM;
+    if (status == STATUS_DONE) {
+        draw(o.stream, &b, &s, a->operands[0]);
+        status = output_end(&o, to) == 0 ? STATUS_DONE : STATUS_SYSTEM;
+    }
     survey_free(&s);
     return finish(&b, a, status);
 }

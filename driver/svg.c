@@ -16,10 +16,29 @@ static const char style[] =
     ".free{fill:#eeeeea;stroke:#dcdcd6}"
     ".panel{fill:#fff;stroke:#e2e2dc}";
 
-void svg_begin(FILE *out, double width, double height) {
+static void put_escaped(FILE *out, const char *text) {
+    for (; *text; text++)
+        switch (*text) {
+        case '&':
+            fputs("&amp;", out);
+            break;
+        case '<':
+            fputs("&lt;", out);
+            break;
+        case '>':
+            fputs("&gt;", out);
+            break;
+        default:
+            fputc(*text, out);
+        }
+}
+
+void svg_begin(FILE *out, double width, double height, const char *title) {
     svg_put(out, "<svg xmlns=\"http://www.w3.org/2000/svg\" width=\"%g\" height=\"%g\" viewBox=\"0 0 %g %g\">\n", width, height,
             width, height);
-    svg_put(out, "<style>%s</style>\n", style);
+    svg_put(out, "<title>");
+    put_escaped(out, title);
+    svg_put(out, "</title>\n<style>%s</style>\n", style);
     svg_rect(out, (struct box){0, 0, width, height}, "fill=\"#fafaf7\"");
 }
 
@@ -45,23 +64,6 @@ void svg_rect(FILE *out, struct box b, const char *attributes, ...) {
     vfprintf(out, attributes, arguments);
     va_end(arguments);
     svg_put(out, "/>\n");
-}
-
-static void put_escaped(FILE *out, const char *text) {
-    for (; *text; text++)
-        switch (*text) {
-        case '&':
-            fputs("&amp;", out);
-            break;
-        case '<':
-            fputs("&lt;", out);
-            break;
-        case '>':
-            fputs("&gt;", out);
-            break;
-        default:
-            fputc(*text >= ' ' && *text <= '~' ? *text : '?', out);
-        }
 }
 
 void svg_text(FILE *out, double x, double y, const char *class, const char *format, ...) {

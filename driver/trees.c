@@ -144,9 +144,10 @@ static double draw_each_level(const struct picture *p, double y) {
 double draw_trees(const struct picture *p, double y) {
     int whole = draw_trees_whole(p->survey);
     svg_text(p->out, DRAW_MARGIN, y + 14, "head", "The trees");
-    if (!whole)
-        svg_text(p->out, DRAW_MARGIN + 108, y + 14, "label",
-                 "The number of nodes at each level. The deeper its colour, the more of their places are held.");
+    if (p->survey->count > 0)
+        svg_text(p->out, DRAW_MARGIN + 108, y + 14, "label", "%s",
+                 whole ? "In a box, as far as there is room: the node's number; its frames / its places."
+                       : "The number of nodes at each level. The deeper its colour, the more of their places are held.");
     y += 30;
     if (p->survey->count == 0) {
         svg_text(p->out, DRAW_MARGIN, y + 6, "label", "No reel is open.");

@@ -35,21 +35,6 @@ places   32, 6 used, 6 located' stat book
     does "$sound" check book
 }
 
-try_pictures() {
-    does '' draw book -o picture.svg
-    for way in '' '-o -' '--output=-'; do
-        run draw book $way
-        holds cmp -s out picture.svg
-    done
-    holds test ! -e ./-
-    holds test "$(head -c 4 out)" = '<svg'
-    holds test "$(tail -n 1 out)" = '</svg>'
-    holds test "$(grep -c '<title>node' out)" = 6 # three nodes, in the pool and in the tree
-    holds test "$(grep -c 'class="free"' out)" = 14 # thirteen nodes, and one in the legend
-    unable 'draw: book: a reel book, not overwritten' draw book -o book
-    unable 'draw: none/picture.svg: No such file or directory' draw book -o none/picture.svg
-}
-
 names='format open add remove has list retire recover stat check draw'
 
 try_help() {

@@ -26,7 +26,7 @@ fail_often() { # BOOK COMMAND..
         cp "$from" book
         run "$@" --seed "$chance"
         holds test "$status" = 0
-        holds grep -q "crashed after .* entries, seed $chance\$" err
+        holds grep -Eq "crashed after [0-9]+ entr(y|ies), seed $chance\$" err
         outcomes=$outcomes$(differing book)
         case $outcomes in *1) cp book differs ;; esac
     done
@@ -66,7 +66,7 @@ reelbook: open: ended before the power failure, after 11 entries"
     does "$sound" check book
     cp good book
     run add book 7 99 --crash-after 1
-    chance=$(sed -n 's/^reelbook: add: crashed after 1 entries, seed //p' err)
+    chance=$(sed -n 's/^reelbook: add: crashed after 1 entry, seed //p' err)
     cp book once
     cp good book
     run add book 7 99 --crash-after 1 --seed "$chance"
@@ -136,7 +136,7 @@ probe() { # KIND [REEL [FRAME]]
     [ "$number" != 8 ] || wanted=${wanted:-8}
     holds test "$number" = "$wanted"
     [ -n "$number" ] || holds test "$status" = 0
-    passed=$((passed + $(sed -n 's/.*: ended before the power failure, after \([0-9]*\) entries$/\1/p' err)))
+    passed=$((passed + $(sed -n 's/.*: ended before the power failure, after \([0-9]*\) entr[a-z]*$/\1/p' err)))
     [ "$status" = 0 ]
 }
 
@@ -215,7 +215,8 @@ round() { # KIND REEL PART SEED RECOVERIES FRAME..
     if [ "$kind" = recover ]; then reel=; fi
     run "$kind" book $reel "$@" --crash-after "$entries" --seed "$chance"
     failing=$command
-    expect 0 '' "$kind: crashed after $entries entries, seed $chance"
+    case $entries in 1) word=entry ;; *) word=entries ;; esac
+    expect 0 '' "$kind: crashed after $entries $word, seed $chance"
     failures=$((failures + 1))
     run check book
     holds grep -q '^sound; not closed cleanly; ' out

@@ -107,6 +107,13 @@ try_permissions() {
         holds test "$status$(cat err)" = "0reelbook: ${name%% *}: unclean: $copied"
     done
     holds cmp -s unclean kept
+    echo old >protected
+    chmod a=r protected
+    chmod a+rwx .
+    run_as_other draw book -o protected
+    expect 4 '' 'draw: protected: Permission denied'
+    holds test "$(cat protected)" = old
+    chmod go-w .
     chmod u+w book unclean
     poke unclean "$image_at" 002
     chmod a-w unclean

@@ -113,7 +113,12 @@ fn settled_tree(image: &[u64], table: &[u8], g: Geometry, t: Subtree) -> bool
 
 // The same of a group of children, whose suffixes are a unit apart.
 fn settled_group(image: &[u64], table: &[u8], g: Geometry, t: Subtree, count: usize) -> bool
-    requires { ⌜ Sized (now image) g × KnownGroup g (reads (now image)) t count × (t .suffix < t .unit) × (now table ≡ theTable) ⌝ }
+    requires { ⌜
+        Sized (now image) g
+        × KnownGroup g (reads (now image)) t count
+        × (t .suffix < t .unit)
+        × (now table ≡ theTable)
+        ⌝ }
     ensures { λ r. ⌜
         r ≡ settledGroup g (reads (now (image .entry))) (t .left) (levels - t .left) (t .node) count (t .unit) (t .suffix)
         ⌝ }

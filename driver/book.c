@@ -160,3 +160,14 @@ uint64_t book_close(struct book *b) {
     let_go(b);
     return answer;
 }
+
+void book_unsettle(struct book *b) {
+    b->held = b->medium.barrier;
+    b->medium.barrier = BARRIER_NONE;
+}
+
+uint64_t book_settle(struct book *b) {
+    b->medium.barrier = b->held;
+    b->failed = medium_barrier_over(&b->medium, b->file.image_at, b->file.image_words) != 0;
+    return done_unless(b->failed);
+}

@@ -25,6 +25,7 @@ struct book {
     int failed;          /* a barrier failed: what is lasting is not known */
     int recovered;       /* since it was opened */
     size_t mended;       /* locate words that the recovery changed */
+    enum barrier held;   /* the medium's barrier while none is passed */
     struct crash *crash; /* a power failure to come, or NULL */
 };
 
@@ -34,6 +35,10 @@ uint64_t book_format(const char *path, uint64_t slots, uint64_t nodes, int force
 uint64_t book_open(struct book *b, const char *path, enum book_mode mode, struct crash *crash, double until);
 uint64_t book_recover(struct book *b);
 uint64_t book_close(struct book *b);
+
+/* From the first on no barrier is passed, until the second passes one over all: for a book that has no name yet. */
+void book_unsettle(struct book *b);
+uint64_t book_settle(struct book *b);
 
 /* Is a private copy sound, and the saved map its map? It stays as it was: `mended` is how many locate words a recovery would. */
 uint64_t book_check(struct book *b);

@@ -32,3 +32,24 @@ int finish(struct book *b, const struct arguments *a, int status) {
         say("ended before the power failure, after %" PRIu64 " %s", a->crash->passed, entries_word(a->crash->passed));
     return answer == REELBOOK_DONE ? status : refuse(answer, a->operands[0]);
 }
+
+/* A sound book alone is counted. One that was not closed cleanly has just been recovered, which checks as much. */
+static uint64_t check_and_count(struct book *b, struct survey *s, const char *path) {
+    uint64_t answer = b->recovered ? REELBOOK_DONE : book_check(b);
+    if (answer != REELBOOK_DONE) {
+        say("%s: not sound: %s", path, answer_words(answer));
+        return answer;
+    }
+    answer = survey_take(s, b);
+    if (answer != REELBOOK_DONE)
+        refuse(answer, path);
+    return answer;
+}
+
+int begin_survey(struct book *b, struct survey *s, const struct arguments *a) {
+    int status = begin(b, a, BOOK_READ);
+    if (status != STATUS_DONE)
+        return status;
+    uint64_t answer = check_and_count(b, s, a->operands[0]);
+    return answer == REELBOOK_DONE ? STATUS_DONE : finish(b, a, answer_status(answer));
+}

@@ -3,9 +3,14 @@
 #define COMMANDS_H
 
 #include "arguments.h"
-#include "book.h"
+#include "survey.h"
 
 #define TOOL_VERSION "1.0.0"
+
+/* A dump: this line, "reels R", "nodes N"; then "reel REEL" and its frames, a line for each, for every reel; and the end, so that one
+ * that is not whole is known. It does not start as a book's file does. */
+#define DUMP_START "reel book dump 1\n"
+#define DUMP_END "end"
 
 /* NULL if there is none of that name. */
 const struct command *command_named(const char *name);
@@ -19,10 +24,13 @@ int run_add(const struct arguments *a);
 int run_remove(const struct arguments *a);
 int run_retire(const struct arguments *a);
 int run_recover(const struct arguments *a);
+int run_load(const struct arguments *a);
 
 int run_has(const struct arguments *a);
 int run_list(const struct arguments *a);
 int run_stat(const struct arguments *a);
+int run_reels(const struct arguments *a);
+int run_dump(const struct arguments *a);
 int run_check(const struct arguments *a);
 int run_draw(const struct arguments *a);
 
@@ -31,6 +39,12 @@ int begin(struct book *b, const struct arguments *a, enum book_mode mode);
 
 /* Closes it. The status given, or that of a failure to close. */
 int finish(struct book *b, const struct arguments *a, int status);
+
+/* Opens it to be read, refuses it unless it is sound, and counts it. The same. */
+int begin_survey(struct book *b, struct survey *s, const struct arguments *a);
+
+/* 1 after a line on standard error, if no book can have so much room. */
+int room_out_of_range(uint64_t reels, uint64_t nodes);
 
 /* Say what an answer is about and what it means. Its exit status. */
 int refuse(uint64_t answer, const char *about);

@@ -4,10 +4,10 @@
 #include <errno.h>
 #include <fcntl.h>
 #include <libgen.h>
+#include <stdio.h>
 #include <stdlib.h>
 #include <string.h>
 #include <sys/file.h>
-#include <sys/stat.h>
 #include <time.h>
 #include <unistd.h>
 
@@ -137,8 +137,7 @@ static uint64_t lock_new(const struct file *f, const char *path, int force, doub
     return force ? REELBOOK_DONE : BOOK_EXISTS;
 }
 
-static uint64_t create_once(struct file *f, const char *path, int force, double until, int *created) {
-    off_t old_bytes;
+static uint64_t reserve_once(struct file *f, const char *path, int force, double until, int *created, off_t *old_bytes) {
     f->fd = open_any(path, O_RDWR | O_CREAT | O_EXCL);
     *created = f->fd >= 0;
     if (f->fd < 0 && errno == EEXIST) {
@@ -148,22 +147,59 @@ static uint64_t create_once(struct file *f, const char *path, int force, double 
     }
     if (f->fd < 0)
         return BOOK_SYSTEM;
-    uint64_t answer = lock_new(f, path, force, until, created, &old_bytes);
-    if (answer == REELBOOK_DONE) {
-        answer = allocate(f, old_bytes);
-        if (answer != REELBOOK_DONE && *created)
-            unlink(path); /* only while it is locked */
-    }
+    uint64_t answer = lock_new(f, path, force, until, created, old_bytes);
     if (answer != REELBOOK_DONE)
         file_close(f);
     return answer;
 }
 
-uint64_t file_create(struct file *f, const char *path, int force, double until, int *created) {
+/* A new file, or one that is there if `force`, opened and locked, its contents as they were. */
+static uint64_t reserve(struct file *f, const char *path, int force, double until, int *created, off_t *old_bytes) {
     uint64_t answer = BOOK_REPLACED;
     for (int tries = 0; answer == BOOK_REPLACED && tries < MOST_TRIES; tries++)
-        answer = create_once(f, path, force, until, created);
+        answer = reserve_once(f, path, force, until, created, old_bytes);
     return answer;
+}
+
+/* What was made is taken away only while it is locked. */
+static uint64_t end_reserved(struct file *f, const char *path, int created, uint64_t answer) {
+    int error = errno;
+    if (answer != REELBOOK_DONE && created)
+        unlink(path);
+    errno = error;
+    file_close(f);
+    return answer;
+}
+
+uint64_t file_create(struct file *f, const char *path, int force, double until, int *created) {
+    off_t old_bytes;
+    uint64_t answer = reserve(f, path, force, until, created, &old_bytes);
+    if (answer != REELBOOK_DONE)
+        return answer;
+    answer = allocate(f, old_bytes);
+    return answer == REELBOOK_DONE ? answer : end_reserved(f, path, *created, answer);
+}
+
+void file_be_like(const char *path, const struct stat *old) {
+    if (chown(path, old->st_uid, old->st_gid) != 0 && old->st_uid != geteuid())
+        return;
+    if (chmod(path, old->st_mode & 07777) != 0)
+        return;
+}
+
+uint64_t file_take_name(const char *from, const char *to, int force, double until) {
+    struct file f;
+    struct stat old;
+    int created;
+    off_t old_bytes;
+    uint64_t answer = reserve(&f, to, force, until, &created, &old_bytes);
+    if (answer != REELBOOK_DONE)
+        return answer;
+    if (!created && fstat(f.fd, &old) == 0)
+        file_be_like(from, &old);
+    answer = rename(from, to) == 0 ? REELBOOK_DONE : BOOK_SYSTEM;
+    answer = end_reserved(&f, to, created, answer);
+    return answer == REELBOOK_DONE && file_settle_name(to) != 0 ? BOOK_SYSTEM : answer;
 }
 
 /* A directory that may not be read cannot be opened for this: then the file's own fsync has to do. */

@@ -2,6 +2,8 @@
 #ifndef FILE_H
 #define FILE_H
 
+#include <sys/stat.h>
+
 #include "answers.h"
 
 /* Words of the first page; the rest of it is 0. */
@@ -39,6 +41,12 @@ uint64_t file_settle(const struct file *f, const char *path);
 int file_settle_name(const char *path);
 
 void file_close(struct file *f);
+
+/* Gives a whole file another name: a new one, or, if `force`, that of a regular file, which is locked for it. */
+uint64_t file_take_name(const char *from, const char *to, int force, double until);
+
+/* A file that is to replace another gets its owner, as far as that may be, and its permissions. */
+void file_be_like(const char *path, const struct stat *old);
 
 /* Does this path name a file that starts as a book does? */
 int file_is_book(const char *path);

@@ -84,9 +84,10 @@ int frames_next(struct frames *f) {
     return f->count-- > 0 && number_in(*f->words++, &f->frame);
 }
 
-void progress_begin(struct progress *p, int wanted) {
+void progress_begin(struct progress *p, int wanted, int rate) {
     int terminal = isatty(STDERR_FILENO);
-    *p = (struct progress){.wanted = wanted || terminal, .rewritten = terminal, .last = clock_seconds()};
+    double now = clock_seconds();
+    *p = (struct progress){.wanted = wanted || terminal, .rewritten = terminal, .rate = rate, .start = now, .last = now};
 }
 
 void progress_show(struct progress *p, uint64_t frames) {
@@ -99,7 +100,11 @@ void progress_show(struct progress *p, uint64_t frames) {
             frames == 1 ? "" : "s", p->rewritten ? "" : "\n");
 }
 
-void progress_end(struct progress *p) {
+void progress_end(struct progress *p, uint64_t frames) {
+    double taken = clock_seconds() - p->start;
     if (p->shown && p->rewritten)
         fputc('\n', stderr);
+    if (p->rate)
+        say("%" PRIu64 " frame%s in %.3f s, %.0f a second", frames, frames == 1 ? "" : "s", taken,
+            taken > 0 ? (double)frames / taken : 0);
 }

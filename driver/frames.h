@@ -23,14 +23,15 @@ int frames_next(struct frames *f);
 void frames_catch_interrupt(void);
 int frames_interrupted(void);
 
-/* A line on standard error, a few times a second. */
+/* A line on standard error, a few times a second, and one at the end with the rate. */
 struct progress {
     int wanted, rewritten, shown; /* rewritten: on a terminal, where each takes the place of the last */
-    double last;                  /* seconds */
+    int rate;
+    double start, last; /* seconds */
 };
 
-void progress_begin(struct progress *p, int wanted);
+void progress_begin(struct progress *p, int wanted, int rate);
 void progress_show(struct progress *p, uint64_t frames);
-void progress_end(struct progress *p);
+void progress_end(struct progress *p, uint64_t frames);
 
 #endif

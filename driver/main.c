@@ -59,6 +59,10 @@ static int run(const struct command *c, int count, char **words) {
         say("--seed: only with --crash-after");
         return STATUS_USAGE;
     }
+    if (a.values[OPTION_JSON] && a.values[OPTION_CSV]) {
+        say("--json: not with --csv");
+        return STATUS_USAGE;
+    }
     prepare(&a, &crash);
     return c->run(&a);
 }

@@ -12,19 +12,13 @@
 #include "file.h"
 #include "unfinished.h"
 
-/* The file that is to be replaced keeps its owner, as far as that may be, and its permissions. */
-static void be_like(int fd, const struct stat *old) {
-    if (fchown(fd, old->st_uid, old->st_gid) == 0 || old->st_uid == geteuid())
-        fchmod(fd, old->st_mode & 07777);
-}
-
 static int open_temporary(struct output *o, const struct stat *old) {
     int fd = open(o->temporary, O_WRONLY | O_CREAT | O_EXCL | O_CLOEXEC, 0666);
     if (fd < 0)
         return -1;
     unfinished_file(o->temporary);
     if (old)
-        be_like(fd, old);
+        file_be_like(o->temporary, old);
     o->stream = fdopen(fd, "w");
     return o->stream ? 0 : -1;
 }
@@ -75,6 +69,12 @@ static int settle(struct output *o) {
     return error;
 }
 
+static void let_go(struct output *o) {
+    unfinished_file(NULL);
+    free(o->target);
+    free(o->temporary);
+}
+
 int output_end(struct output *o, const char *to) {
     if (o->stream == stdout)
         return 0;
@@ -83,8 +83,14 @@ int output_end(struct output *o, const char *to) {
         unfinished_remove();
         say("%s: %s", to, strerror(error));
     }
-    unfinished_file(NULL);
-    free(o->target);
-    free(o->temporary);
+    let_go(o);
     return error == 0 ? 0 : -1;
+}
+
+void output_drop(struct output *o) {
+    if (o->stream == stdout)
+        return;
+    fclose(o->stream);
+    unfinished_remove();
+    let_go(o);
 }

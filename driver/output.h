@@ -17,4 +17,7 @@ int output_begin(struct output *o, const char *to);
 /* The same. What standard output says is left to the end of the process. */
 int output_end(struct output *o, const char *to);
 
+/* Ends it and leaves no file. */
+void output_drop(struct output *o);
+
 #endif

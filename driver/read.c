@@ -6,6 +6,7 @@
 
 #include "commands.h"
 #include "draw.h"
+#include "form.h"
 #include "output.h"
 #include "survey.h"
 
@@ -35,58 +36,8 @@ int run_list(const struct arguments *a) {
     uint64_t answer = book_list(&b, reel, &frames, &count);
     if (answer != REELBOOK_DONE)
         return finish(&b, a, refuse_reel(answer, reel));
-    for (uint64_t i = 0; i < count; i++)
-        printf("%" PRIu64 "\n", frames[i]);
+    print_list(form_of(a), reel, frames, count);
     free(frames);
-    return finish(&b, a, STATUS_DONE);
-}
-
-/* A sound book alone is counted. One that was not closed cleanly has just been recovered, which checks as much. */
-static uint64_t check_and_count(struct book *b, struct survey *s, const char *path) {
-    uint64_t answer = b->recovered ? REELBOOK_DONE : book_check(b);
-    if (answer != REELBOOK_DONE) {
-        say("%s: not sound: %s", path, answer_words(answer));
-        return answer;
-    }
-    answer = survey_take(s, b);
-    if (answer != REELBOOK_DONE)
-        refuse(answer, path);
-    return answer;
-}
-
-/* 0, or the exit status after a line on standard error. */
-static int begin_survey(struct book *b, struct survey *s, const struct arguments *a) {
-    int status = begin(b, a, BOOK_READ);
-    if (status != STATUS_DONE)
-        return status;
-    uint64_t answer = check_and_count(b, s, a->operands[0]);
-    return answer == REELBOOK_DONE ? STATUS_DONE : finish(b, a, answer_status(answer));
-}
-
-static void print_reels(const struct survey *s) {
-    printf("\n%20s %5s %6s %8s %6s %8s %8s %8s\n", "reel", "slot", "root", "frames", "nodes", "deepest", "places", "located");
-    for (size_t i = 0; i < s->count; i++) {
-        const struct survey_reel *r = &s->reels[i];
-        const struct tally *t = &r->total;
-        printf("%20" PRIu64 " %5" PRIu64 " %6" PRIu64 " %8" PRIu64 " %6" PRIu64 " %8u %8" PRIu64 " %8" PRIu64 "\n", r->reel,
-               r->slot, r->root, t->frames, t->nodes, r->deepest, t->places, t->located);
-    }
-}
-
-int run_stat(const struct arguments *a) {
-    struct book b;
-    struct survey s;
-    int status = begin_survey(&b, &s, a);
-    if (status != STATUS_DONE)
-        return status;
-    printf("reels    %zu of %" PRIu64 "\n", s.count, b.file.slots);
-    printf("frames   %" PRIu64 "\n", s.total.frames);
-    printf("nodes    %" PRIu64 " used, %" PRIu64 " free\n", s.total.nodes, b.file.nodes - s.total.nodes);
-    printf("deepest  level %u\n", s.deepest);
-    printf("places   %" PRIu64 ", %" PRIu64 " used, %" PRIu64 " located\n", s.total.places, s.total.frames, s.total.located);
-    if (a->values[OPTION_BY_REEL])
-        print_reels(&s);
-    survey_free(&s);
     return finish(&b, a, STATUS_DONE);
 }
 
@@ -116,6 +67,47 @@ int run_draw(const struct arguments *a) {
     if (status == STATUS_DONE) {
         draw(o.stream, &b, &s, a->operands[0]);
         status = output_end(&o, to) == 0 ? STATUS_DONE : STATUS_SYSTEM;
+    }
+    survey_free(&s);
+    return finish(&b, a, status);
+}
+
+/* Every reel with its frames, in the sequence of slots and trees: an ancestor's frames come before a descendant's, so that a book
+ * made from them never needs more nodes. */
+static uint64_t dump(FILE *out, struct book *b, const struct survey *s) {
+    uint64_t answer = REELBOOK_DONE, *frames, count;
+    fprintf(out, DUMP_START "reels %" PRIu64 "\nnodes %" PRIu64 "\n", b->file.slots, b->file.nodes);
+    for (size_t i = 0; i < s->count && answer == REELBOOK_DONE; i++) {
+        answer = book_list(b, s->reels[i].reel, &frames, &count);
+        if (answer != REELBOOK_DONE)
+            break;
+        fprintf(out, "reel %" PRIu64 "\n", s->reels[i].reel);
+        for (uint64_t at = 0; at < count; at++)
+            fprintf(out, "%" PRIu64 "\n", frames[at]);
+        free(frames);
+    }
+    if (answer == REELBOOK_DONE)
+        fputs(DUMP_END "\n", out);
+    return answer;
+}
+
+int run_dump(const struct arguments *a) {
+    struct book b;
+    struct survey s;
+    struct output o;
+    const char *to = a->values[OPTION_OUTPUT];
+    int status = begin_survey(&b, &s, a);
+    if (status != STATUS_DONE)
+        return status;
+    status = output_begin(&o, to) == 0 ? STATUS_DONE : STATUS_SYSTEM;
+    if (status == STATUS_DONE) {
+        uint64_t answer = dump(o.stream, &b, &s);
+        if (answer != REELBOOK_DONE) {
+            output_drop(&o);
+            status = refuse(answer, a->operands[0]);
+        } else if (output_end(&o, to) != 0) {
+            status = STATUS_SYSTEM;
+        }
     }
     survey_free(&s);
     return finish(&b, a, status);

@@ -13,9 +13,13 @@ static int out_of_range(const char *name, uint64_t number, uint64_t most) {
     return 1;
 }
 
+int room_out_of_range(uint64_t reels, uint64_t nodes) {
+    return out_of_range("--reels", reels, REELBOOK_MAX_SLOTS) || out_of_range("--nodes", nodes, REELBOOK_MAX_NODES);
+}
+
 int run_format(const struct arguments *a) {
     uint64_t reels = a->numbers[OPTION_REELS], nodes = a->numbers[OPTION_NODES];
-    if (out_of_range("--reels", reels, REELBOOK_MAX_SLOTS) || out_of_range("--nodes", nodes, REELBOOK_MAX_NODES))
+    if (room_out_of_range(reels, nodes))
         return STATUS_USAGE;
     uint64_t answer = book_format(a->operands[0], reels, nodes, a->values[OPTION_FORCE] != NULL, a->until);
     return answer == REELBOOK_DONE ? STATUS_DONE : refuse(answer, a->operands[0]);
@@ -60,7 +64,7 @@ static const char *summary(const struct job *j) {
 static uint64_t do_frames(struct book *b, const struct arguments *a, struct job *j, struct frames *f) {
     struct progress p;
     uint64_t answer = REELBOOK_DONE;
-    progress_begin(&p, a->values[OPTION_PROGRESS] != NULL);
+    progress_begin(&p, a->values[OPTION_PROGRESS] != NULL, a->values[OPTION_RATE] != NULL);
     while (answer == REELBOOK_DONE && frames_next(f)) {
         answer = j->operation(b, j->reel, f->frame);
         if (answer == REELBOOK_DONE) {
@@ -71,7 +75,7 @@ static uint64_t do_frames(struct book *b, const struct arguments *a, struct job 
         }
         progress_show(&p, j->done + j->held);
     }
-    progress_end(&p);
+    progress_end(&p, j->done + j->held);
     return answer;
 }
 

@@ -62,6 +62,20 @@ kill_second() { # MODEL..: what may be held after the first
     done
 }
 
+# Killed in any barrier, load leaves no book; at the end all of it is lasting.
+kill_load() {
+    "$tool" dump base -o dump || fail 'no dump'
+    fail_first=1
+    while rm -f new disk && on_shadow "$fail_first" load new dump && [ "$status" = 137 ]; do
+        holds test ! -e new
+        rm -f .reelbook-*
+        fail_first=$((fail_first + 1))
+    done
+    holds test "$status" = 0
+    holds cmp -s new disk
+    holds test "$fail_first" -gt 4
+}
+
 try_barriers() {
     chains=0 pages=0 failing=
     skip 'barriers by cache line flushes' 'no failure of persistent memory can be tried'
@@ -77,6 +91,7 @@ try_barriers() {
     dump
     cp dumped none
     cp book base
+    kill_load
     for first in 'add 1 99' 'add 2 7' 'remove 1 5' 'open 3' 'retire 2' 'recover'; do
         changed none $first >first
         fail_first=1

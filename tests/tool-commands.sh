@@ -35,7 +35,7 @@ places   32, 6 used, 6 located' stat book
     does "$sound" check book
 }
 
-names='format open add remove has list retire recover stat check draw'
+names='format open add remove has list retire reels stat dump load check recover draw'
 
 try_help() {
     run --help
@@ -88,7 +88,7 @@ try_refusals() {
 
 try_arguments() {
     misused 'has: too few arguments: reelbook has FILE REEL FRAME' has book 7
-    misused 'list: too many arguments: reelbook list FILE REEL' list book 7 8
+    misused 'list: too many arguments: reelbook list FILE REEL [--json | --csv]' list book 7 8
     misused 'remove: too few arguments: reelbook remove FILE REEL FRAME..' remove book 7
     misused 'list: --burn: no such option' list book 7 --burn
     misused 'list: --burn=7: no such option' list book 7 --burn=7

@@ -90,10 +90,10 @@ map_at=16384
 sound='sound; closed cleanly; locate words that differ: 0'
 range="a number from 0 to $most in decimal without leading zeros"
 
-for part in commands pictures files damage failures barriers; do . "$here/tool-$part.sh"; done
+for part in commands pictures dumps files damage failures barriers; do . "$here/tool-$part.sh"; done
 
 echo "tool: seed $seed, $rounds rounds"
-for part in commands pictures help refusals arguments numbers files streams reading locks waiting recovery damage \
+for part in commands pictures help refusals arguments numbers forms dumps files streams reading locks waiting recovery damage \
     mixtures power_failures barriers; do
     "try_$part"
 done

@@ -1,6 +1,7 @@
-// The operations called, with the numbers behind the command.
+// The operations called, with the values behind the command.
 use crate::command::CLAIM;
 use crate::command::COMMIT;
+use crate::command::Command;
 use crate::command::FILL;
 use crate::command::FORMAT;
 use crate::command::HAS;
@@ -8,6 +9,7 @@ use crate::command::OPEN;
 use crate::command::RECOVER;
 use crate::command::REMOVE;
 use crate::command::RETIRE;
+use crate::print;
 use reelbook::HEAD_WORDS;
 use reelbook::reelbook_abandon;
 use reelbook::reelbook_apply;
@@ -22,36 +24,35 @@ use reelbook::reelbook_recover;
 use reelbook::reelbook_remove;
 use reelbook::reelbook_retire;
 
+// What stands where a count is handed back, before it is.
+pub const NO_COUNT: u64 = 999;
+
 // Format, Recover, Carry out.
-pub fn call_whole(
-    name: u64,
+pub fn run_whole(
+    command: Command,
     image: &mut [u64],
     map: &mut [u64],
     heads: &mut [u64; HEAD_WORDS],
     script: &[u64],
-    a: u64,
-    b: u64,
-) -> u64 {
+) {
+    let name = command.name;
     match name {
-        FORMAT => reelbook_format(image, map, heads, a, b),
-        RECOVER => reelbook_recover(image, map, heads),
-        _ => reelbook_apply(image, script),
+        FORMAT => print::answer(reelbook_format(image, map, heads, command.a, command.b)),
+        RECOVER => print::answer(reelbook_recover(image, map, heads)),
+        _ => print::answer(reelbook_apply(image, script)),
     }
 }
 
 // Has, List.
-pub fn call_query(
-    name: u64,
-    image: &[u64],
-    scratch: &mut [u64],
-    list: &mut [u64],
-    a: u64,
-    b: u64,
-    count: &mut u64,
-) -> u64 {
+pub fn run_query(command: Command, image: &[u64], scratch: &mut [u64], list: &mut [u64]) {
+    let name = command.name;
+    let mut count = NO_COUNT;
     match name {
-        HAS => reelbook_has(image, a, b, count),
-        _ => reelbook_list(image, scratch, list, a, count),
+        HAS => print::counted(reelbook_has(image, command.a, command.b, &mut count), count),
+        _ => print::counted(
+            reelbook_list(image, scratch, list, command.a, &mut count),
+            count,
+        ),
     }
 }
 

@@ -2,9 +2,10 @@
 ghost use Prim.Native.Nat.{_<_};
 use crate::buffers::part;
 use crate::buffers::run_words;
-use crate::calls::call_query;
+use crate::calls::NO_COUNT;
 use crate::calls::call_scripted;
-use crate::calls::call_whole;
+use crate::calls::run_query;
+use crate::calls::run_whole;
 use crate::command::ADD;
 use crate::command::APPLY;
 use crate::command::CLAIM;
@@ -33,9 +34,6 @@ use crate::values::SCRATCH;
 use crate::values::SCRIPT;
 use reelbook::HEAD_WORDS;
 use reelbook::reelbook_apply;
-
-// What stands where a count is handed back, before it is.
-const NO_COUNT: u64 = 999;
 
 // Runs a command over the words that are lent.
 pub fn run_lent(
@@ -84,39 +82,6 @@ fn run_command(
         PUT..=SHOW => run_buffer(command, image, map, heads, scratch, script, list),
         _ => run_mode(command),
     }
-}
-
-fn run_whole(
-    command: Command,
-    image: &mut [u64],
-    map: &mut [u64],
-    heads: &mut [u64; HEAD_WORDS],
-    script: &[u64],
-) {
-    let number = call_whole(
-        command.name,
-        image,
-        map,
-        heads,
-        script,
-        command.a,
-        command.b,
-    );
-    print::answer(number);
-}
-
-fn run_query(command: Command, image: &[u64], scratch: &mut [u64], list: &mut [u64]) {
-    let mut count = NO_COUNT;
-    let number = call_query(
-        command.name,
-        image,
-        scratch,
-        list,
-        command.a,
-        command.b,
-        &mut count,
-    );
-    print::counted(number, count);
 }
 
 // One operation that writes a script, or all those that add frames; each script is carried out, unless it is held.

@@ -104,6 +104,9 @@ spare_nothing() {
     input=/dev/null
     "$tool" dump full | sort >before
     run dump full -o dump
+    for reel in 1 2 3; do
+        does "$(awk -v reel=$reel '$1 == "reel" { on = $2 == reel; next } on && $1 != "end"' dump)" list full $reel
+    done
     run load loads/again dump
     expect 0 "3 reels, $(grep -c '^[0-9]' dump) frames loaded" ''
     "$tool" dump loads/again | sort >after

@@ -9,14 +9,8 @@ enum { REEL_FIELDS = 8, BOOK_FIELDS = 8, BRIEF_FIELDS = 3 };
 
 static void reel_fields(struct field f[REEL_FIELDS], const struct survey_reel *r) {
     const struct field fields[REEL_FIELDS] = {
-        {"reel", r->reel},
-        {"slot", r->slot},
-        {"root", r->root},
-        {"frames", r->total.frames},
-        {"nodes", r->total.nodes},
-        {"deepest", r->deepest},
-        {"places", r->total.places},
-        {"located", r->total.located},
+        {"reel", r->reel},         {"slot", r->slot},       {"root", r->root},           {"frames", r->total.frames},
+        {"nodes", r->total.nodes}, {"deepest", r->deepest}, {"places", r->total.places}, {"located", r->total.located},
     };
     for (int i = 0; i < REEL_FIELDS; i++)
         f[i] = fields[i];

@@ -12,7 +12,7 @@ static size_t announced(unsigned char first) {
     return first < 0xc2 ? 0 : first < 0xe0 ? 2 : first < 0xf0 ? 3 : first < 0xf5 ? 4 : 0;
 }
 
-/* None are control characters; in UTF-8 surrogates, forms longer than needed, what is above U+10FFFF; in XML U+FFFE and U+FFFF. */
+/* No text: control characters; surrogates, forms longer than needed and what is above U+10FFFF; U+FFFE, U+FFFF, not in XML. */
 static int is_text(uint32_t code, size_t bytes) {
     static const uint32_t least[] = {0, 0, 0x80, 0x800, 0x10000};
     if (code < ' ' || (code >= 0x7f && code < 0xa0) || code < least[bytes] || code > 0x10ffff)

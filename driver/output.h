@@ -1,5 +1,5 @@
-/* Output to a file that is written whole or not at all: it takes its name when it is. What is no regular file, a pipe or a terminal,
- * is written to itself. */
+/* Output to a file that is written whole or not at all: it takes its name when it is whole. What is no regular file, a pipe or a
+ * terminal, is written to itself. */
 #ifndef OUTPUT_H
 #define OUTPUT_H
 

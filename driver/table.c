@@ -85,8 +85,9 @@ static const struct command commands[] = {
     {.name = "dump",
      .operands = "FILE [-o OUT]",
      .about = "Writes a whole book as text, on standard output or to OUT, from which load makes it again.",
-     .more = "The text is a line 'reel book dump 1', 'reels R', 'nodes N', then for each reel 'reel REEL' and a line for each of its\n"
-             "frames, then 'end'. Lines that are empty or start with # count for nothing.",
+     .more =
+         "The text has the lines 'reel book dump 1', 'reels R' and 'nodes N'; then, for each reel, 'reel REEL' and a line for\n"
+         "each of its frames; then 'end'. Lines that are empty or start with # count for nothing.",
      .least = 1,
      .most = 1,
      .options = BIT(OPTION_OUTPUT),
@@ -94,9 +95,9 @@ static const struct command commands[] = {
     {.name = "load",
      .operands = "FILE [FROM] [--reels R] [--nodes N] [--force]",
      .about = "Makes a book from the text of dump, in the file FROM or on standard input.",
-     .more = "The book gets as much room as the dumped one had, which always suffices, or what --reels and --nodes say. It takes\n"
-             "its name when it is whole: after a refusal, an interrupt or a power failure there is no book, or, with --force,\n"
-             "still the old one.",
+     .more = "The book gets as much room as the dumped one had, which always suffices, or what --reels and --nodes say. It\n"
+             "takes its name when it is whole: after a refusal, an interrupt or a power failure there is no book, or, with\n"
+             "--force, still the old one.",
      .least = 1,
      .most = 2,
      .options = BIT(OPTION_REELS) | BIT(OPTION_NODES) | BIT(OPTION_FORCE) | BIT(OPTION_PROGRESS) | BIT(OPTION_RATE),

@@ -21,17 +21,20 @@ try_recovery() {
     holds cmp -s book good
 }
 
-# What counts or draws checks first, whatever the clean flag says.
+# What counts, draws or dumps checks first, whatever the clean flag says.
 unsound() { # WHY
     refuses "check: book: not sound: $1; closed cleanly" check book
     refuses "stat: book: not sound: $1" stat book
+    refuses "reels: book: not sound: $1" reels book
+    refuses "dump: book: not sound: $1" dump book -o dump
     refuses "draw: book: not sound: $1" draw book -o picture.svg
     holds test ! -e picture.svg
+    holds test ! -e dump
 }
 
 # A damaged one is refused and left alone.
 try_damage() {
-    rm -f picture.svg
+    rm -f picture.svg dump
     poke book "$((node_at + 3 * 8))" 005
     unsound 'the tree is malformed (4)'
     refuses 'recover: book: the tree is malformed (4)' recover book

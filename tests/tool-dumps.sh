@@ -83,6 +83,10 @@ try_dumps() {
     rmdir loads
 }
 
+nodes_used() { # BOOK
+    "$tool" stat "$1" --csv | awk -F, 'END { print $4 }'
+}
+
 # As many nodes as before suffice, in whatever sequence the trees have grown.
 spare_nothing() {
     does '' format full --reels 3 --nodes 60
@@ -94,15 +98,21 @@ spare_nothing() {
         done
     done
     holds grep -q 'not enough adjacent free nodes (8)' err
-    "$tool" list full 2 | awk 'NR % 3 == 0' | "$tool" remove full 2 - >out 2>err || fail "not removed: $(cat err)"
+    "$tool" list full 2 | awk 'NR % 3 == 0' >frames
+    input=frames
+    does "$(($(wc -l <frames))) frames removed" remove full 2 -
+    input=/dev/null
     "$tool" dump full | sort >before
     run dump full -o dump
+    for reel in 1 2 3; do
+        does "$(awk -v reel=$reel '$1 == "reel" { on = $2 == reel; next } on && $1 != "end"' dump)" list full $reel
+    done
     run load loads/again dump
     expect 0 "3 reels, $(grep -c '^[0-9]' dump) frames loaded" ''
     "$tool" dump loads/again | sort >after
     holds cmp -s before after
     does "$sound" check loads/again
-    holds test "$("$tool" stat loads/again --csv | awk -F, 'END { print $4 }')" -le "$("$tool" stat full --csv | awk -F, 'END { print $4 }')"
+    holds test "$(nodes_used loads/again)" -le "$(nodes_used full)"
     rm loads/again
 }
 

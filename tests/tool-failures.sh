@@ -3,11 +3,8 @@
 # The model of a book: a file with a line for each reel, "REEL", and one for each of its frames, "REEL FRAME".
 
 dump() { # the book in the model's form, recovered if it needs to be
-    "$tool" stat book --by-reel >counts 2>err || fail "$command: stat: $(cat err)"
-    for open in $(awk 'NR > 7 { print $1 }' counts); do
-        echo "$open"
-        "$tool" list book "$open" | sed "s/^/$open /"
-    done | sort >dumped
+    "$tool" dump book >text 2>err || fail "$command: dump: $(cat err)"
+    awk 'NR > 3 && $1 == "reel" { print reel = $2 } NR > 3 && NF == 1 && $1 != "end" { print reel, $1 }' text | sort >dumped
 }
 
 # A store that no barrier has passed is lost or kept, by the seed; the same seed gives the same.

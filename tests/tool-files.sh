@@ -100,7 +100,7 @@ try_permissions() {
     expect 0 yes "has: unclean: $copied"
     run_as_other has unclean 7 6
     expect 1 no "has: unclean: $copied"
-    for name in 'list 7' stat draw; do
+    for name in 'list 7' stat reels dump draw; do
         "$tool" ${name%% *} book ${name#"${name%% *}"} >wanted
         run_as_other ${name%% *} unclean ${name#"${name%% *}"}
         holds test "$(sed 's/unclean/book/' out)" = "$(cat wanted)"

@@ -8,24 +8,6 @@
 
 const char *say_command;
 
-static const char *const refusals[] = {
-    [REELBOOK_DONE] = "done",
-    [REELBOOK_BAD_IMAGE] = "the image's length or numbers are wrong",
-    [REELBOOK_BAD_EDITION] = "the image is of another edition",
-    [REELBOOK_BAD_BUFFER] = "a buffer has the wrong length",
-    [REELBOOK_MALFORMED] = "the tree is malformed",
-    [REELBOOK_NO_REEL] = "no such reel",
-    [REELBOOK_ALREADY_OPEN] = "the reel is open already",
-    [REELBOOK_NO_SLOT] = "no empty reel slot",
-    [REELBOOK_NO_RUN] = "not enough adjacent free nodes",
-    [REELBOOK_FRAME_HELD] = "held already",
-    [REELBOOK_NOT_HELD] = "not held",
-    [REELBOOK_BAD_HEAD] = "no such head",
-    [REELBOOK_WRONG_STATE] = "the head is in another state",
-    [REELBOOK_BUSY] = "a head is about this reel",
-    [REELBOOK_LIST_SHORT] = "the list has too little room",
-};
-
 int answer_status(uint64_t answer) {
     if (answer == REELBOOK_DONE)
         return STATUS_DONE;
@@ -54,7 +36,7 @@ const char *answer_words(uint64_t answer) {
     case BOOK_WRONG_MAP:
         return "the saved map is not the image's";
     default:
-        snprintf(words, sizeof words, "%s (%" PRIu64 ")", refusals[answer], answer);
+        snprintf(words, sizeof words, "%s (%" PRIu64 ")", reelbook_answer_text(answer), answer);
         return words;
     }
 }

@@ -5,8 +5,6 @@
 #include "arguments.h"
 #include "survey.h"
 
-#define TOOL_VERSION "1.0.0"
-
 /* A dump: this line, "reels R", "nodes N"; then for every reel "reel REEL" and its frames, a line for each; and the end, so that
  * one that is not whole is known. It does not start as a book's file does. */
 #define DUMP_START "reel book dump 1\n"

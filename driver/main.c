@@ -92,7 +92,7 @@ static int run_words(int count, char **words) {
     if (strcmp(words[0], "help") == 0 || strcmp(words[0], "--help") == 0 || strcmp(words[0], "-h") == 0)
         return help(count - 1, words + 1);
     if (strcmp(words[0], "--version") == 0) {
-        puts("reelbook " TOOL_VERSION);
+        puts("reelbook " REELBOOK_VERSION);
         return STATUS_DONE;
     }
     const struct command *c = command_named(words[0]);

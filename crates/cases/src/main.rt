@@ -9,8 +9,8 @@
 //   format SLOTS NODES, ..     the operations, with their numbers in the sequence of the C interface: what comes out is the
 //                              answer, and behind it what is handed back
 //   apply                      carries out a script: the words of `script` that are lent
-//   hold, carry                from now on, scripts that an operation writes are left; or they are carried out at once, as in
-//                              the beginning
+//   hold, carry                from now on, scripts that an operation writes are left, for `apply` or `crash`; or they are
+//                              carried out at once, as in the beginning
 //   add REEL FROM STEP COUNT   claims, fills and commits frames with head 0, up to the first answer that is not 0: what comes
 //                              out of the last operation
 //   put BUFFER PLACE WORD ..   up to six words put from a place on
@@ -18,7 +18,8 @@
 //   ramp BUFFER PLACE STEP COUNT WORD RISE
 //                              words put, each `step` places behind the one before and greater by `rise`
 //   show BUFFER PLACE COUNT    words shown
-//   crash REEL MAP MAP         all crashes of a script (crash.rt)
+//   crash REEL MAP MAP         all crashes of the script as it is lent, each recovered: the reel must list what `list` has, as it
+//                              is lent, and the map, one word, must be one of the two (crash.rt)
 //
 // Behind a line that cannot be read, or names a place that is not there, stands = ?.
 mod buffers;

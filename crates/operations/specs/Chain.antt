@@ -21,7 +21,7 @@ use Rattle.operations.specs.Ends.{Buffers, state, Ends, ended, ends}
 
 -- ---- what the driver has been handed
 
--- what the count handed back is a count of
+-- what the count handed back is a count of; a number alone is an answer in itself, and counts nothing in a buffer
 pub data Counted : Type 0 where
   nothing script-words number-alone frames : Counted
 

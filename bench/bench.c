@@ -1,5 +1,5 @@
 /* bench MEMORY DISK TABLE FRAMES [quick]: measures the reel book, its floors and other stores. MEMORY and DISK are folders for
- * their files, TABLE is the file for the table that other programs read. Quick: the book in memory and its floor alone. */
+ * their files, TABLE is the file for the table that other programs read. Quick: the book in memory, C by hand and the floor alone. */
 #define _GNU_SOURCE /* for sched_setaffinity */
 #include "report.h"
 
@@ -10,11 +10,12 @@
 #include <time.h>
 
 /* A quick run has the first columns and works only. */
-enum { QUICK_COLUMNS = 3, QUICK_WORKS = 2, QUICK_REPETITIONS = 9 };
+enum { QUICK_COLUMNS = 4, QUICK_WORKS = 2, QUICK_REPETITIONS = 9 };
 
 static const struct column columns[] = {
     {"ours flush", &book_store, MEMORY, BARRIER_FLUSH},
     {"ours none", &book_store, MEMORY, BARRIER_NONE},
+    {"C by hand", &hand_store, MEMORY, BARRIER_FLUSH},
     {"floor", &floor_store, MEMORY, BARRIER_FLUSH},
 #ifdef HAVE_PMEMOBJ
     {"libpmemobj", &pmemobj_store, MEMORY, BARRIER_FLUSH},

@@ -44,7 +44,7 @@ struct store {
     void (*close)(void *state);
 };
 
-extern const struct store book_store, floor_store, lmdb_store, sqlite_store, pmemobj_store;
+extern const struct store book_store, hand_store, floor_store, lmdb_store, sqlite_store, pmemobj_store;
 
 /* Says what failed, with errno's text where `because` is NULL, and ends the program. */
 void fail(const char *what, const char *because) __attribute__((noreturn));

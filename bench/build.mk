@@ -1,5 +1,5 @@
 # make bench: the reel book beside its floors and other stores; tables on the output and in build/bench.tsv.
-# make bench QUICK=1: the book and its floor alone. FRAMES is how many are loaded, MEMORY and DISK are folders for the files,
+# make bench QUICK=1: the book, C by hand and the floor alone. FRAMES is how many are loaded, MEMORY and DISK are folders for the files,
 # LIBRARY is another build of the library, RUN is a program to run it in, such as a profiler.
 # A store whose package is missing is left out: apt-get install libpmemobj-dev liblmdb-dev libsqlite3-dev.
 # make bench-docs: the tables and the plot of the last whole run go to docs/.
@@ -8,7 +8,7 @@
 MEMORY ?= /dev/shm
 DISK ?= build
 FRAMES ?= 1000000
-BENCH_SOURCES = bench/bench.c bench/book.c bench/floor.c bench/work.c bench/report.c driver/medium.c driver/carry.c
+BENCH_SOURCES = bench/bench.c bench/book.c bench/hand.c bench/floor.c bench/work.c bench/report.c driver/medium.c driver/carry.c
 
 # Another store, by its name, header, source and library, where its header is found.
 other_store = $(if $(shell $(CC) -include $(2) -fsyntax-only -x c /dev/null 2>/dev/null && echo found), \

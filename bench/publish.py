@@ -6,7 +6,7 @@ import math
 import sys
 from collections import namedtuple
 
-COLOURS = {"ours flush": "#0072b2", "ours none": "#56b4e9", "ours msync": "#0072b2", "floor": "#777777",
+COLOURS = {"ours flush": "#0072b2", "ours none": "#56b4e9", "ours msync": "#0072b2", "C by hand": "#e69f00", "floor": "#777777",
            "libpmemobj": "#d55e00", "LMDB": "#009e73", "SQLite": "#cc79a7"}
 GROWTH_ROWS = ["insert", "lookup, hit", "recovery"]
 

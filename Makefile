@@ -7,6 +7,8 @@ CXX ?= c++
 CFLAGS ?= -O2
 WARNINGS = -std=c99 -Wall -Wextra -Wpedantic -Wshadow -Wconversion -Werror
 LIBRARY = build/libreelbook.a
+# rt with its temporary files in memory: tests/temporary.sh says why
+RT = TMPDIR="$$(tests/temporary.sh)" rt
 # every crate but the programs, so that none is forgotten; `rt` itself proves only what the library uses and what has changed
 PROGRAMS = $(patsubst %/src/main.rt,%,$(wildcard crates/*/src/main.rt))
 RATTLE_SOURCES = crates.txt $(shell find $(filter-out $(PROGRAMS),$(wildcard crates/*)) -name '*.rt' -o -name '*.antt')
@@ -41,7 +43,7 @@ help:
 # On the paper's Case A where nothing is given: at a terminal, from /dev/null, or with standard input closed.
 run:
 	@mkdir -p target
-	@rt check bookrun >target/run.log 2>&1 </dev/null || { cat target/run.log; exit 1; }
+	@$(RT) check bookrun >target/run.log 2>&1 </dev/null || { cat target/run.log; exit 1; }
 	@if [ -t 0 ] || [ ! -e /dev/stdin ] || [ /dev/stdin -ef /dev/null ]; then \
 	    ./target/bin/bookrun <crates/bookrun/stdin; \
 	else \
@@ -52,7 +54,7 @@ lib: $(LIBRARY)
 
 $(LIBRARY): $(RATTLE_SOURCES)
 	@mkdir -p build
-	@rt staticlib reelbook >build/library.log 2>&1 </dev/null || { cat build/library.log; exit 1; }
+	@$(RT) staticlib reelbook >build/library.log 2>&1 </dev/null || { cat build/library.log; exit 1; }
 	cp target/staticlib/libreelbook.a $@
 
 clean:
@@ -69,6 +71,6 @@ test:
 	rt fmt --check
 	python3 tests/unused.py
 	@mkdir -p build
-	@{ rt ci && echo 0 >build/ci.status || echo 1 >build/ci.status; } 2>&1 | tee build/ci.log; read status <build/ci.status; exit $$status
+	@{ $(RT) ci && echo 0 >build/ci.status || echo 1 >build/ci.status; } 2>&1 | tee build/ci.log; read status <build/ci.status; exit $$status
 	$(MAKE) --no-print-directory check-header check-archive check-stores check-tool check-install faults fuzz
 	@tail -n 1 build/ci.log

@@ -2,7 +2,6 @@
 use mathlib.Core.Path.{_≡_, refl, sym, _∙_}
 use mathlib.Core.Bool.{Bool, true, false, _&&_, and-assoc}
 use mathlib.Core.Logic.{inl, inr}
-use mathlib.Core.List.{List}
 use Prim.Native.Nat.{ℕ, _+_, _-_, _*_, _/_, _^_, _≤_, _<_}
 use native.Mathlib.Numerals.{add-one}
 use native.Mathlib.Omega.{arith}
@@ -10,7 +9,6 @@ use native.Mathlib.Nat.{lt-of-lt-of-le, div-eq-of-lt, div-lt-iff-lt-mul, one-mul
 use native.Mathlib.Decide.{decLt}
 use borrow.Author.Tests.{lt-ltb, le-ltb, le-leb, lt-leb, eq-eqb, ne-eqb}
 use lib.Dec.{eqb, ltb, leb}
-use lib.ListN.{length, getD}
 use lib.Pow.{pow-mono, pow-pos}
 use lib.Bits.{bitXor, xor-lt}
 use Rattle.memory.specs.Words.{Memory, byte}
@@ -20,8 +18,8 @@ use Rattle.tree.specs.Test.{Test, lt, le, eq, _and_, _or_, holds}
 use Rattle.tree.specs.Layout.{nextAt, locateAt, setAt, levelAt, sizeAt}
 use Rattle.tree.specs.Node.{sizeAllowed, formed, wellFormed}
 use Rattle.tree.specs.Path.{fanout}
-use Rattle.tree.specs.Fingerprint.{folded, tableEntry, theTable, fingerprint, editionOne}
-use Rattle.tree.proofs.Fingerprints.{table-at, table-length, fingerprint-laws}
+use Rattle.tree.specs.Fingerprint.{folded, tableEntry, fingerprint, editionOne}
+use Rattle.tree.proofs.Fingerprints.{fingerprint-laws}
 use Rattle.tree.proofs.Cases.{not-false}
 use Rattle.tree.proofs.Tests.{says}
 use Rattle.tree.proofs.Ways.{child-lt}
@@ -34,14 +32,14 @@ byte-small w j e = rw e (byte-laws .byte-fits w j)
 pub folded-small : {h : ℕ} (k f : ℕ) → h ≡ folded tableEntry k f → h < 256
 folded-small k f e = rw e (fingerprint-laws .fits (fingerprint-laws .table-once) k f)
 
--- a step by a table that is lent: inside it, and to the next h
-module _ {t : List ℕ} (is : t ≡ theTable) (k f : ℕ) {h b : ℕ} (p : h ≡ folded tableEntry k f) (q : b ≡ byte f k) where
-  pub entry-inside : bitXor h b < length t
-  entry-inside = rw (is, table-length) (xor-lt 8 h b (folded-small k f p) (byte-small f k q))
+-- a step of the fold: to an entry of the table, and so to the next h
+module _ (k f : ℕ) {h b : ℕ} (p : h ≡ folded tableEntry k f) (q : b ≡ byte f k) where
+  pub entry-inside : bitXor h b < 256
+  entry-inside = xor-lt 8 h b (folded-small k f p) (byte-small f k q)
 
-  pub folded-step : getD t (bitXor h b) 0 ≡ folded tableEntry (k + 1) f
+  pub folded-step : {e : ℕ} → e ≡ tableEntry (bitXor h b) → e ≡ folded tableEntry (k + 1) f
   unfolding folded
-  folded-step = rw (add-one, ← p, ← q, is) (table-at (bitXor h b) (xor-lt 8 h b (folded-small k f p) (byte-small f k q)))
+  folded-step s = rw (add-one, ← p, ← q) s
 
 pub fingerprint-small : {h : ℕ} (f : ℕ) → h ≡ fingerprint editionOne f → h < 256
 unfolding fingerprint editionOne

@@ -9,12 +9,13 @@ use lib.Count.{trailingZeros}
 use lib.Dec.{eqb, leb}
 use borrow.Author.Tests.{eqb-false, eq-eqb, ne-eqb, le-leb, lt-leb, not-true, not-false}
 use Rattle.memory.specs.Words.{Memory, withoutBit}
+use Rattle.memory.specs.Search.{first}
 use Rattle.tree.specs.Lists.{upTo, every}
 use Rattle.tree.specs.declared.layout.Geometry.{Geometry}
 use Rattle.tree.specs.Layout.{nextAt, setAt}
 use Rattle.tree.specs.Path.{levels, fanout, child, bitsTo}
-use Rattle.tree.specs.Fingerprint.{editionOne}
-use Rattle.tree.specs.Node.{wellFormed, frame}
+use Rattle.tree.specs.Fingerprint.{editionOne, fingerprint}
+use Rattle.tree.specs.Node.{wellFormed, frame, storedFingerprint}
 use Rattle.tree.specs.Lookup.{foundAt}
 use Rattle.tree.specs.Subtree.{heldPlaces}
 use Rattle.tree.specs.Laws.{WellFormed}
@@ -26,7 +27,7 @@ use Rattle.paths.specs.declared.descent.Step.{Step}
 use Rattle.paths.specs.declared.descent.Step.the-variants.{End, Down}
 use Rattle.paths.specs.Descent.{stepFrom}
 use Rattle.visits.specs.Walk.{groupStops, formedAt}
-use Rattle.settled.specs.Settled.{Formed, absentBelow, settledAt, settledNode}
+use Rattle.settled.specs.Settled.{Formed, absentBelow, holdsAt, settledAt, settledNode}
 use Rattle.visits.specs.Places.{setPlaces}
 use Rattle.visits.proofs.Places.{places-none, places-next}
 use Rattle.visits.proofs.StopFacts.{node-facts, linked-facts}
@@ -113,14 +114,21 @@ module _ (g : Geometry) (m : Memory) where
     unfolding settledAt
     off-path o = rw (← is, ne-eqb (f % 2 ^ bitsTo d) x (rw masked at o)) refl
 
-    module _ (on : bitAnd f (unit - 1) ≡ x) {q : ℕ} (at : q ≡ foundAt editionOne g m f n) where
-      pub not-lowest : (q ≡ p → ⊥) → false ≡ settledAt g m left d n x p
+    module _ (on : bitAnd f (unit - 1) ≡ x) {stored print : ℕ} (own : stored ≡ storedFingerprint g m n p) (right : print ≡ fingerprint editionOne f) where
+      pub wrong-print : (stored ≡ print → ⊥) → false ≡ settledAt g m left d n x p
       unfolding settledAt
-      not-lowest o = rw (← is, eq-eqb (f % 2 ^ bitsTo d) x (sym masked ∙ on), ← at, ne-eqb q p o) refl
+      wrong-print o = rw (← is, eq-eqb (f % 2 ^ bitsTo d) x (sym masked ∙ on), ← own, ← right, ne-eqb stored print o) refl
 
-      pub lowest : {r : Bool} → q ≡ p → r ≡ absentBelow g m left d n f → r ≡ settledAt g m left d n x p
-      unfolding settledAt
-      lowest o a = a ∙ rw (← is, eq-eqb (f % 2 ^ bitsTo d) x (sym masked ∙ on), ← at, eq-eqb q p o) refl
+      module _ (same : stored ≡ print) where
+        pub held-before : {q : ℕ} → q ≡ first (holdsAt g m n f) p → (q ≡ p → ⊥) → false ≡ settledAt g m left d n x p
+        unfolding settledAt
+        held-before {q} at o =
+            rw (← is, eq-eqb (f % 2 ^ bitsTo d) x (sym masked ∙ on), ← own, ← right, eq-eqb stored print same, ← at, ne-eqb q p o) refl
+
+        pub first-here : {r : Bool} → first (holdsAt g m n f) p ≡ p → r ≡ absentBelow g m left d n f → r ≡ settledAt g m left d n x p
+        unfolding settledAt
+        first-here o a =
+            a ∙ rw (← is, eq-eqb (f % 2 ^ bitsTo d) x (sym masked ∙ on), ← own, ← right, eq-eqb stored print same, eq-eqb (first (holdsAt g m n f) p) p o) refl
 
 -- ---- a test at each set bit of a word, the lowest first
 

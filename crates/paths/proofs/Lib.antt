@@ -1,2 +1,3 @@
 pub mod PathSteps
 pub mod RoomSteps
+pub mod Trails

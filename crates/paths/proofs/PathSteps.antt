@@ -12,7 +12,7 @@ use lib.Dec.{eqb, ltb}
 use lib.ListN.{length-append}
 use Rattle.memory.specs.Words.{Memory}
 use Rattle.tree.specs.declared.layout.Geometry.{Geometry}
-use Rattle.tree.specs.Layout.{rootAt, nextAt, sizeAt}
+use Rattle.tree.specs.Layout.{nextAt, sizeAt}
 use Rattle.tree.specs.Path.{child}
 use Rattle.tree.specs.Node.{wellFormed}
 use Rattle.tree.specs.declared.path.Spot.{Spot}
@@ -89,25 +89,24 @@ passed-before : (ns : List ℕ) (n : ℕ) (o : Option (List ℕ)) → passed ns 
 passed-before ns n none = refl
 passed-before ns n (some below) = ap some (sym (append-assoc ns (n ∷ []) below))
 
-pub along-root : (g : Geometry) (m : Memory) (s f : ℕ) {root : ℕ} → root ≡ m (rootAt s) → Along g m s f [] 0 (root - 1)
-unfolding pathFrom
-along-root g m s f e = record { low = omega arith; count = refl; rest = rw e (passed-none (pathFrom g m s f)) }
+pub along-start : (g : Geometry) (m : Memory) (e s f : ℕ) → e ≤ 31 → Along g m e s f [] e s
+along-start g m e s f l = record { low = l; count = omega arith; rest = passed-none (path g m (32 - e) e s f) }
 
 -- from a node on: it is malformed, the path ends, or it goes down
-module _ {g : Geometry} {m : Memory} {s f : ℕ} {ns : List ℕ} {d n : ℕ} (a : Along g m s f ns d n) where
-  pub along-malformed : {ok : Bool} → ok ≡ wellFormed g m d n → not ok ≡ true → pathFrom g m s f ≡ none
+module _ {g : Geometry} {m : Memory} {e₀ s f : ℕ} {ns : List ℕ} {d n : ℕ} (a : Along g m e₀ s f ns d n) where
+  pub along-malformed : {ok : Bool} → ok ≡ wellFormed g m d n → not ok ≡ true → path g m (32 - e₀) e₀ s f ≡ none
   along-malformed e z = a .rest ∙ ap (passed ns) (path-malformed g m f d n (32 - d) (omega (arith, a .low)) (sym e ∙ not-true _ z))
 
   module _ {x : Step} (h : wellFormed g m d n ≡ true) (e : x ≡ stepFrom g m d n f) where
-    along-step : {y : Step} → x ≡ y → pathFrom g m s f ≡ passed ns (follow n y (λ c. path g m (32 - d - 1) (d + 1) c f))
+    along-step : {y : Step} → x ≡ y → path g m (32 - e₀) e₀ s f ≡ passed ns (follow n y (λ c. path g m (32 - d - 1) (d + 1) c f))
     along-step z =
         a .rest
         ∙ ap (passed ns) (path-step g m f d n (32 - d) (omega (arith, a .low)) h ∙ ap (λ y. follow n y (λ c. path g m (32 - d - 1) (d + 1) c f)) (sym e ∙ z))
 
-    pub along-end : x ≡ End → pathFrom g m s f ≡ some (ns ++ n ∷ [])
+    pub along-end : x ≡ End → path g m (32 - e₀) e₀ s f ≡ some (ns ++ n ∷ [])
     along-end z = along-step z
 
-    pub along-down : {c : ℕ} → x ≡ Down c → Along g m s f (ns ++ n ∷ []) (d + 1) c
+    pub along-down : {c : ℕ} → x ≡ Down c → Along g m e₀ s f (ns ++ n ∷ []) (d + 1) c
     along-down {c = c} z =
         let l = down-level g m f d n h e z in
         let k : 32 - d - 1 ≡ 32 - (d + 1) = omega arith in

@@ -1,20 +1,18 @@
 -- What a claim finds at the end of a frame's path, in the terms of the code that walks it.
-use mathlib.Core.Path.{_≡_, refl, sym, _∙_, ap}
+use mathlib.Core.Path.{_≡_, refl, sym, _∙_}
 use mathlib.Core.Bool.{Bool, false}
 use mathlib.Core.Option.{Option, none, some}
-use mathlib.Core.List.{List, [], _∷_, _++_}
+use mathlib.Core.List.{List}
 use Prim.Native.Nat.{ℕ, _-_, _≤_, _<_}
-use native.Mathlib.Omega.{arith}
 use borrow.Author.Tests.{lt-ltb, le-ltb}
-use lib.ListN.{length, length-append}
+use lib.ListN.{length}
 use Rattle.memory.specs.Words.{Memory}
 use Rattle.tree.specs.declared.layout.Geometry.{Geometry}
 use Rattle.tree.specs.Layout.{sizeAt}
 use Rattle.tree.specs.declared.path.Spot.{Spot}
 use Rattle.tree.specs.declared.path.Room.{Room}
 use Rattle.tree.specs.declared.path.Room.the-variants.{Clear, ScaleUp, BranchOut}
-use Rattle.tree.specs.Fingerprint.{editionOne}
-use Rattle.tree.specs.Lookup.{pathFrom, clearSpot, lookup}
+use Rattle.tree.specs.Lookup.{pathFrom, clearSpot}
 use Rattle.tree.specs.Room.{lastOf, fullRoom, roomFor, roomOn, atLevel31}
 use Rattle.paths.specs.declared.descent.Seen.{Seen}
 use Rattle.paths.specs.declared.descent.Seen.the-variants.{Nothing, At}
@@ -22,6 +20,7 @@ use Rattle.paths.specs.declared.descent.Placement.{Placement}
 use Rattle.paths.specs.declared.descent.Placement.the-variants as placement
 use Rattle.paths.specs.Answers.{placementAs, placementOn, placementFrom}
 use Rattle.paths.specs.Descent.{spotOf, roomAt}
+use Rattle.paths.proofs.Trails.{EndsAt}
 
 -- ---- the room: a clear place, or by the last node's size
 
@@ -44,29 +43,22 @@ module _ (g : Geometry) (m : Memory) (d n : ℕ) where
 pub placement-free : (r : Room) {last : Bool} {x : Seen} → last ≡ atLevel31 r → last ≡ false → x ≡ Nothing → placement.Free r ≡ placementAs r (spotOf x)
 placement-free r e z k = rw (sym e ∙ z, k) refl
 
-last-appended : (ns : List ℕ) (n : ℕ) → lastOf (ns ++ n ∷ []) ≡ n
-unfolding lastOf
-last-appended [] n = refl
-last-appended (k ∷ []) n = refl
-last-appended (k ∷ k' ∷ ns) n = last-appended (k' ∷ ns) n
-
 module _ (g : Geometry) (m : Memory) (s f : ℕ) where
   pub placement-malformed : pathFrom g m s f ≡ none → placement.Malformed ≡ placementFrom g m s f
   unfolding placementFrom
   placement-malformed e = rw e refl
 
   -- at the end of a path, with what the walk has found on it
-  module _ (ns : List ℕ) (d n : ℕ) (len : length ns ≡ d) where
-    room-end : (o : Option Spot) → roomAt g m d n o ≡ roomFor g m (ns ++ n ∷ []) o
-    unfolding roomAt fullRoom
-    room-end none = let k : length (ns ++ n ∷ []) - 1 ≡ d = simp length-append (omega arith) in rw (last-appended ns n, k) refl
-    room-end (some t) = refl
+  room-end : (ns : List ℕ) (o : Option Spot) → roomAt g m (length ns - 1) (lastOf ns) o ≡ roomFor g m ns o
+  unfolding roomAt fullRoom
+  room-end ns none = refl
+  room-end ns (some t) = refl
 
-    pub placement-end : {found clear : Option Spot} {r : Placement} {room : Room} → pathFrom g m s f ≡ some (ns ++ n ∷ [])
-        → found ≡ lookup editionOne g m f (ns ++ n ∷ [])
-        → clear ≡ clearSpot g m (ns ++ n ∷ [])
-        → room ≡ roomAt g m d n clear
-        → r ≡ placementAs room found
-        → r ≡ placementFrom g m s f
-    unfolding placementFrom placementOn roomOn
-    placement-end e a b c q = q ∙ rw (e, a, c ∙ ap (roomAt g m d n) b ∙ room-end (clearSpot g m (ns ++ n ∷ []))) refl
+  pub placement-end : {n d : ℕ} {found clear : Seen} {r : Placement} {room : Room} → EndsAt g m s f n d found clear
+      → room ≡ roomAt g m d n (spotOf clear)
+      → r ≡ placementAs room (spotOf found)
+      → r ≡ placementFrom g m s f
+  unfolding placementFrom placementOn roomOn
+  placement-end {found = found} {clear = clear} {room = room} a c q =
+      let e : room ≡ roomFor g m (a .nodes) (clearSpot g m (a .nodes)) = rw (c, a .level, a .last, a .clear) (room-end (a .nodes) (clearSpot g m (a .nodes))) in
+      q ∙ rw (a .path, a .found, e) refl

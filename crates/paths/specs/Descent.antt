@@ -3,7 +3,7 @@ use mathlib.Core.Path.{_≡_}
 use mathlib.Core.Bool.{cond}
 use mathlib.Core.Option.{Option, none, some}
 use mathlib.Core.List.{List, _++_}
-use Prim.Native.Nat.{ℕ, _-_, _≤_}
+use Prim.Native.Nat.{ℕ, _+_, _-_, _≤_}
 use lib.Dec.{eqb, ltb}
 use lib.ListN.{length}
 use Rattle.memory.specs.Words.{Memory}
@@ -14,11 +14,17 @@ use Rattle.tree.specs.declared.path.Room.the-variants.{Clear, ScaleUp, BranchOu
 use Rattle.tree.specs.Layout.{nextAt, sizeAt}
 use Rattle.tree.specs.Path.{child}
 use Rattle.tree.specs.Node.{childOf}
-use Rattle.tree.specs.Lookup.{path, pathFrom}
+use Rattle.tree.specs.Fingerprint.{editionOne}
+use Rattle.tree.specs.Lookup.{path, lookup, clearSpot}
+use Rattle.tree.specs.Room.{lastOf}
 use Rattle.paths.specs.declared.descent.Step.{Step}
 use Rattle.paths.specs.declared.descent.Step.the-variants.{End, Down}
 use Rattle.paths.specs.declared.descent.Seen.{Seen}
 use Rattle.paths.specs.declared.descent.Seen.the-variants.{Nothing, At}
+use Rattle.paths.specs.declared.descent.Trail.{Trail}
+use Rattle.paths.specs.declared.descent.Trail.the-variants as trail
+use Rattle.paths.specs.declared.descent.Trail.the-variants.{Ended}
+use Rattle.paths.specs.Answers.{onPath}
 
 -- how a frame's path goes on from a node of a level
 unfoldable pub stepFrom : Geometry → Memory → (level node frame : ℕ) → Step
@@ -39,11 +45,23 @@ abbrev pub passed : List ℕ → Option (List ℕ) → Option (List ℕ)
 passed ns none = none
 passed ns (some below) = some (ns ++ below)
 
--- a walk along a frame's path from a slot has passed nodes and come to node n of level d
-pub record Along (g : Geometry) (m : Memory) (slot f : ℕ) (ns : List ℕ) (d n : ℕ) : Type 0 where
+-- a walk along a frame's path from node s of level e has passed nodes and come to node n of level d
+pub record Along (g : Geometry) (m : Memory) (e s f : ℕ) (ns : List ℕ) (d n : ℕ) : Type 0 where
   pub low : d ≤ 31
-  pub count : length ns ≡ d
-  pub rest : pathFrom g m slot f ≡ passed ns (path g m (32 - d) d n f)
+  pub count : e + length ns ≡ d
+  pub rest : path g m (32 - e) e s f ≡ passed ns (path g m (32 - d) d n f)
+
+abbrev pub seenAs : Option Spot → Seen
+seenAs none = Nothing
+seenAs (some t) = At t
+
+-- how a walk along nodes ends, the first of them of level d: at the last, with the frame's place and the clear place that come first
+unfoldable pub trailOn : Geometry → Memory → (level frame : ℕ) → List ℕ → Trail
+trailOn g m d f ns = Ended (lastOf ns) (d + length ns - 1) (seenAs (lookup editionOne g m f ns)) (seenAs (clearSpot g m ns))
+
+-- and along a frame's path from a node of level d on
+unfoldable pub trailFrom : Geometry → Memory → (level node frame : ℕ) → Trail
+trailFrom g m d n f = onPath trail.Malformed (trailOn g m d f) (path g m (32 - d) d n f)
 
 -- the room on a path that ends at a node of a level: what was found clear, or else by the node's size
 unfoldable pub roomAt : Geometry → Memory → (level node : ℕ) → (clear : Option Spot) → Room

@@ -1,4 +1,4 @@
-// The walks along a frame's path: the lookup, and the room for a claim.
+// The walk along a frame's path, and what is read off it: the lookup, and the room for a claim.
 ghost use mathlib.Core.Path.{_≡_};
 ghost use mathlib.Core.Bool.{true};
 ghost use mathlib.Core.List.{[], _∷_};
@@ -7,11 +7,11 @@ ghost use Rattle.memory.specs.Words.{reads};
 ghost use Rattle.tree.specs.Layout.{Sized, sizeAt};
 ghost use Rattle.tree.specs.Fingerprint.{editionOne, fingerprint};
 ghost use Rattle.tree.specs.Node.{wellFormed};
-ghost use Rattle.tree.specs.Slots.{Filled};
+ghost use Rattle.tree.specs.Slots.{Filled, rootOf};
 ghost use Rattle.tree.specs.Lookup.{lookup, clearSpot};
 ghost use Rattle.tree.specs.Room.{atLevel31};
 ghost use Rattle.paths.specs.Answers.{foundAs, foundFrom, placementAs, placementFrom};
-ghost use Rattle.paths.specs.Descent.{stepFrom, spotOf, orElse, roomAt};
+ghost use Rattle.paths.specs.Descent.{stepFrom, spotOf, orElse, trailFrom, roomAt};
 use nodes::fingerprint::fingerprint;
 use nodes::node::clear_place;
 use nodes::node::well_formed;
@@ -33,10 +33,23 @@ pub enum Found {
     At(Spot),
 }
 
-// What a search of a path's nodes, from its root on, has seen so far.
-enum Seen {
+// What a search of a path's nodes, from its first on, has seen so far.
+pub enum Seen {
     Nothing,
     At(Spot),
+}
+
+// How a walk along a frame's path ends.
+pub enum Trail {
+    // A node of the path is malformed.
+    Malformed,
+    // At the path's last node, with its level. The first place that holds the frame, and the first clear one.
+    Ended {
+        node: usize,
+        level: u64,
+        found: Seen,
+        clear: Seen,
+    },
 }
 
 // What a claim finds on a frame's path.
@@ -85,41 +98,6 @@ fn found_on(image: &[u64], g: Geometry, n: usize, frame: u64, print: u64, found:
     Seen::Nothing
 }
 
-// The lookup's answer at the end of a path.
-fn found_as(found: Seen) -> Found
-    ensures { λ r. ⌜ r ≡ foundAs (spotOf found) ⌝ }
-{
-    match found {
-        Seen::Nothing => Found::Absent,
-        Seen::At(spot) => Found::At(spot),
-    }
-}
-
-// The lookup of a frame from a filled slot. It goes to the path's end also where it has found the frame: a
-// malformed node below decides.
-pub fn find(image: &[u64], g: Geometry, slot: usize, frame: u64) -> Found
-    requires { ⌜ Sized (now image) g × Filled g (reads (now image)) slot ⌝ }
-    ensures { λ r. ⌜ r ≡ foundFrom g (reads (now (image .entry))) slot frame ⌝ }
-{
-    let print = fingerprint(frame);
-    let mut n = root_of(image, g, slot) as usize - 1;
-    let mut level: u64 = 0;
-    let mut found = Seen::Nothing;
-    loop {
-        if !well_formed(image, g, level, n) {
-            return Found::Malformed;
-        }
-        found = found_on(image, g, n, frame, print, found);
-        match step_from(image, g, level, n, frame) {
-            Step::End => return found_as(found),
-            Step::Down(below) => {
-                n = below;
-                level += 1;
-            }
-        }
-    }
-}
-
 // What was clear so far, or else the lowest clear place of a node.
 fn clear_on(image: &[u64], g: Geometry, n: usize, clear: Seen) -> Seen
     requires { ⌜ Sized (now image) g × (n < g .nodes) × (reads (now image) (sizeAt g n) ≤ 64) ⌝ }
@@ -134,6 +112,74 @@ fn clear_on(image: &[u64], g: Geometry, n: usize, clear: Seen) -> Seen
         return Seen::At(Spot { node: n, place });
     }
     Seen::Nothing
+}
+
+// The walk along a frame's path, from a node on. It goes to the path's end also where it has found both places: a malformed node
+// below decides. The caller has the frame's fingerprint.
+pub fn walk(image: &[u64], g: Geometry, level: u64, n: usize, frame: u64, print: u64) -> Trail
+    requires { ⌜ Sized (now image) g × (level ≤ 31) × (print ≡ fingerprint editionOne frame) ⌝ }
+    ensures { λ r. ⌜ r ≡ trailFrom g (reads (now (image .entry))) level n frame ⌝ }
+{
+    let mut n = n;
+    let mut level = level;
+    let mut found = Seen::Nothing;
+    let mut clear = Seen::Nothing;
+    loop {
+        if !well_formed(image, g, level, n) {
+            return Trail::Malformed;
+        }
+        found = found_on(image, g, n, frame, print, found);
+        clear = clear_on(image, g, n, clear);
+        match step_from(image, g, level, n, frame) {
+            Step::End => {
+                return Trail::Ended {
+                    node: n,
+                    level,
+                    found,
+                    clear,
+                };
+            }
+            Step::Down(below) => {
+                n = below;
+                level += 1;
+            }
+        }
+    }
+}
+
+// The walk along a frame's path from a filled slot.
+fn walk_from(image: &[u64], g: Geometry, slot: usize, frame: u64) -> Trail
+    requires { ⌜ Sized (now image) g × Filled g (reads (now image)) slot ⌝ }
+    ensures { λ r. ⌜ r ≡ trailFrom g (reads (now (image .entry))) 0 (rootOf (reads (now (image .entry))) slot) frame ⌝ }
+{
+    let root = root_of(image, g, slot) as usize;
+    walk(image, g, 0, root - 1, frame, fingerprint(frame))
+}
+
+// The lookup's answer at the end of a path.
+fn found_as(found: Seen) -> Found
+    ensures { λ r. ⌜ r ≡ foundAs (spotOf found) ⌝ }
+{
+    match found {
+        Seen::Nothing => Found::Absent,
+        Seen::At(spot) => Found::At(spot),
+    }
+}
+
+// The lookup of a frame from a filled slot.
+pub fn find(image: &[u64], g: Geometry, slot: usize, frame: u64) -> Found
+    requires { ⌜ Sized (now image) g × Filled g (reads (now image)) slot ⌝ }
+    ensures { λ r. ⌜ r ≡ foundFrom g (reads (now (image .entry))) slot frame ⌝ }
+{
+    match walk_from(image, g, slot, frame) {
+        Trail::Malformed => Found::Malformed,
+        Trail::Ended {
+            node: _,
+            level: _,
+            found,
+            clear: _,
+        } => found_as(found),
+    }
 }
 
 // The room on a path: the first clear place, or else its last node decides.
@@ -178,28 +224,18 @@ fn placement_as(room: Room, found: Seen) -> Placement
     Placement::Free(room)
 }
 
-// What a claim of a frame finds from a filled slot: one walk looks for the frame and for a clear place.
+// What a claim of a frame finds from a filled slot.
 pub fn room_for(image: &[u64], g: Geometry, slot: usize, frame: u64) -> Placement
     requires { ⌜ Sized (now image) g × Filled g (reads (now image)) slot ⌝ }
     ensures { λ r. ⌜ r ≡ placementFrom g (reads (now (image .entry))) slot frame ⌝ }
 {
-    let print = fingerprint(frame);
-    let mut n = root_of(image, g, slot) as usize - 1;
-    let mut level: u64 = 0;
-    let mut found = Seen::Nothing;
-    let mut clear = Seen::Nothing;
-    loop {
-        if !well_formed(image, g, level, n) {
-            return Placement::Malformed;
-        }
-        found = found_on(image, g, n, frame, print, found);
-        clear = clear_on(image, g, n, clear);
-        match step_from(image, g, level, n, frame) {
-            Step::End => return placement_as(room_at(image, g, level, n, clear), found),
-            Step::Down(below) => {
-                n = below;
-                level += 1;
-            }
-        }
+    match walk_from(image, g, slot, frame) {
+        Trail::Malformed => Placement::Malformed,
+        Trail::Ended {
+            node,
+            level,
+            found,
+            clear,
+        } => { placement_as(room_at(image, g, level, node, clear), found) }
     }
 }

@@ -1,6 +1,6 @@
 -- Recovery's test of the frames of a tree whose nodes are known to be well formed: each is settled where it is held.
 use mathlib.Core.Path.{_≡_}
-use mathlib.Core.Bool.{Bool, true, cond, _&&_}
+use mathlib.Core.Bool.{Bool, true, false, cond, _&&_}
 use mathlib.Core.List.{List}
 use Prim.Native.Nat.{ℕ, zero, suc, _+_, _-_, _*_, _%_, _^_, _≤_, _<_}
 use lib.ListN.{length}
@@ -17,6 +17,9 @@ use Rattle.tree.specs.Node.{childOf, held, frame, storedFingerprint}
 use Rattle.tree.specs.Lookup.{foundAt}
 use Rattle.tree.specs.Pool.{used}
 use Rattle.tree.specs.Subtree.{children, heldPlaces}
+use Rattle.paths.specs.declared.descent.Seen.the-variants.{Nothing, At}
+use Rattle.paths.specs.declared.descent.Trail.{Trail}
+use Rattle.paths.specs.declared.descent.Trail.the-variants.{Malformed, Ended}
 use Rattle.visits.specs.Walk.{stops, formedAt}
 use Rattle.settled.specs.declared.frames.Subtree.{Subtree}
 
@@ -40,6 +43,12 @@ pub record KnownGroup (g : Geometry) (m : Memory) (t : Subtree) (count : ℕ) : 
 pub record Met (g : Geometry) (m : Memory) (n : ℕ) (passed : ℕ → Type 0) (map : List ℕ) : Type 0 where
   pub bits : length map ≡ 4
   pub each : (p : ℕ) → passed p → held g m n p ≡ true → used map (fingerprint editionOne (frame g m n p)) ≡ true
+
+-- a walk along a frame's path ends, and without the frame
+abbrev pub isAbsent : Trail → Bool
+isAbsent Malformed = false
+isAbsent (Ended n d Nothing clear) = true
+isAbsent (Ended n d (At t) clear) = false
 
 module _ (g : Geometry) (m : Memory) where
   -- the lookup finds a frame in no node of its path below this one, levels left

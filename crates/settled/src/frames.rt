@@ -14,15 +14,17 @@ ghost use Rattle.tree.specs.Slots.{Filled};
 ghost use Rattle.tree.specs.Subtree.{tree};
 ghost use Rattle.tree.specs.Check.{isSoundTree, inPlace};
 ghost use Rattle.settled.specs.Settled.{Formed, Known, KnownGroup, Met};
-ghost use Rattle.settled.specs.Settled.{absentBelow, holdsAt, settledAt, settledNode, settledTree, settledGroup};
+ghost use Rattle.settled.specs.Settled.{isAbsent, absentBelow, holdsAt, settledAt, settledNode, settledTree, settledGroup};
 use memory::words::byte_of;
 use memory::words::is_set;
 use memory::words::without_bit;
 use nodes::fingerprint::fold;
 use nodes::fingerprint::table;
-use nodes::place::found_place;
+use paths::descent::Seen;
 use paths::descent::Step;
+use paths::descent::Trail;
 use paths::descent::step_from;
+use paths::descent::walk;
 use pool::pool_map::is_used;
 use pool::pool_map::mark;
 use tree::layout::Geometry;
@@ -34,24 +36,32 @@ use tree::layout::root_of;
 use tree::layout::word_of;
 use tree::path::fanout;
 
+// Does a walk end, and without the frame?
+fn is_absent(trail: Trail) -> bool
+    ensures { λ r. ⌜ r ≡ isAbsent trail ⌝ }
+{
+    match trail {
+        Trail::Malformed => false,
+        Trail::Ended {
+            node: _,
+            level: _,
+            found,
+            clear: _,
+        } => match found {
+            Seen::Nothing => true,
+            Seen::At(_) => false,
+        },
+    }
+}
+
 // Does the lookup find a frame in no node of its path below this one?
 fn absent_below(image: &[u64], g: Geometry, left: u64, n: usize, frame: u64, print: u64) -> bool
     requires { ⌜ Sized (now image) g × Formed g (reads (now image)) left n × (print ≡ fingerprint editionOne frame) ⌝ }
     ensures { λ r. ⌜ r ≡ absentBelow g (reads (now (image .entry))) left (levels - left) n frame ⌝ }
 {
-    let mut left = left;
-    let mut n = n;
-    loop {
-        match step_from(image, g, 32 - left, n, frame) {
-            Step::End => return true,
-            Step::Down(below) => {
-                if found_place(image, g, below, frame, print) < 64 {
-                    return false;
-                }
-                n = below;
-                left -= 1;
-            }
-        }
+    match step_from(image, g, 32 - left, n, frame) {
+        Step::End => true,
+        Step::Down(below) => is_absent(walk(image, g, 33 - left, below, frame, print)),
     }
 }
 

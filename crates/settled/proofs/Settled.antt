@@ -11,6 +11,7 @@ use lib.ListN.{length}
 use lib.Dec.{eqb, leb}
 use borrow.Author.Tests.{eqb-true, leb-true, le-leb}
 use Rattle.memory.specs.Words.{Memory}
+use Rattle.memory.specs.Search.{first}
 use Rattle.memory.proofs.Laws.{first-laws}
 use Rattle.tree.specs.Test.{Test, is, eq, _and_}
 use Rattle.tree.specs.Lists.{upTo, every}
@@ -18,14 +19,14 @@ use Rattle.tree.specs.declared.layout.Geometry.{Geometry}
 use Rattle.tree.specs.Layout.{nextAt}
 use Rattle.tree.specs.Path.{levels, child, wayOf, bitsTo}
 use Rattle.tree.specs.Fingerprint.{editionOne, fingerprint}
-use Rattle.tree.specs.Node.{childOf, frame, storedFingerprint}
+use Rattle.tree.specs.Node.{childOf, held, frame, storedFingerprint}
 use Rattle.tree.specs.Slots.{Filled, rootOf}
 use Rattle.tree.specs.Reach.{Reaches, Holds}
 use Rattle.tree.specs.Sound.{SoundTree}
 use Rattle.tree.specs.Lookup.{spot, pathFrom, matches, foundAt, lookup, lookupOn, find}
 use Rattle.tree.specs.Subtree.{Visit, children, subtree, tree, heldPlaces}
 use Rattle.tree.specs.Check.{isSoundTree, inPlace}
-use Rattle.tree.proofs.Cases.{test, same-test, and-true, true-and, nonzero, seen, nothing, just, some-inj, none-some, less, same, more, compared}
+use Rattle.tree.proofs.Cases.{test, not-false, same-test, and-true, true-and, nonzero, seen, nothing, just, some-inj, none-some, less, same, more, compared}
 use Rattle.tree.proofs.Tests.{says, said}
 use Rattle.tree.proofs.Lists.{every-at, at-every, every-cong, every-flatMap}
 use Rattle.tree.proofs.Nodes.{linked-depth}
@@ -34,8 +35,9 @@ use Rattle.tree.proofs.Lookup.{match-facts, find-holds, holds-found}
 use Rattle.tree.proofs.Subtree.{visited, held-places}
 use Rattle.tree.proofs.Decide.{Placed, placed}
 use Rattle.tree.proofs.Laws.{child-laws, reach-laws, spot-laws, sound-laws}
-use Rattle.settled.specs.Settled.{absentBelow, settledAt, settledNode, settledTree}
+use Rattle.settled.specs.Settled.{absentBelow, holdsAt, settledAt, settledNode, settledTree}
 use Rattle.settled.proofs.Suffixes.{suffixOf, on-way}
+use Rattle.settled.proofs.Held.{hold-facts, none-lower}
 
 -- ---- what is settled, by ways
 
@@ -86,23 +88,55 @@ module _ {g : Geometry} {m : Memory} {s : ℕ} (a : SoundTree g m s) (b : Filled
     | just ns q ↦ spot-laws (foundAt editionOne g m f) (λ n. 64) ns .found n p .0 (sym (ap (lookupOn editionOne g m f) q) ∙ h) .is
   ]
 
+  -- where no lower place holds a frame, the lookup finds none of them
+  lowest-here : (f n p : ℕ) → p < 64 → (held g m n p ≡ true) × ((frame g m n p ≡ f) × (storedFingerprint g m n p ≡ fingerprint editionOne f))
+      → first (holdsAt g m n f) p ≡ p → foundAt editionOne g m f n ≡ p
+  unfolding foundAt
+  lowest-here f n p l e o =
+      sym (first-laws (matches editionOne g m f n) 64 .stops p (omega arith) (λ q k. not-false (λ y.
+      let t = match-facts editionOne g m f n q .0 y in
+      omega (arith, o, first-laws (holdsAt g m n f) p .least q k (hold-facts g m n f q .1 (t .0, t .1 .0)))))
+      (λ k. match-facts editionOne g m f n p .1 e))
+
   -- a frame held at a way: it goes that way, the place is the lowest of its node, and it is in no node below
   record Settled (w : List ℕ) (n p f : ℕ) : Type 0 where
     on-path : w ≡ wayOf (length w) f
     lowest : foundAt editionOne g m f n ≡ p
     absent : Absent f (length w)
 
-  settled-at : (left : ℕ) {w : List ℕ} {n : ℕ} → left + length w ≡ levels → Reaches g m s w n → (p : ℕ)
-      → (settledAt g m left (length w) n (suffixOf w) p ≡ true) ↔ Settled w n p (frame g m n p)
+  -- what the test of a place says, that holds its frame; and the test holds where all of the node's places with that frame are settled
+  settled-at : (left : ℕ) {w : List ℕ} {n p : ℕ} → left + length w ≡ levels → Holds g m s w n p (frame g m n p)
+      → (settledAt g m left (length w) n (suffixOf w) p ≡ true → Settled w n p (frame g m n p))
+      × (((q : ℕ) → Holds g m s w n q (frame g m n p) → Settled w n q (frame g m n p)) → settledAt g m left (length w) n (suffixOf w) p ≡ true)
   unfolding settledAt
-  settled-at left {w} {n} h r p =
+  settled-at left {w} {n} {p} h x =
       let f = frame g m n p in
-      let t : Test = eq (f % 2 ^ bitsTo (length w)) (suffixOf w) and eq (foundAt editionOne g m f n) p and is (absentBelow g m left (length w) n f) in
-      let way = on-way r f in
+      let t : Test =
+      eq (f % 2 ^ bitsTo (length w)) (suffixOf w)
+      and eq (storedFingerprint g m n p) (fingerprint editionOne f)
+      and eq (first (holdsAt g m n f) p) p
+      and is (absentBelow g m left (length w) n f) in
+      let way = on-way (x .there) f in
       let below : w ≡ wayOf (length w) f → (absentBelow g m left (length w) n f ≡ true) ↔ Absent f (length w) =
-      λ q. absent-below f left (length w) n h (subst (λ v. Reaches g m s v n) q r) in (
-        λ y. let k = says t y in let q = way .0 (k .0) in record { on-path = q; lowest = k .1 .0; absent = below q .0 (k .1 .1) },
-        λ x. said t (way .1 (x .on-path), (x .lowest, below (x .on-path) .1 (x .absent))),
+      λ q. absent-below f left (length w) n h (subst (λ v. Reaches g m s v n) q (x .there)) in (
+        λ y. let k = says t y in
+            let q = way .0 (k .0) in
+            record { on-path = q; lowest = lowest-here f n p (x .place) (x .set, (refl, k .1 .0)) (k .1 .1 .0); absent = below q .0 (k .1 .1 .1) },
+        λ l. let i = l p x in
+            let r = subst (λ v. Reaches g m s v n) (i .on-path) (x .there) in
+            let own = found-holds f (length w) n r (rw (i .lowest) (x .place)) .1 in
+            said t (
+              way .1 (i .on-path),
+              (
+                rw (i .lowest) at own,
+                (
+                  none-lower g m n f p (λ q k o e.
+                      let z = l q (record { there = x .there; place = omega (arith, x .place); set = o; is = e }) .lowest in
+                      omega (arith, z, i .lowest)),
+                  below (i .on-path) .1 (i .absent),
+                ),
+              ),
+            ),
       )
 
   -- where the lookup finds each frame where it is held, each is settled
@@ -169,10 +203,11 @@ module _ (g : Geometry) (m : Memory) where
       settled-subtree levels [] (rootOf m s) (omega arith) ∙ same-test (
         λ k. placed editionOne g m b .1 (settled-placed a b (λ w n p f x.
             let e = every-at _ (every-at isSettled k (visited g m b w n .1 (x .there))) (held-places g m n p .1 (x .place, x .set)) in
-            rw (x .is) at (settled-at a b (levels - length w) (omega (arith, reach-laws g m .depth (x .there))) (x .there) p .0 e))),
+            let own : Holds g m s w n p (frame g m n p) = record { there = x .there; place = x .place; set = x .set; is = refl } in
+            rw (x .is) at (settled-at a b (levels - length w) (omega (arith, reach-laws g m .depth (x .there))) own .0 e))),
         λ k. at-every isSettled _ (λ v y. at-every _ (heldPlaces g m (v .node)) (λ p z.
             let i = held-places g m (v .node) p .0 z in
             let r = visited g m b (v .way) (v .node) .0 y in
-            settled-at a b (levels - length (v .way)) (omega (arith, reach-laws g m .depth r)) r p .1
-            (placed-settled a b (placed editionOne g m b .0 k) (record { there = r; place = i .0; set = i .1; is = refl })))),
+            settled-at a b (levels - length (v .way)) (omega (arith, reach-laws g m .depth r)) (record { there = r; place = i .0; set = i .1; is = refl }) .1
+            (λ q. placed-settled a b (placed editionOne g m b .0 k)))),
       )

@@ -2,31 +2,37 @@
 use mathlib.Core.Path.{_≡_, refl, sym, _∙_, ap, subst}
 use mathlib.Core.Bool.{Bool, true, false, not, _&&_}
 use mathlib.Core.Logic.{_≢_, inl, inr}
+use mathlib.Core.Option.{Option, none, some}
+use mathlib.Core.List.{List, []}
 use Prim.Native.Nat.{ℕ, zero, suc, _+_, _-_, _%_, _^_, _≤_, _<_}
 use native.Mathlib.Omega.{arith}
+use native.Mathlib.Decide.{decLt}
 use lib.Bits.{bitAnd, and-mask}
 use lib.Count.{trailingZeros}
 use lib.Dec.{eqb, leb}
-use borrow.Author.Tests.{eqb-false, eq-eqb, ne-eqb, le-leb, lt-leb, not-true, not-false}
+use borrow.Author.Tests.{eqb-false, eq-eqb, ne-eqb, le-leb, lt-leb, le-ltb, lt-ltb, not-true, not-false}
 use Rattle.memory.specs.Words.{Memory, withoutBit}
+use Rattle.memory.specs.Search.{first}
+use Rattle.memory.specs.Apply.{isSome}
 use Rattle.tree.specs.Lists.{upTo, every}
 use Rattle.tree.specs.declared.layout.Geometry.{Geometry}
 use Rattle.tree.specs.Layout.{nextAt, setAt}
 use Rattle.tree.specs.Path.{levels, fanout, child, bitsTo}
-use Rattle.tree.specs.Fingerprint.{editionOne}
-use Rattle.tree.specs.Node.{wellFormed, frame}
-use Rattle.tree.specs.Lookup.{foundAt}
+use Rattle.tree.specs.Fingerprint.{editionOne, fingerprint}
+use Rattle.tree.specs.Node.{childOf, wellFormed, frame, storedFingerprint}
+use Rattle.tree.specs.Lookup.{before, path, foundAt, lookup, firstSpot}
 use Rattle.tree.specs.Subtree.{heldPlaces}
 use Rattle.tree.specs.Laws.{WellFormed}
-use Rattle.tree.proofs.Cases.{test}
+use Rattle.tree.proofs.Cases.{test, seen, nothing, just}
 use Rattle.tree.proofs.Lists.{upTo-members, every-at, every-flatMap}
 use Rattle.tree.proofs.Nodes.{children-inside}
 use Rattle.tree.proofs.Laws.{child-laws, node-laws}
 use Rattle.paths.specs.declared.descent.Step.{Step}
 use Rattle.paths.specs.declared.descent.Step.the-variants.{End, Down}
-use Rattle.paths.specs.Descent.{stepFrom}
+use Rattle.paths.specs.declared.descent.Trail.{Trail}
+use Rattle.paths.specs.Descent.{stepFrom, trailOn, trailFrom}
 use Rattle.visits.specs.Walk.{groupStops, formedAt}
-use Rattle.settled.specs.Settled.{Formed, absentBelow, settledAt, settledNode}
+use Rattle.settled.specs.Settled.{Formed, isAbsent, absentBelow, holdsAt, settledAt, settledNode}
 use Rattle.visits.specs.Places.{setPlaces}
 use Rattle.visits.proofs.Places.{places-none, places-next}
 use Rattle.visits.proofs.StopFacts.{node-facts, linked-facts}
@@ -47,61 +53,77 @@ module _ (g : Geometry) (m : Memory) where
       let all = sym (every-flatMap (formedAt g m) _ (upTo (fanout (levels - left)))) ∙ t .formed in
       record { some-left = omega (arith, t .above); all-left = omega (arith, a .all-left); is = every-at _ all (upTo-members _ .1 l) }
 
-  abbrev FormedBy : (left : ℕ) → Step → Type 0
-  FormedBy left End = Unit {0}
-  FormedBy left (Down c) = Formed g m left c
-
-  formed-step : {left n : ℕ} → Formed g m left n → (f : ℕ) → FormedBy (left - 1) (stepFrom g m (levels - left) n f)
-  unfolding stepFrom
-  formed-step {left} {n} a f = elim (test (eqb (m (nextAt g n)) 0)) [
-    | inl z ↦ rw z tt
-    | inr z ↦
-        let linked = eqb-false (m (nextAt g n)) 0 z in
-        rw z (children-formed a refl linked (child (levels - left) f) (child-laws .below (levels - left) f (children-inside (known-facts a) linked .0)))
-  ]
+  -- and the one on a frame's path
+  child-formed : {left n : ℕ} → Formed g m (suc left) n → eqb (m (nextAt g n)) 0 ≡ false → (f : ℕ)
+      → Formed g m left (childOf g m n (child (levels - suc left) f))
+  child-formed {left} {n} a z f =
+      let e : suc left - 1 ≡ left = omega arith in
+      let o = eqb-false (m (nextAt g n)) 0 z in
+      let d = levels - suc left in
+      rw e at (children-formed a refl o (child d f) (child-laws .below d f (children-inside (known-facts a) o .0)))
 
   -- ---- down a frame's path
 
   module _ (f : ℕ) where
-    -- where the frame is in no node below, by the step to them
-    abbrev absentBy : (left d : ℕ) → Step → Bool
-    absentBy left d End = true
-    absentBy left d (Down c) = leb 64 (foundAt editionOne g m f c) && absentBelow g m left d c f
+    -- the lookup finds the frame in no node of a path that is there
+    abbrev absentOn : Option (List ℕ) → Bool
+    absentOn none = false
+    absentOn (some ns) = not (isSome (lookup editionOne g m f ns))
 
-    absent-step : (left d n : ℕ) → 1 ≤ left → absentBelow g m left d n f ≡ absentBy (left - 1) (suc d) (stepFrom g m d n f)
+    trail-absent : (d n : ℕ) → isAbsent (trailFrom g m d n f) ≡ absentOn (path g m (32 - d) d n f)
+    unfolding trailFrom trailOn
+    trail-absent d n = elim (seen (path g m (32 - d) d n f)) [
+      | nothing q ↦ rw q refl
+      | just ns q ↦ rw q (elim (seen (lookup editionOne g m f ns)) [ nothing z ↦ rw z refl | just t z ↦ rw z refl ])
+    ]
+
+    absent-before : (n : ℕ) (o : Option (List ℕ)) → absentOn (before n o) ≡ leb 64 (foundAt editionOne g m f n) && absentOn o
+    unfolding lookup firstSpot
+    absent-before n o = elim (decLt (foundAt editionOne g m f n) 64) [
+      | yes l ↦ rw (lt-leb 64 (foundAt editionOne g m f n) l) (elim (seen o) [ nothing q ↦ rw q refl | just ns q ↦ rw (q, lt-ltb (foundAt editionOne g m f n) 64 l) refl ])
+      | no l ↦
+          rw (le-leb 64 (foundAt editionOne g m f n) (omega arith)) (elim (seen o) [
+            | nothing q ↦ rw q refl
+            | just ns q ↦ rw (q, le-ltb (foundAt editionOne g m f n) 64 (omega arith)) refl
+          ])
+    ]
+
+    -- the path from a node known to be formed with all below it is there
+    path-absent : (left : ℕ) {n : ℕ} → Formed g m left n
+        → absentOn (path g m left (levels - left) n f) ≡ leb 64 (foundAt editionOne g m f n) && absentBelow g m left (levels - left) n f
+    unfolding path absentBelow lookup firstSpot
+    path-absent zero a = absurd (omega (arith, a .some-left))
+    path-absent (suc left) {n} a =
+        let d = levels - suc left in
+        let next : levels - left ≡ suc d = omega (arith, a .all-left) in
+        rw (known-formed a) (elim (test (eqb (m (nextAt g n)) 0)) [
+          | inl z ↦ rw z (absent-before n (some []))
+          | inr z ↦
+              rw z (absent-before n (path g m left (suc d) (childOf g m n (child d f)) f)
+              ∙ ap (λ b. leb 64 (foundAt editionOne g m f n) && b) (rw next at (path-absent left (child-formed a z f))))
+        ])
+
+    -- what the step from such a node tells of those below
+    abbrev Tells : (left n : ℕ) → Step → Type 0
+    Tells left n End = true ≡ absentBelow g m left (levels - left) n f
+    Tells left n (Down c) = (33 - left ≤ 31) × (isAbsent (trailFrom g m (33 - left) c f) ≡ absentBelow g m left (levels - left) n f)
+
+    step-tells : (left : ℕ) {n : ℕ} → Formed g m left n → Tells left n (stepFrom g m (levels - left) n f)
     unfolding absentBelow stepFrom
-    absent-step zero d n h = absurd (omega arith)
-    absent-step (suc left) d n h =
-        let e : suc left - 1 ≡ left = omega arith in
-        elim (test (eqb (m (nextAt g n)) 0)) [ inl z ↦ rw z refl | inr z ↦ rw (z, e) refl ]
+    step-tells zero a = absurd (omega (arith, a .some-left))
+    step-tells (suc left) {n} a = elim (test (eqb (m (nextAt g n)) 0)) [
+      | inl z ↦ rw z (rw z refl)
+      | inr z ↦
+          let c = childOf g m n (child (levels - suc left) f) in
+          let below = child-formed a z f in
+          let rest : 32 - (33 - suc left) ≡ left = omega (arith, a .all-left) in
+          let level : 33 - suc left ≡ levels - left = omega (arith, a .all-left) in
+          let next : suc (levels - suc left) ≡ levels - left = omega (arith, a .all-left) in
+          rw z (rw (z, next) (omega (arith, below .some-left), rw rest at (trail-absent (33 - suc left) c) ∙ rw level (path-absent left below)))
+    ]
 
-    -- a walk down the frame's path from a node has come to another, and found the frame at none after the first
-    pub record Descends (left₀ n₀ left n : ℕ) : Type 0 where
-      pub here : Formed g m left n
-      pub same : absentBelow g m left (levels - left) n f ≡ absentBelow g m left₀ (levels - left₀) n₀ f
-
-    pub descends-start : {left n : ℕ} → Formed g m left n → Descends left n left n
-    descends-start a = record { here = a; same = refl }
-
-    module _ {left₀ n₀ left n : ℕ} (a : Descends left₀ n₀ left n) {x : Step} (e : x ≡ stepFrom g m (levels - left) n f) where
-      by-step : {y : Step} → x ≡ y → absentBy (left - 1) (suc (levels - left)) y ≡ absentBelow g m left₀ (levels - left₀) n₀ f
-      by-step z = ap (absentBy (left - 1) (suc (levels - left))) (sym z ∙ e) ∙ sym (absent-step left (levels - left) n (a .here .some-left)) ∙ a .same
-
-      pub descends-end : x ≡ End → true ≡ absentBelow g m left₀ (levels - left₀) n₀ f
-      descends-end z = by-step z
-
-      module _ {c : ℕ} (z : x ≡ Down c) where
-        pub child-here : Formed g m (left - 1) c
-        child-here = subst (FormedBy (left - 1)) (sym e ∙ z) (formed-step (a .here) f)
-
-        module _ {p : ℕ} (q : p ≡ foundAt editionOne g m f c) where
-          pub descends-found : p < 64 → false ≡ absentBelow g m left₀ (levels - left₀) n₀ f
-          descends-found l = rw (← q, lt-leb 64 p l) at (by-step z)
-
-          pub descends-on : 64 ≤ p → Descends left₀ n₀ (left - 1) c
-          descends-on l =
-              let d : suc (levels - left) ≡ levels - (left - 1) = omega (arith, a .here .some-left, a .here .all-left) in
-              record { here = child-here; same = rw (← q, le-leb 64 p l, d) at (by-step z) }
+    pub told-below : {left n : ℕ} {x y : Step} → Formed g m left n → x ≡ stepFrom g m (levels - left) n f → x ≡ y → Tells left n y
+    told-below {left} {n} a e z = subst (Tells left n) (sym e ∙ z) (step-tells left a)
 
   -- ---- the frame of a place
 
@@ -113,14 +135,21 @@ module _ (g : Geometry) (m : Memory) where
     unfolding settledAt
     off-path o = rw (← is, ne-eqb (f % 2 ^ bitsTo d) x (rw masked at o)) refl
 
-    module _ (on : bitAnd f (unit - 1) ≡ x) {q : ℕ} (at : q ≡ foundAt editionOne g m f n) where
-      pub not-lowest : (q ≡ p → ⊥) → false ≡ settledAt g m left d n x p
+    module _ (on : bitAnd f (unit - 1) ≡ x) {stored print : ℕ} (own : stored ≡ storedFingerprint g m n p) (right : print ≡ fingerprint editionOne f) where
+      pub wrong-print : (stored ≡ print → ⊥) → false ≡ settledAt g m left d n x p
       unfolding settledAt
-      not-lowest o = rw (← is, eq-eqb (f % 2 ^ bitsTo d) x (sym masked ∙ on), ← at, ne-eqb q p o) refl
+      wrong-print o = rw (← is, eq-eqb (f % 2 ^ bitsTo d) x (sym masked ∙ on), ← own, ← right, ne-eqb stored print o) refl
 
-      pub lowest : {r : Bool} → q ≡ p → r ≡ absentBelow g m left d n f → r ≡ settledAt g m left d n x p
-      unfolding settledAt
-      lowest o a = a ∙ rw (← is, eq-eqb (f % 2 ^ bitsTo d) x (sym masked ∙ on), ← at, eq-eqb q p o) refl
+      module _ (same : stored ≡ print) where
+        pub held-before : {q : ℕ} → q ≡ first (holdsAt g m n f) p → (q ≡ p → ⊥) → false ≡ settledAt g m left d n x p
+        unfolding settledAt
+        held-before {q} at o =
+            rw (← is, eq-eqb (f % 2 ^ bitsTo d) x (sym masked ∙ on), ← own, ← right, eq-eqb stored print same, ← at, ne-eqb q p o) refl
+
+        pub first-here : {r : Bool} → first (holdsAt g m n f) p ≡ p → r ≡ absentBelow g m left d n f → r ≡ settledAt g m left d n x p
+        unfolding settledAt
+        first-here o a =
+            a ∙ rw (← is, eq-eqb (f % 2 ^ bitsTo d) x (sym masked ∙ on), ← own, ← right, eq-eqb stored print same, eq-eqb (first (holdsAt g m n f) p) p o) refl
 
 -- ---- a test at each set bit of a word, the lowest first
 

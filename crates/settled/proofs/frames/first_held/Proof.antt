@@ -1,0 +1,36 @@
+use Prim.Native.Nat.{_-_, _≤_}
+use native.Mathlib.Omega.{arith}
+use borrow.Author.Count.{below-none, below-more}
+use borrow.Author.Needs.{needs}
+use Rattle.memory.specs.Words.{reads as readsWords}
+use Rattle.memory.specs.Laws.{NoneBelow}
+use Rattle.memory.proofs.Laws.{first-laws}
+use Rattle.settled.specs.Settled.{holdsAt}
+use Rattle.settled.proofs.Held.{hold-test}
+use Rattle.settled.proofs.frames.first_held.Statement.{statement}
+use Rattle.settled.proofs.frames.first_held.Tie as tie
+
+abbrev Inv-loop : tie.InvT-loop
+Inv-loop image g n frame bound set q₀ q = (q ≤ bound) × NoneBelow (holdsAt g (readsWords image) n frame) q
+
+abbrev μ-loop : tie.MeasureT-loop
+μ-loop image g n frame bound set q₀ q = bound - q
+
+pub first-held-spec : {M : Type 1} → statement M
+first-held-spec =
+    tie.close
+    (tie.spec
+    Inv-loop
+    μ-loop
+    (λ c κs. search needs)
+    (λ c. (search needs, below-none _))
+    (λ c. search needs)
+    (λ c κs. search needs)
+    (λ c κs. search needs)
+    (λ c. let l = c .before .before .before .before in
+    first-laws _ _ .stops _ (search needs) (l .loop .inv .1) (λ _. hold-test _ _ _ _ _ (l .before .word-of .ensures) (c .before .before .is-set .ensures) (c .before .frame-of .ensures) (c .if1 .taken)))
+    (λ c. search needs)
+    (λ c. search needs)
+    (λ c. let l = c .before .before .before .before in
+    (search needs, below-more _ _ (l .loop .inv .1) (hold-test _ _ _ _ _ (l .before .word-of .ensures) (c .before .before .is-set .ensures) (c .before .frame-of .ensures) (c .if1 .left))))
+    (λ c. first-laws _ _ .stops _ (search needs) (λ k l. c .before .loop .inv .1 k (omega arith)) (λ l. absurd (omega arith))))

@@ -1,6 +1,6 @@
 #!/bin/sh
-# Tries the bench program: Case A, input in pieces, and writes and reads that fail. At the first of these it has to end, with one line
-# on standard error and exit status 0. Beside each check stands the fault that it finds. tests/bookrun.sh BOOKRUN
+# Tries the bench program: Case A, input in pieces, and writes and reads that fail. At the first of these it has to end, with one
+# line on standard error and exit status 0. Above the checks of a part stand the faults that they find. tests/bookrun.sh BOOKRUN
 set -u
 export LC_ALL=C
 here=$(cd "$(dirname "$0")" && pwd)
@@ -75,8 +75,8 @@ try_pieces() {
     done
 }
 
-# An error for each line; another piece read behind the error; a kind of line, or the last one, that does not tell that its answer is
-# not written; bytes of a line run behind the error.
+# An error for each line; another piece read behind the error; a kind of line, or the last one, that does not tell that its answer
+# is not written; bytes of a line run behind the error.
 try_full() {
     if [ ! -w /dev/full ]; then
         echo 'skipped: a full disk, because /dev/full is missing'
@@ -107,8 +107,8 @@ try_full() {
     expect 'a full disk: the last line, without a newline' /dev/null "$full"
 }
 
-# A file that may have 1024 bytes, which end in a list's second frame, its first, its answer, then in a commit's and a fill's answer.
-# Frames printed behind one, or behind an answer, that is not written; lines run behind such a list.
+# Frames printed behind one, or behind an answer, that is not written; lines run behind such a list. The file may have 1024 bytes:
+# they end in the list's second frame, in its first, in its answer, then in a commit's and a fill's answer.
 try_limit() {
     for count in 0 1 2 3 4; do
         session "$count" >input
@@ -128,7 +128,9 @@ try_streams() {
     status=$?
     expect 'standard output closed' /dev/null 'standard output: Bad file descriptor'
     mkfifo pipe
-    exec 3<>pipe 4>pipe 3<&-
+    exec 3<>pipe # a reader, without whom the next line would wait
+    exec 4>pipe
+    exec 3<&-
     (trap '' PIPE && exec "$bookrun" <input >&4 2>err)
     status=$?
     expect 'a pipe that nobody reads' /dev/null 'standard output: Broken pipe'
@@ -136,7 +138,7 @@ try_streams() {
     status="$? $(cat err)"
     exec 4>&-
     checks=$((checks + 1))
-    [ "$status" = '141 ' ] || [ "$status" = '0 standard output: Broken pipe' ] || fail "a pipe that nobody reads: exit status $status"
+    [ "$status" = '141 ' ] || [ "$status" = '0 standard output: Broken pipe' ] || fail "a pipe that nobody reads: $status"
 }
 
 # More than an error, or an answer to no line; a line run though its end was not read.

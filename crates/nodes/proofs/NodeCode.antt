@@ -76,7 +76,8 @@ module _ (nodes d next : ℕ) where
   no-children z = simp (eq-eqb next 0 z)
 
   pub children-past : (next ≡ 0 → ⊥) → nodes ≤ next - 1 → false ≡ holds childrenInside
-  children-past z l = sym (not-false (λ h. elim (says childrenInside h) [ inl q ↦ z q | inr t ↦ omega (arith, child-lt d 0 (t .0)) ]))
+  children-past z l =
+      sym (not-false (λ h. elim (says childrenInside h) [ inl q ↦ z q | inr t ↦ omega (arith, child-lt d 0 (t .0)) ]))
 
   pub children-within : {r : ℕ} → (next ≡ 0 → ⊥) → next - 1 < nodes → r ≡ fanout d
       → ltb d 31 && leb r (nodes - (next - 1)) ≡ holds childrenInside
@@ -103,8 +104,14 @@ module _ (g : Geometry) (m : Memory) (d n : ℕ) where
       pub formed-small : {locate set : ℕ} → (size ≡ 64 → ⊥) → locate ≡ m (locateAt g n) → set ≡ m (setAt g n)
           → r ≡ holds (smallRoot size d locate set next) → r ≡ wellFormed g m d n
       unfolding wellFormed formed sizeAllowed
-      formed-small q i t s = rw (lt-ltb n (g .nodes) h, ← l, ← z, ← k, ← i, ← t, eq-eqb level d e, ne-eqb size 64 q, or-false, and-assoc) s
+      formed-small q i t s =
+          rw (lt-ltb n (g .nodes) h, ← l, ← z, ← k, ← i, ← t, eq-eqb level d e, ne-eqb size 64 q, or-false, and-assoc) s
 
-      pub formed-full : size ≡ 64 → ((i : ℕ) → m i < 2 ^ 64) → r ≡ holds (childrenInside (g .nodes) d next) → r ≡ wellFormed g m d n
+      -- at size 64 every word is within
+      pub formed-full : size ≡ 64 → ((i : ℕ) → m i < 2 ^ 64) → r ≡ holds (childrenInside (g .nodes) d next)
+          → r ≡ wellFormed g m d n
       unfolding wellFormed formed sizeAllowed
-      formed-full q f s = rw (lt-ltb n (g .nodes) h, ← l, ← z, ← k, eq-eqb level d e, q, lt-ltb _ (2 ^ 64) (f (locateAt g n)), lt-ltb _ (2 ^ 64) (f (setAt g n))) s
+      formed-full q f s =
+          let locates = lt-ltb (m (locateAt g n)) (2 ^ 64) (f _) in
+          let sets = lt-ltb (m (setAt g n)) (2 ^ 64) (f _) in
+          rw (lt-ltb n (g .nodes) h, ← l, ← z, ← k, eq-eqb level d e, q, locates, sets) s

@@ -1,4 +1,4 @@
-// Fill, Commit and Abandon: what becomes of the place that a head has claimed.
+// Fill, Commit and Abandon: what becomes of the place that a head has claimed. Each gets that head's state alone.
 ghost use mathlib.Core.Path.{_≡_};
 ghost use mathlib.Core.List.{List, [], _∷_};
 ghost use Prim.Native.Nat.{ℕ, _≤_, _<_};

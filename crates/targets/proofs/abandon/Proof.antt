@@ -38,7 +38,8 @@ returns-3 : tie.Need-returns-3
 returns-3 c pool ws e =
     let numbered = c .before .before in
     let l = numbered .if1 .left in
-    state-bad (on-abandon (state _ pool ws) _ _ _ (given-state ws _ e l ∙ c .enum-told .given .1)) (fine (numbered .before)) l refl
+    state-bad (on-abandon (state _ pool ws) _ _ _ (given-state ws _ e l ∙ c .enum-told .given .1)) (fine (numbered .before)) l
+    refl
 
 -- claimed or filled, the head is not idle, and the target is its own
 aimed : (c : tie.At-match2-came)

@@ -35,22 +35,24 @@ returns-3 : tie.Need-returns-3
 returns-3 c pool ws e =
     let a = c .before .before .before .before .before .before .before .before .args in
     let l = c .before .if1 .left in
-    state-bad (on-commit (state _ pool ws) _ _ _ (given-state ws _ e l)) (fine (c .before .before)) l (not-filled (a .state) (c .match2 .keys2))
+    state-bad (on-commit (state _ pool ws) _ _ _ (given-state ws _ e l)) (fine (c .before .before)) l
+    (not-filled (a .state) (c .match2 .keys2))
 
 returns-4 : tie.Need-returns-4
 returns-4 c pool ws e =
     let taken = c .before .before .before in
     let numbered = taken .before .before in
     let l = numbered .if1 .left in
-    target-bad (on-commit (state _ pool ws) _ _ _ (given-state ws _ e l ∙ taken .state .given .1)) (fine (numbered .before)) l refl
-    (sym (c .before .is-outside .ensures) ∙ c .if2 .taken)
+    target-bad (on-commit (state _ pool ws) _ _ _ (given-state ws _ e l ∙ taken .state .given .1)) (fine (numbered .before)) l
+    refl (sym (c .before .is-outside .ensures) ∙ c .if2 .taken)
 
 put-commit-requires : tie.Need-put-commit-requires
 put-commit-requires c κs =
     let taken = c .before .before .before .before in
     let checked = taken .before .before .before in
     let p = fine checked in
-    let d = denies (outside (checked .before .g .given .0 .0) (taken .state .given .0 .0)) (sym (c .before .before .is-outside .ensures) ∙ c .before .if2 .left) in
+    let within = sym (c .before .before .is-outside .ensures) ∙ c .before .if2 .left in
+    let d = denies (outside (checked .before .g .given .0 .0) (taken .state .given .0 .0)) within in
     (p .sized, d .0, d .1, omega arith)
 
 returns-5 : tie.Need-returns-5

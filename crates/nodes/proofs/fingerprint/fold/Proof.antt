@@ -26,8 +26,9 @@ inside c =
 loop-again : tie.Need-loop-again Inv-loop μ-loop
 loop-again c =
     let l = c .before .before .before in
+    let h = l .loop .inv .1 in
     let b = c .before .byte-of .ensures in
-    (search needs, folded-step _ _ (l .loop .inv .1) b (rw (l .before .before .pre) (table-at _ (entry-inside _ _ (l .loop .inv .1) b))))
+    (search needs, folded-step _ _ h b (rw (l .before .before .pre) (table-at _ (entry-inside _ _ h b))))
 
 fits : tie.Need-cast-h Inv-loop μ-loop
 fits c = let l = folded-small _ _ (loop-again c .1) in search needs

@@ -7,7 +7,9 @@ returns : tie.Need-returns
 returns c = let a = c .before .args in no-children (a .nodes) (a .depth) (a .next) (c .if1 .taken)
 
 returns-2 : tie.Need-returns-2
-returns-2 c = let a = c .before .before .args in children-past (a .nodes) (a .depth) (a .next) (c .before .if1 .left) (c .if2 .taken)
+returns-2 c =
+    let a = c .before .before .args in
+    children-past (a .nodes) (a .depth) (a .next) (c .before .if1 .left) (c .if2 .taken)
 
 returns-3 : tie.Need-returns-3
 returns-3 c =

@@ -14,5 +14,7 @@ small-root-spec =
     (λ c. small-size _ (c .if2 .taken))
     (λ c.
     let a = c .before .before .args in
-    rw (eq-eqb (a .depth) 0 (c .before .if1 .left), c .if2 .taken, shifted-out (a .locate) (a .size), shifted-out (a .set) (a .size), and-assoc) refl)
+    let locates = shifted-out (a .locate) (a .size) in
+    let sets = shifted-out (a .set) (a .size) in
+    rw (eq-eqb (a .depth) 0 (c .before .if1 .left), c .if2 .taken, locates, sets, and-assoc) refl)
     (λ c. rw (eq-eqb (c .before .before .args .depth) 0 (c .before .if1 .left), c .if2 .left) refl))

@@ -25,9 +25,9 @@ well-formed-spec =
     let size = small .before .before in
     let level = size .before .before in
     let a = level .before .before .before .args in
-    formed-small (a .g) (readsWords (a .image .now)) _ _ (level .before .if1 .left) (level .word-of .ensures) (size .before .if2 .left)
-    (size .word-of2 .ensures) (small .before .next-of .ensures) (small .if3 .taken) (set .before .word-of3 .ensures)
-    (set .word-of4 .ensures) (c .small-root .ensures))
+    formed-small (a .g) (readsWords (a .image .now)) _ _ (level .before .if1 .left) (level .word-of .ensures)
+    (size .before .if2 .left) (size .word-of2 .ensures) (small .before .next-of .ensures) (small .if3 .taken)
+    (set .before .word-of3 .ensures) (set .word-of4 .ensures) (c .small-root .ensures))
     (λ c κs. search needs)
     (λ c.
     let full = c .before in
@@ -35,6 +35,6 @@ well-formed-spec =
     let level = size .before .before in
     let known = level .before .before in
     let a = known .before .args in
-    formed-full (a .g) (readsWords (a .image .now)) _ _ (level .before .if1 .left) (level .word-of .ensures) (size .before .if2 .left)
-    (size .word-of2 .ensures) (full .before .next-of .ensures) (full .if3 .left) (λ i. known .shared-slice-known .given i .fits)
-    (c .children-inside .ensures)))
+    formed-full (a .g) (readsWords (a .image .now)) _ _ (level .before .if1 .left) (level .word-of .ensures)
+    (size .before .if2 .left) (size .word-of2 .ensures) (full .before .next-of .ensures) (full .if3 .left)
+    (λ i. known .shared-slice-known .given i .fits) (c .children-inside .ensures)))

@@ -136,9 +136,13 @@ fn is_as_due(image: &mut [u64], list: &[u64], command: Command) -> bool {
     let mut map = [ONES; 1];
     let mut heads = [ONES; HEAD_WORDS];
     let recovered = reelbook_recover(image, &mut map, &mut heads) == 0;
-    let idle = starts_with(&[0u64; HEAD_WORDS], &heads);
     let listed = is_listed(image, list, command.a);
-    recovered & idle & listed & ((map[0] == command.b) | (map[0] == command.c))
+    recovered & are_idle(&heads) & listed & ((map[0] == command.b) | (map[0] == command.c))
+}
+
+// Is every word of the records 0?
+fn are_idle(heads: &[u64; HEAD_WORDS]) -> bool {
+    starts_with(&[0u64; HEAD_WORDS], heads)
 }
 
 fn is_listed(image: &[u64], list: &[u64], reel: u64) -> bool {

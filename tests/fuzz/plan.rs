@@ -30,9 +30,9 @@ pub struct Plan {
     frames: Frames,
 }
 
-const OTHERS: [Function; 24] = [
-    Open, Open, Open, Open, Open, Open, Remove, Remove, Remove, Remove, Has, Has, List, List, Retire, Claim, Fill, Commit,
-    Abandon, Abandon, Abandon, Abandon, Recover, Format,
+const OTHERS: [Function; 25] = [
+    Open, Open, Open, Open, Open, Open, Remove, Remove, Remove, Remove, Has, Has, List, List, Retire, Retire, Claim, Fill,
+    Commit, Abandon, Abandon, Abandon, Abandon, Recover, Format,
 ];
 const OTHERS_DEEP: [Function; 8] = [Open, Remove, Remove, Has, List, Abandon, Claim, Recover];
 
@@ -70,11 +70,12 @@ impl Plan {
         }
     }
 
-    /// The same with a reel for each head, and all of them at work.
+    /// The same with a reel for each head and one more, and all heads at work.
     fn together(random: &mut Random) -> Plan {
         let few = Plan::few(random);
-        let slots = random.between(HEADS, HEADS + 1);
-        Plan { slots, nodes: few.nodes + slots, together: true, reels: REELS[..slots as usize + 2].to_vec(), ..few }
+        let slots = HEADS + 1;
+        let reels = REELS[..slots as usize + 2].to_vec();
+        Plan { slots, nodes: few.nodes + slots, steps: 600, crash: 24, other: 4, together: true, reels, ..few }
     }
 
     /// More frames than a root holds, few of which go.
@@ -117,7 +118,7 @@ impl Plan {
         let function = self.function(random, table, head);
         let among = match function {
             Open if self.together => Vec::new(),
-            Claim if self.together && !random.one_in(4) => table.quiet_reels(),
+            Claim | Remove | Retire if self.together && !random.one_in(4) => table.quiet_reels(),
             _ => table.reels.keys().copied().collect(),
         };
         let reel = self.reel(random, &among);

@@ -85,7 +85,7 @@ pub record Computed : Type 0 where
   pub all-idle : perform (recover 1) allClaimed .work .after .heads ≡ replicate 20 0
 
 pub computed : Computed
-unfolding allClaimed run tableAfter reply tableRefusals tableWork emptyTable isPresent framesIn isBusy isHeld framesOf starred.formatted range upTo keep perform granted refusals badImage refusal geometryOf formatStores openScript roomScript claimScript fillScript apply segmented stores first marked isSet withBit byte withByte field withField bit slotOf emptySlot filled freeRun isFreeRun mark headAt stateOf wordsOf withHead busy pathFrom path wellFormed formed sizeAllowed clearSpot clearAt firstSpot roomOn find lookup foundAt matches fingerprint editionOne folded tableEntry ruleOf children subtree tree allTrees filledSlots walkable inPlace isSound heldPlaces distinct hasKey every recoverStores flatMap
+unfolding allClaimed run tableAfter reply tableRefusals tableWork emptyTable isPresent framesIn isBusy isHeld framesOf starred.formatted range upTo keep perform granted leaves clears refusals badImage refusal geometryOf formatStores openScript roomScript claimScript fillScript apply segmented stores first marked isSet withBit byte withByte field withField bit slotOf emptySlot filled freeRun isFreeRun mark headAt stateOf wordsOf withHead busy pathFrom path wellFormed formed sizeAllowed clearSpot clearAt firstSpot roomOn find lookup foundAt matches fingerprint editionOne folded tableEntry ruleOf children subtree tree allTrees filledSlots walkable inPlace isSound heldPlaces distinct hasKey every recoverStores flatMap
 computed = record {
   table = refl;
   no-fifth = refl;

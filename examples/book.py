@@ -5,12 +5,12 @@ LD_LIBRARY_PATH=$(pkg-config --variable=libdir reelbook) python3 book.py"""
 
 import ctypes
 
-SCRIPT_WORDS, HEADS_WORDS, BARRIER = 50, 10, 2**64 - 1
+SCRIPT_WORDS, HEADS_WORDS, BARRIER = 50, 4 * 5, 2**64 - 1
 SLICE = [ctypes.POINTER(ctypes.c_uint64), ctypes.c_size_t]
 ARRAY = COUNT = [ctypes.POINTER(ctypes.c_uint64)]
 NUMBER = [ctypes.c_uint64]
 
-library = ctypes.CDLL("libreelbook.so.1")
+library = ctypes.CDLL("libreelbook.so.2")
 for name, arguments in {
     "format": 2 * SLICE + ARRAY + 2 * NUMBER,
     "recover": 2 * SLICE + ARRAY,

@@ -24,11 +24,12 @@
 #error "reelbook: x86-64 with a size_t of 64 bits and the System V calling convention (Linux) only"
 #endif
 
-/* The version of this header, and of the library beside which it is installed. */
-#define REELBOOK_VERSION_MAJOR 1
+/* The version of this header, and of the library beside which it is installed. With another major number the interface is another:
+ * a program has to be compiled anew, and the shared object has another name. */
+#define REELBOOK_VERSION_MAJOR 2
 #define REELBOOK_VERSION_MINOR 0
 #define REELBOOK_VERSION_PATCH 0
-#define REELBOOK_VERSION "1.0.0"
+#define REELBOOK_VERSION "2.0.0"
 
 #ifdef __cplusplus
 extern "C" {
@@ -79,8 +80,8 @@ enum {
 #define REELBOOK_NODE_FINGERPRINTS 8
 #define REELBOOK_NODE_FRAMES 16
 
-/* Head records: five words for each head. Any other state is read as idle; a record written idle is all 0. */
-#define REELBOOK_HEADS 2
+/* Head records: five words for each head, numbered from 0. Any other state is read as idle; a record written idle is all 0. */
+#define REELBOOK_HEADS 4
 #define REELBOOK_HEAD_WORDS 5
 #define REELBOOK_HEAD_STATE_AT 0
 #define REELBOOK_HEAD_SLOT_AT 1

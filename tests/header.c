@@ -165,7 +165,7 @@ static void check_refusals_of_heads(void) {
     equal(book_remove(&b, 7, 1), REELBOOK_BUSY, "REELBOOK_BUSY");
     equal(book_retire(&b, 7), REELBOOK_BUSY, "REELBOOK_BUSY");
     equal(book_abandon(&b, 0), REELBOOK_DONE, "abandon");
-    equal(book_abandon(&b, 2), REELBOOK_BAD_HEAD, "REELBOOK_BAD_HEAD");
+    equal(book_abandon(&b, REELBOOK_HEADS), REELBOOK_BAD_HEAD, "REELBOOK_BAD_HEAD");
     book_free(&b);
 }
 
@@ -207,7 +207,7 @@ static void check_refusals_of_images(void) {
 
 static void check_version(void) {
     char version[64];
-    equal(REELBOOK_VERSION_MAJOR, 1, "REELBOOK_VERSION_MAJOR");
+    equal(REELBOOK_VERSION_MAJOR, 2, "REELBOOK_VERSION_MAJOR");
     equal(REELBOOK_VERSION_MINOR, 0, "REELBOOK_VERSION_MINOR");
     equal(REELBOOK_VERSION_PATCH, 0, "REELBOOK_VERSION_PATCH");
     snprintf(version, sizeof version, "%d.%d.%d", REELBOOK_VERSION_MAJOR, REELBOOK_VERSION_MINOR, REELBOOK_VERSION_PATCH);

@@ -78,7 +78,7 @@ try_shared_object() {
     same 'the soname' "$(readelf -dW "$object" | sed -n 's/.*(SONAME).*\[\(.*\)\]/\1/p')" "$soname"
     same 'libraries needed' "$(readelf -dW "$object" | sed -n 's/.*(NEEDED).*\[\(.*\)\]/\1/p')" libc.so.6
     exported=$(nm -D --defined-only "$object" | awk '$2 != "A" { print $3 }' | sort)
-    same 'functions exported' "$exported" "$(echo "$declared" | sed 's/$/@@REELBOOK_1/')"
+    same 'functions exported' "$exported" "$(echo "$declared" | sed "s/\$/@@REELBOOK_${version%%.*}/")"
     # What the dynamic linker fills in and then makes read-only is not the library's.
     same 'writable sections' "$(readelf -SW "$object" | sed 's/^ *\[ *[0-9]*\]//' |
         awk '$7 ~ /W/ && $1 !~ /^\.(dynamic|got|got\.plt)$/ && $5 !~ /^0*$/ { print $1 }')" ''

@@ -29,7 +29,7 @@ static void carry_out(struct book *b, uint64_t answer) {
 
 /* A frame comes to a reel, another goes; some of these calls are refused. */
 static void change(struct book *b, uint64_t random) {
-    uint64_t head = random >> 60 & 1, reel = random >> 57 & 7, frame = random >> 40 & 4095;
+    uint64_t head = (random >> 60) % REELBOOK_HEADS, reel = random >> 57 & 7, frame = random >> 40 & 4095;
     carry_out(b, reelbook_claim(IMAGE, MAP, b->heads, SCRIPT, head, reel, frame, &b->used));
     carry_out(b, reelbook_fill(IMAGE, b->heads, SCRIPT, head, &b->used));
     carry_out(b, reelbook_commit(IMAGE, b->heads, SCRIPT, head, &b->used));

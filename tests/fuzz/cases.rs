@@ -2,7 +2,7 @@
 use crate::model::buffer::Buffer;
 use crate::model::call::{Call, Function, Function::*, Lent};
 use crate::model::image::*;
-use crate::model::node::{FINGERPRINTS, SIZE_AT};
+use crate::model::node::{FINGERPRINTS, LOCATE, SIZE_AT};
 use crate::model::script::{self, BARRIER, SCRIPT_WORDS};
 use crate::subject::Subject;
 
@@ -36,7 +36,11 @@ impl Book {
 
     /// Answer, stores and value, as the bench program prints them; a refusal's value is the count that it handed back.
     fn call(&mut self, function: Function, reel: u64, frame: u64) -> (u64, u64, u64) {
-        let call = Call { function, slots: 0, nodes: 0, head: 0, reel, frame };
+        self.call_with(0, function, reel, frame)
+    }
+
+    fn call_with(&mut self, head: u64, function: Function, reel: u64, frame: u64) -> (u64, u64, u64) {
+        let call = Call { function, slots: 0, nodes: 0, head, reel, frame };
         let (answer, count) = self.subject.perform(&call, &mut self.lent, JUNK);
         if answer != 0 || matches!(function, Has | List) {
             return (answer, 0, count);
@@ -123,6 +127,21 @@ fn no_run(subject: Subject) -> bool {
     held && book.call(Claim, 8, 64) == (8, 0, 0) && free == 2
 }
 
+/// Heads 0 to 3 claim, each in a reel of its own, and 4 is none. Then power fails: recovered, all 20 head words are 0.
+fn four_heads(subject: Subject) -> bool {
+    let mut book = Book::formatted(subject, 6, 6);
+    let heads = [0, 1, 2, 3, 4, u64::MAX];
+    for head in heads {
+        book.call(Open, head, 0);
+    }
+    let answers: Vec<_> = heads.iter().map(|&head| book.call_with(head, Claim, head, 12).0).collect();
+    let locates = |book: &Book| (0..6).map(|node| book.node_word(node, LOCATE)).collect::<Vec<_>>();
+    let open = locates(&book) == [1, 1, 1, 1, 0, 0];
+    book.lent.heads.fill(JUNK);
+    let recovered = book.call(Recover, 0, 0).0 == 0 && book.lent.heads[..] == [0; 20];
+    answers == [0, 0, 0, 0, 11, 11] && open && recovered && locates(&book) == [0; 6]
+}
+
 fn case_a(subject: Subject) -> bool {
     let mut book = Book::formatted(subject, 4, 16);
     let calls = [(Open, 7, 0), (Claim, 7, 12), (Fill, 0, 0), (Commit, 0, 0), (List, 7, 0), (Has, 7, 13), (Retire, 8, 0)];
@@ -139,6 +158,7 @@ pub fn check(name: &str, subject: Subject) -> bool {
         ("growth in a pool of one node", growth(subject, 1)),
         ("growth in a pool of three", growth(subject, 3)),
         ("two free nodes but no run", no_run(subject)),
+        ("four heads", four_heads(subject)),
         ("case A", case_a(subject)),
     ];
     for (case, _) in results.iter().filter(|(_, right)| !right) {

@@ -1,7 +1,8 @@
 //! What the fuzzing has reached: each way in which a function can end, each answer in a history, each moment of a script for a
-//! crash.
+//! crash, a crash of each function that stores with a claim of every head open.
 use crate::model::call::{Function, Function::*};
 use crate::model::ending::*;
+use crate::model::image::HEADS;
 use crate::model::node::LAST_LEVEL;
 use std::collections::BTreeMap;
 
@@ -11,6 +12,8 @@ pub struct Coverage {
     answers: BTreeMap<(Function, u64), u64>,
     /// By function, entries of its script, and how many of these were carried out.
     crashes: BTreeMap<(Function, usize, usize), u64>,
+    /// Those with a claim of every head open, by the function that was storing.
+    all_claimed: BTreeMap<Function, u64>,
     deepest: u64,
     mixtures: u64,
     undone: u64,
@@ -75,6 +78,9 @@ fn scripts(function: Function) -> &'static [usize] {
     }
 }
 
+/// The functions that store, on power that may fail.
+const STORING: [Function; 8] = [Recover, Open, Claim, Fill, Commit, Abandon, Remove, Retire];
+
 impl Coverage {
     /// A single call.
     pub fn call(&mut self, function: Function, ending: Ending) {
@@ -91,9 +97,12 @@ impl Coverage {
         self.deepest = self.deepest.max(deepest);
     }
 
-    /// A crash after some of a script's entries.
-    pub fn crash(&mut self, function: Function, entries: usize, cut: usize) {
+    /// A crash after some of a script's entries, with so many claims open.
+    pub fn crash(&mut self, function: Function, entries: usize, cut: usize, claims: u64) {
         *self.crashes.entry((function, entries, cut)).or_default() += 1;
+        if claims == HEADS && (entries > 0 || function == Recover) {
+            *self.all_claimed.entry(function).or_default() += 1;
+        }
     }
 
     /// An image that a crash left and that was recovered; `tells` if the tables of before and after differ.
@@ -132,6 +141,7 @@ impl Coverage {
         Coverage::table(&self.answers);
         let crashes: u64 = self.crashes.values().sum();
         println!("{} crashes, {} mixtures recovered, {} recoveries cut", crashes, self.mixtures, self.cut_recoveries);
+        println!("{} crashes with {} claims open", self.all_claimed.values().sum::<u64>(), HEADS);
         println!("where before and after differ: {} mixtures before, {} after", self.undone, self.completed);
     }
 
@@ -142,7 +152,7 @@ impl Coverage {
         missed(&all, &self.endings, name)
     }
 
-    /// The same for histories: answers, and moments of scripts.
+    /// The same for histories: answers, moments of scripts, crashes with all claims open.
     pub fn histories_missed(&self) -> Vec<String> {
         let all: Vec<_> = Function::ALL.iter().flat_map(|&f| answers(f).iter().map(move |&answer| (f, answer))).collect();
         let mut lines = missed(&all, &self.answers, |key| format!("{} {} in a history", key.0.name(), key.1));
@@ -150,6 +160,8 @@ impl Coverage {
         let all: Vec<_> = Function::ALL.iter().flat_map(|&f| moments(f)).collect();
         lines
             .extend(missed(&all, &self.crashes, |key| format!("crash in {} after {} of {} entries", key.0.name(), key.2, key.1)));
+        let claimed = |f: &Function| format!("crash in {} with {} claims open", f.name(), HEADS);
+        lines.extend(missed(&STORING, &self.all_claimed, claimed));
         if self.deepest < LAST_LEVEL {
             lines.push(format!("never reached: level {} in a history", LAST_LEVEL));
         }

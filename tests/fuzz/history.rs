@@ -66,9 +66,15 @@ enum Which {
 
 impl History<'_> {
     fn step(&mut self, call: &mut Call) -> Result<(), String> {
-        let crash = self.random.one_in(if call.function == Function::Open { 3 } else { self.plan.crash });
+        let claims = self.table.claims();
+        // More often where it is seldom: in Open, and with a claim of every head in what is not a head's next.
+        let next = matches!(call.function, Function::Claim | Function::Fill | Function::Commit);
+        let seldom = call.function == Function::Open || claims == HEADS && !next;
+        let crash = self.random.one_in(if seldom { 3 } else { self.plan.crash });
         let before = if crash { Some((self.table.reels.clone(), self.lent.image.clone())) } else { None };
         let (answer, entries) = self.perform(call)?;
+        // A claim that is cut short is open too, and one that is cut short in its commit.
+        let claims = claims.max(self.table.claims());
         // An answered Format runs on steady power.
         let steady = call.function == Function::Format && answer == 0;
         let branch = call.function == Function::Claim && entries.len() > 2;
@@ -79,9 +85,9 @@ impl History<'_> {
         // A crash decided on only now is in a claim, which changes no reel and leaves the stores to its script.
         let (reels, image) = before.unwrap_or_else(|| (self.table.reels.clone(), self.lent.image.clone()));
         if call.function == Function::Recover {
-            self.crash_in_recover(&image, &reels)
+            self.crash_in_recover(&image, &reels, claims)
         } else {
-            self.crash_in_script(call.function, &entries, &reels)
+            self.crash_in_script(call.function, &entries, &reels, claims)
         }
     }
 

@@ -23,16 +23,20 @@ pub struct Plan {
     pub mixtures: u64,
     /// One step in this many is another operation than the head's next.
     other: u64,
+    /// Idle heads claim before others commit, each in a reel of its own where one is left: all have a claim open at times.
+    together: bool,
     others: &'static [Function],
     reels: Vec<u64>,
     frames: Frames,
 }
 
-const OTHERS: [Function; 24] = [
-    Open, Open, Open, Open, Open, Open, Remove, Remove, Remove, Remove, Has, Has, List, List, Retire, Claim, Fill, Commit,
-    Abandon, Abandon, Abandon, Abandon, Recover, Format,
+const OTHERS: [Function; 25] = [
+    Open, Open, Open, Open, Open, Open, Remove, Remove, Remove, Remove, Has, Has, List, List, Retire, Retire, Claim, Fill,
+    Commit, Abandon, Abandon, Abandon, Abandon, Recover, Format,
 ];
 const OTHERS_DEEP: [Function; 8] = [Open, Remove, Remove, Has, List, Abandon, Claim, Recover];
+
+const REELS: [u64; 7] = [u64::MAX, 0, 7, 8, 9, 10, 11];
 
 /// A path to level 31 needs its root, three groups of two and 28 of four.
 const DEEP_NODES: u64 = 1 + 3 * 2 + 28 * 4;
@@ -42,6 +46,7 @@ impl Plan {
         match random.below(40) {
             0 => Plan::deep(random),
             1..=15 => Plan::growing(random),
+            16..=23 => Plan::together(random),
             _ => Plan::few(random),
         }
     }
@@ -58,24 +63,35 @@ impl Plan {
             every_moment: true,
             mixtures: 256,
             other: random.pick(&[2, 6, 40]),
+            together: false,
             others: &OTHERS,
-            reels: [u64::MAX, 0, 7, 8, 9, 10, 11][..slots as usize + 2].to_vec(),
+            reels: REELS[..slots as usize + 2].to_vec(),
             frames: Frames::Few { bound: random.pick(&[4, 30, 200]), shift: random.pick(&[0, 0, 0, 1, 3, 20, 57]) },
         }
     }
 
+    /// The same with a reel for each head and one more, and all heads at work.
+    fn together(random: &mut Random) -> Plan {
+        let few = Plan::few(random);
+        let slots = HEADS + 1;
+        let reels = REELS[..slots as usize + 2].to_vec();
+        Plan { slots, nodes: few.nodes + slots, steps: 600, crash: 24, other: 4, together: true, reels, ..few }
+    }
+
     /// More frames than a root holds, few of which go.
     fn growing(random: &mut Random) -> Plan {
+        let slots = random.pick(&[1, 2, HEADS]);
         Plan {
-            slots: random.between(1, 2),
+            slots,
             nodes: random.between(1, 30),
             steps: 1200,
             crash: 100,
             every_moment: true,
             mixtures: 16,
             other: 60,
+            together: slots == HEADS,
             others: &OTHERS,
-            reels: vec![7, 8],
+            reels: (7..7 + slots.max(2)).collect(),
             frames: Frames::Few { bound: 10_000, shift: random.pick(&[0, 3]) },
         }
     }
@@ -90,6 +106,7 @@ impl Plan {
             every_moment: false,
             mixtures: 8,
             other: 30,
+            together: false,
             others: &OTHERS_DEEP,
             reels: vec![0],
             frames: Frames::Deep { target: random.word() },
@@ -97,9 +114,14 @@ impl Plan {
     }
 
     pub fn call(&self, random: &mut Random, table: &Table) -> Call {
-        let head = if random.one_in(60) { random.odd_word(&[HEADS]) } else { some_head(random, table) };
-        let reel = self.reel(random, table);
+        let head = if random.one_in(60) { random.odd_word(&[HEADS]) } else { self.head(random, table) };
         let function = self.function(random, table, head);
+        let among = match function {
+            Open if self.together => Vec::new(),
+            Claim | Remove | Retire if self.together && !random.one_in(4) => table.quiet_reels(),
+            _ => table.reels.keys().copied().collect(),
+        };
+        let reel = self.reel(random, &among);
         let frame = self.frame(random, table, reel);
         let held = table.reels.get(&reel).and_then(|frames| frames.range(frame..).next());
         let frame = match held {
@@ -109,18 +131,27 @@ impl Plan {
         Call { function, slots: table.slots, nodes: table.nodes, head, reel, frame }
     }
 
-    /// Mostly an open reel, the lower ones more often, so that they grow.
-    fn reel(&self, random: &mut Random, table: &Table) -> u64 {
-        let count = table.reels.len() as u64;
+    /// A head that is under way, mostly; or an idle one.
+    fn head(&self, random: &mut Random, table: &Table) -> u64 {
+        let wanted = table.heads.iter().position(|&head| (head == Head::Idle) == self.together);
+        match wanted {
+            Some(head) if !random.one_in(4) => head as u64,
+            _ => random.below(HEADS),
+        }
+    }
+
+    /// Mostly one of these, the lower ones more often, so that they grow.
+    fn reel(&self, random: &mut Random, among: &[u64]) -> u64 {
+        let count = among.len() as u64;
         if count == 0 || random.one_in(6) {
             return random.pick(&self.reels);
         }
-        let nth = random.below(count).min(random.below(count));
-        table.reels.keys().nth(nth as usize).copied().unwrap_or(0)
+        among[random.below(count).min(random.below(count)) as usize]
     }
 
     fn function(&self, random: &mut Random, table: &Table, head: u64) -> Function {
-        if table.reels.is_empty() {
+        let few_reels = self.together && (table.reels.len() as u64) < table.slots;
+        if table.reels.is_empty() || few_reels && random.one_in(8) {
             return Open;
         }
         if random.one_in(self.other) {
@@ -145,14 +176,5 @@ impl Plan {
                 target & ((1 << bits) - 1) | random.word() << bits
             }
         }
-    }
-}
-
-/// A head that is under way, mostly.
-fn some_head(random: &mut Random, table: &Table) -> u64 {
-    let under_way = table.heads.iter().position(|&head| head != Head::Idle);
-    match under_way {
-        Some(head) if !random.one_in(4) => head as u64,
-        _ => random.below(HEADS),
     }
 }

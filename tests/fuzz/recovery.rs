@@ -92,8 +92,8 @@ fn check_locate(lent: &Lent, nodes: &BTreeSet<u64>) -> Result<(), String> {
 }
 
 impl History<'_> {
-    /// In a script: at every moment of it, or at one.
-    pub fn crash_in_script(&mut self, function: Function, entries: &[Entry], before: &Reels) -> Result<(), String> {
+    /// In a script, with so many claims open: at every moment of it, or at one.
+    pub fn crash_in_script(&mut self, function: Function, entries: &[Entry], before: &Reels, claims: u64) -> Result<(), String> {
         let image = self.lent.image.clone();
         let before = Contents { reels: before.clone(), nodes: contents(&image)?.nodes };
         let mut carried = image.clone();
@@ -104,7 +104,7 @@ impl History<'_> {
         for moment in first..first + if self.plan.every_moment { moments } else { 1 } {
             let (done, left) = entries.split_at((moment % moments) as usize);
             let passed = !left.contains(&BARRIER);
-            self.coverage.crash(function, entries.len(), done.len());
+            self.coverage.crash(function, entries.len(), done.len(), claims);
             self.crash(&Crash::after(&image, done), &before, &after, passed)
                 .map_err(|text| format!("crash after {} of {} entries: {}", done.len(), entries.len(), text))?;
         }
@@ -112,8 +112,8 @@ impl History<'_> {
     }
 
     /// In a Recover that the history has, or between it and the driver's barrier.
-    pub fn crash_in_recover(&mut self, image: &Buffer, reels: &Reels) -> Result<(), String> {
-        self.coverage.crash(Function::Recover, 0, 0);
+    pub fn crash_in_recover(&mut self, image: &Buffer, reels: &Reels, claims: u64) -> Result<(), String> {
+        self.coverage.crash(Function::Recover, 0, 0, claims);
         let both = Contents { reels: reels.clone(), nodes: contents(image)?.nodes };
         self.crash(&Crash::in_recover(image, &self.lent.image), &both, &both, false)
     }

@@ -25,7 +25,7 @@ pub fn claim(call: &Call, lent: &mut Lent, fault: Fault) -> Ended {
     if fault == Fault::ReelBeforeState {
         check(image.slot_of(call.reel).is_some() || call.head >= HEADS, NO_REEL)?;
     }
-    check_head(&lent.heads, call.head, &[State::Idle])?;
+    check_head(&lent.heads, call.head, &[State::Idle], fault)?;
     let slot = image.slot_of(call.reel).ok_or(NO_REEL)?;
     check_busy(&lent.heads, slot, fault)?;
     let path = image.path(image.root(slot), call.frame)?;

@@ -34,11 +34,14 @@ pub enum Fault {
     HeldFromFill,
     ChildrenLeft,
     NoLastBarrier,
+    LastHeadRefused,
+    LastRecordLeft,
+    ThreeMended,
 }
 
 impl Fault {
     /// Found by single calls: one buffer or answer differs from the sound model's.
-    pub const OF_CALLS: [(Fault, &'static str); 23] = [
+    pub const OF_CALLS: [(Fault, &'static str); 24] = [
         (Fault::NoSlots, "an image without slots is taken"),
         (Fault::EmptySlotRead, "an empty slot's reel number counts as open"),
         (Fault::HighestSlot, "a reel is the highest filled slot with its number"),
@@ -62,10 +65,11 @@ impl Fault {
         (Fault::FrameInTwoReels, "recover refuses a frame that two reels hold"),
         (Fault::BarrierWithValue, "apply takes a barrier with a value"),
         (Fault::AppliedInPart, "apply stores before it has tested every entry"),
+        (Fault::LastHeadRefused, "11 comes from head 3 on"),
     ];
 
     /// Found by histories with crashes, held against the plain table alone.
-    pub const OF_HISTORIES: [(Fault, &'static str); 8] = [
+    pub const OF_HISTORIES: [(Fault, &'static str); 10] = [
         (Fault::LocateTrusted, "recover takes locate for the truth"),
         (Fault::RootUnordered, "open stores the root before the barrier"),
         (Fault::ReelUnordered, "open stores the reel number after the barrier"),
@@ -74,5 +78,7 @@ impl Fault {
         (Fault::HeldFromFill, "fill sets the set bit"),
         (Fault::ChildrenLeft, "retire frees the root but not its children"),
         (Fault::NoLastBarrier, "commit without its barrier"),
+        (Fault::LastRecordLeft, "format and recover leave the last head's record"),
+        (Fault::ThreeMended, "recover mends three locate words and no more"),
     ];
 }

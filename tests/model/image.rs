@@ -7,7 +7,7 @@ pub const MAX_NODES: u64 = 65536;
 pub const HEADER_WORDS: u64 = 64;
 pub const SLOT_WORDS: u64 = 2;
 pub const NODE_WORDS: u64 = 80;
-pub const HEADS: u64 = 2;
+pub const HEADS: u64 = 4;
 pub const HEAD_WORDS: usize = 5;
 
 pub fn image_words(slots: u64, nodes: u64) -> u64 {

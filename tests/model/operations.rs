@@ -75,8 +75,9 @@ pub fn check_busy(heads: &[u64], slot: u64, fault: Fault) -> Result<(), Ending> 
 }
 
 /// Refusals 11 and 12: the head's record, if its state is one of these.
-pub fn check_head(heads: &[u64], head: u64, states: &[State]) -> Result<Head, Ending> {
-    check(head < HEADS, HEAD_NUMBER)?;
+pub fn check_head(heads: &[u64], head: u64, states: &[State], fault: Fault) -> Result<Head, Ending> {
+    let count = if fault == Fault::LastHeadRefused { HEADS - 1 } else { HEADS };
+    check(head < count, HEAD_NUMBER)?;
     let record = Head::read(heads, head);
     let refusal = match record.state {
         State::Idle => HEAD_IDLE,
@@ -85,6 +86,12 @@ pub fn check_head(heads: &[u64], head: u64, states: &[State]) -> Result<Head, En
     };
     check(states.contains(&record.state), refusal)?;
     Ok(record)
+}
+
+/// Every record idle.
+fn clear_heads(heads: &mut [u64], fault: Fault) {
+    let count = if fault == Fault::LastRecordLeft { HEADS - 1 } else { HEADS };
+    (0..count).for_each(|head| write_head(heads, head, [0; HEAD_WORDS]));
 }
 
 fn format(call: &Call, lent: &mut Lent, fault: Fault) -> Ended {
@@ -96,7 +103,7 @@ fn format(call: &Call, lent: &mut Lent, fault: Fault) -> Ended {
         lent.image[slot_index(slot) as usize + 1] = 0;
     }
     lent.map.fill(0);
-    lent.heads.fill(0);
+    clear_heads(&mut lent.heads, fault);
     Ok((DONE, 0))
 }
 
@@ -117,8 +124,11 @@ fn recover(lent: &mut Lent, fault: Fault) -> Ended {
             stores.push((node.at(to), node.word(from)));
         }
     }
+    if fault == Fault::ThreeMended {
+        stores.truncate(3);
+    }
     script::carry_out(&mut lent.image, &stores);
-    lent.heads.fill(0);
+    clear_heads(&mut lent.heads, fault);
     Ok((if stores.is_empty() { LOCATE_EQUAL } else { LOCATE_SET }, 0))
 }
 
@@ -150,7 +160,7 @@ fn open(call: &Call, lent: &mut Lent, fault: Fault) -> Ended {
 fn claimed<'a>(call: &Call, lent: &'a Lent, states: &[State], fault: Fault) -> Result<(Head, Node<'a>), Ending> {
     let image = check_image(&lent.image, fault)?;
     check_script(&lent.script)?;
-    let head = check_head(&lent.heads, call.head, states)?;
+    let head = check_head(&lent.heads, call.head, states, fault)?;
     check(head.node < image.nodes, HEAD_NODE)?;
     check(head.place < PLACES, HEAD_PLACE)?;
     Ok((head, Node::of(image, head.node)))

@@ -66,6 +66,23 @@ impl Table {
         Table { slots, nodes, reels: Reels::new(), heads: [Head::Idle; HEADS as usize] }
     }
 
+    /// How many heads have a claim open.
+    pub fn claims(&self) -> u64 {
+        self.heads.iter().filter(|&&head| head != Head::Idle).count() as u64
+    }
+
+    /// The reels that no head is about.
+    pub fn quiet_reels(&self) -> Vec<u64> {
+        self.reels.keys().copied().filter(|&reel| !self.busy(reel)).collect()
+    }
+
+    fn busy(&self, reel: u64) -> bool {
+        self.heads.iter().any(|head| match *head {
+            Head::Idle => false,
+            Head::Claimed { reel: about, .. } | Head::Filled { reel: about, .. } => about == reel,
+        })
+    }
+
     /// The value, or the refusal's number. `book` is the book's answer.
     pub fn perform(&mut self, call: &Call, lengths: &Lengths, book: u64) -> Reply {
         if call.function == Function::Format {
@@ -114,10 +131,7 @@ impl Table {
 
     /// Refusals 5 and 13.
     fn quiet(&mut self, reel: u64) -> Result<&mut BTreeSet<u64>, u64> {
-        let busy = self.heads.iter().any(|head| match *head {
-            Head::Idle => false,
-            Head::Claimed { reel: about, .. } | Head::Filled { reel: about, .. } => about == reel,
-        });
+        let busy = self.busy(reel);
         let frames = self.frames(reel)?;
         refuse(busy, 13)?;
         Ok(frames)

@@ -1,11 +1,9 @@
 -- Books computed from a format on, and that histories come to them.
-use mathlib.Core.Path.{_≡_, refl, sym, _∙_}
-use mathlib.Core.Logic.{inl, inr}
+use mathlib.Core.Path.{_≡_, refl, _∙_, subst}
 use mathlib.Core.List.{List, [], _∷_, flatMap}
 use Prim.Native.Nat.{ℕ, zero, suc, _+_, _*_, _^_, _<_}
 use native.Mathlib.Omega.{arith}
 use lib.ListN.{replicate}
-use lib.Dec.{eqb}
 use Rattle.tree.specs.MemoryComputed.{field, withField, bit, isSet, withBit, byte, withByte, marked, first, stores, segmented, apply}
 use Rattle.tree.specs.Memory.{Fit}
 use Rattle.tree.specs.Layout.{badImage, geometryOf}
@@ -17,21 +15,19 @@ use Rattle.tree.specs.Lookup.{firstSpot, path, pathFrom, clearAt, clearSpot, ma
 use Rattle.tree.specs.Pool.{mark}
 use Rattle.tree.specs.Subtree.{children, subtree, tree, allTrees, heldPlaces}
 use Rattle.tree.specs.Check.{walkable, inPlace, isSound}
-use Rattle.tree.proofs.Cases.{test}
 use Rattle.book.specs.Heads.{stateOf, headAt, wordsOf, withHead, busy}
 use Rattle.book.specs.Refusals.{refusal}
 use Rattle.tree.specs.Room.{roomOn}
-use Rattle.book.specs.State.{State, Operation, format, recover, openReel, claim, fill, commit, query, has, arguments}
+use Rattle.book.specs.State.{State, Operation, format, recover, claim, commit, query, has, arguments}
 use Rattle.book.specs.Checks.{refusals}
 use Rattle.tree.specs.Recovery.{recoverStores}
 use Rattle.book.specs.Perform.{formatStores, openScript, roomScript, claimScript, fillScript, granted, leaves, clears, perform}
-use Rattle.book.specs.Table.{Table, Fed, nothing, fed, isPresent, framesOf, isHeld, tableRefusals, tableWork, reply, emptyTable, allIdle}
+use Rattle.book.specs.Table.{Table, Fed, nothing, fed, framesIn, isPresent, framesOf, isHeld, isBusy, tableRefusals, changeFrames, joined, tableWork, reply, emptyTable, allIdle}
 use Rattle.book.specs.Agrees.{Agrees}
 use Rattle.book.specs.Histories.{done, replied, Follows, formatted, started, performed}
 use Rattle.book.specs.Starred as starred
 use Rattle.book.specs.Starred.{run}
-use Rattle.book.specs.Demands.{Demand3}
-use Rattle.book.specs.Witnesses.{sample, claimedTwice, locateWords, TwoToChange, OtherGeometry}
+use Rattle.book.specs.Witnesses.{claimsOfAll, allClaimed, fourOpen, locateWords, OtherGeometry}
 use Rattle.book.proofs.Entries.{Each}
 use Rattle.book.proofs.Alike.{alike}
 
@@ -54,88 +50,83 @@ zeros-fit (suc n) (suc i) = zeros-fit n i
 
 -- an image of zeros, just before a format
 abbrev zeros : (slots nodes : ℕ) → State
-zeros slots nodes = record { image = replicate (64 + 2 * slots + 80 * nodes) 0; pool = []; heads = replicate 10 0 }
+zeros slots nodes = record { image = replicate (64 + 2 * slots + 80 * nodes) 0; pool = []; heads = [] }
 
 format-follows : (slots nodes : ℕ) → perform (format 1 slots nodes) (zeros slots nodes) .answer ≡ 0
     → Follows (starred.formatted slots nodes) (emptyTable slots nodes)
 unfolding starred.formatted
 format-follows slots nodes h = started (formatted 1 slots nodes (zeros slots nodes) (zeros-fit (64 + 2 * slots + 80 * nodes)) h)
 
+-- the table that operations come to, one after the other
+unfoldable pub tableAfter : List Operation → State → Table → Table
+tableAfter [] s t = t
+tableAfter (op ∷ ops) s t = tableAfter ops (done op s) (replied op s t .work .after)
+
 run-follows : (ops : List Operation) → Each (λ op. Words (arguments op)) ops → {s : State} {t : Table} → Follows s t
-    → (t' : Table) × Follows (run ops s) t'
-unfolding run
-run-follows [] w {t = t} f = (t, f)
+    → Follows (run ops s) (tableAfter ops s t)
+unfolding run tableAfter
+run-follows [] w f = f
 run-follows (op ∷ ops) w f = run-follows ops (w .1) (performed f op (words-fit (arguments op) (w .0)))
 
 -- ---- the computed answers
 
-format-answers : (perform (format 1 1 1) (zeros 1 1) .answer ≡ 0) × (perform (format 1 41 1) (zeros 41 1) .answer ≡ 0)
-    × (perform (format 1 2 2) (zeros 2 2) .answer ≡ 0)
+format-answers : (perform (format 1 41 1) (zeros 41 1) .answer ≡ 0) × (perform (format 1 4 4) (zeros 4 4) .answer ≡ 0)
 unfolding perform refusals badImage refusal
-format-answers = (refl, refl, refl)
-
-pub sampled : (t : Table) × Follows sample t
-unfolding sample
-sampled = run-follows (openReel 1 50 7 ∷ claim 1 50 0 7 12 ∷ fill 50 0 ∷ []) (omega arith) (format-follows 1 1 (format-answers .0))
-
-pub twice-follows : (t : Table) × Follows claimedTwice t
-unfolding claimedTwice
-twice-follows =
-    run-follows (openReel 1 50 7 ∷ openReel 1 50 8 ∷ claim 1 50 0 7 12 ∷ claim 1 50 1 8 12 ∷ []) (omega arith) (format-follows 2 2 (format-answers .2))
+format-answers = (refl, refl)
 
 pub record Computed : Type 0 where
-  pub answered : perform (commit 50 0) sample .answer ≡ 0
-  -- Has of frame 12 of reel 7 hands back 0 before the commit, 1 after it
-  pub absent : perform (query (has 7 12)) sample .work .handed .value ≡ 0
-  pub present : perform (query (has 7 12)) (done (commit 50 0) sample) .work .handed .value ≡ 1
-  -- a recovery makes both locate words new, so one that is cut may leave either of them old
-  pub recovered : perform (recover 1) claimedTwice .answer ≡ 0
-  pub both-old : locateWords claimedTwice ≡ 1 ∷ 1 ∷ []
-  pub both-new : locateWords (perform (recover 1) claimedTwice .work .after) ≡ 0 ∷ 0 ∷ []
+  pub table : tableAfter claimsOfAll (starred.formatted 4 4) (emptyTable 4 4) ≡ fourOpen
+  pub no-fifth : perform (claim 1 50 4 7 12) allClaimed .answer ≡ 11
+  pub answered : perform (commit 50 3) allClaimed .answer ≡ 0
+  -- a recovery makes every locate word new, so one that is cut may leave any of them old
+  pub recovers : perform (recover 1) allClaimed .answer ≡ 0
+  pub all-old : locateWords allClaimed ≡ 1 ∷ 1 ∷ 1 ∷ 1 ∷ []
+  pub all-new : locateWords (perform (recover 1) allClaimed .work .after) ≡ 0 ∷ 0 ∷ 0 ∷ 0 ∷ []
+  pub all-idle : perform (recover 1) allClaimed .work .after .heads ≡ replicate 20 0
 
 pub computed : Computed
-unfolding sample claimedTwice run starred.formatted range upTo keep perform granted refusals badImage refusal geometryOf formatStores openScript roomScript claimScript fillScript apply segmented stores first marked isSet withBit byte withByte field withField bit slotOf emptySlot filled freeRun isFreeRun mark headAt stateOf wordsOf withHead busy pathFrom path wellFormed formed sizeAllowed clearSpot clearAt firstSpot roomOn find lookup foundAt matches fingerprint editionOne folded tableEntry ruleOf children subtree tree allTrees filledSlots walkable inPlace isSound heldPlaces distinct hasKey every recoverStores flatMap
-computed = record { answered = refl; absent = refl; present = refl; recovered = refl; both-old = refl; both-new = refl }
+unfolding allClaimed run tableAfter reply tableRefusals tableWork emptyTable isPresent framesIn isBusy isHeld framesOf starred.formatted range upTo keep perform granted leaves clears refusals badImage refusal geometryOf formatStores openScript roomScript claimScript fillScript apply segmented stores first marked isSet withBit byte withByte field withField bit slotOf emptySlot filled freeRun isFreeRun mark headAt stateOf wordsOf withHead busy pathFrom path wellFormed formed sizeAllowed clearSpot clearAt firstSpot roomOn find lookup foundAt matches fingerprint editionOne folded tableEntry ruleOf children subtree tree allTrees filledSlots walkable inPlace isSound heldPlaces distinct hasKey every recoverStores flatMap
+computed = record {
+  table = refl;
+  no-fifth = refl;
+  answered = refl;
+  recovers = refl;
+  all-old = refl;
+  all-new = refl;
+  all-idle = refl;
+}
 
-pub two-to-change : TwoToChange
-two-to-change = record { history = twice-follows; answered = computed .recovered; both-old = computed .both-old; both-new = computed .both-new }
+pub four-follows : Follows allClaimed fourOpen
+unfolding allClaimed
+four-follows = subst (Follows allClaimed) (computed .table) (run-follows claimsOfAll (omega arith) (format-follows 4 4 (format-answers .1)))
 
 pub other-geometry : OtherGeometry
 unfolding starred.formatted perform refusals badImage refusal granted leaves clears apply stores segmented formatStores range upTo geometryOf reply tableRefusals tableWork emptyTable
-other-geometry = record { history = format-follows 41 1 (format-answers .1); answered = refl; table = refl }
+other-geometry = record { history = format-follows 41 1 (format-answers .0); answered = refl; table = refl }
 
--- ---- frame 12 of reel 7, before the commit and after it
+-- ---- frame 12 of reel 10, before the commit and after it
 
 -- what a table says of it
 abbrev said : Table → ℕ
-said t = reply (query (has 7 12)) nothing t .work .handed .value
+said t = reply (query (has 10 12)) nothing t .work .handed .value
 
--- whatever it is fed, and the same with every head idle
-said-fed : (x : Fed) (t : Table) → reply (query (has 7 12)) x t .work .handed .value ≡ said t
+-- whatever it is fed
+said-fed : (x : Fed) (t : Table) → reply (query (has 10 12)) x t .work .handed .value ≡ said t
 unfolding reply tableRefusals
 said-fed x t = refl
 
-said-idle : (t : Table) → said (allIdle t) ≡ said t
-unfolding reply tableRefusals tableWork isPresent isHeld framesOf allIdle
-said-idle t = elim (test (eqb (refusal (tableRefusals (query (has 7 12)) nothing t)) 0)) [ inl e ↦ rw (e, said) | inr e ↦ rw (e, said) ]
-
 -- a book that agrees with it says the same
-said-alike : {s : State} {t : Table} → Agrees s t → perform (query (has 7 12)) s .work .handed .value ≡ said t
-said-alike {s} {t} a = alike a (query (has 7 12)) (words-fit (7 ∷ 12 ∷ []) (omega arith)) .value ∙ said-fed (fed (perform (query (has 7 12)) s .answer)) t
+said-alike : {s : State} {t : Table} → Agrees s t → perform (query (has 10 12)) s .work .handed .value ≡ said t
+said-alike {s} {t} a = alike a (query (has 10 12)) (words-fit (10 ∷ 12 ∷ []) (omega arith)) .value ∙ said-fed (fed (perform (query (has 10 12)) s .answer)) t
 
-module _ (kept : Demand3) (t : Table) (f : Follows sample t) where
-  abbrev then : Table
-  then = replied (commit 50 0) sample t .work .after
+said-before : said (allIdle fourOpen) ≡ 0
+unfolding reply tableRefusals tableWork isPresent isHeld framesOf framesIn hasKey allIdle refusal
+said-before = refl
 
-  said-before : said t ≡ 0
-  said-before = sym (said-alike (kept sample t f .agrees)) ∙ computed .absent
+said-after : said (allIdle (replied (commit 50 3) allClaimed fourOpen .work .after)) ≡ 1
+unfolding reply tableRefusals tableWork isPresent isHeld framesOf framesIn hasKey allIdle refusal changeFrames joined
+said-after = refl
 
-  said-after : said then ≡ 1
-  said-after =
-      let g : Follows (done (commit 50 0) sample) then = performed f (commit 50 0) (words-fit (0 ∷ []) (omega arith)) in
-      sym (said-alike (kept (done (commit 50 0) sample) then g .agrees)) ∙ computed .present
-
-  -- no book agrees with both
-  pub told-apart : (s' : State) → Agrees s' (allIdle t) → Agrees s' (allIdle then) → ⊥
-  told-apart s' a b =
-      omega (arith, said-before, said-after, said-alike a ∙ said-idle t, said-alike b ∙ said-idle then)
+-- no book agrees with both
+pub told-apart : (s : State) → Agrees s (allIdle fourOpen) → Agrees s (allIdle (replied (commit 50 3) allClaimed fourOpen .work .after)) → ⊥
+told-apart s a b = omega (arith, said-before, said-after, said-alike a, said-alike b)

@@ -23,9 +23,10 @@ use Rattle.book.specs.Table.{Table, Fed, tableRefusals, tableWork, reply
 use Rattle.book.specs.Agrees.{Agrees}
 use Rattle.book.specs.Histories.{done, replied, Steady, Interrupted, Attempts, none-yet, interrupted, Recovered, Follows, performed, before, after}
 use Rattle.book.specs.Demands.{Demand3}
-use Rattle.book.specs.Witnesses.{CommitCut, GoesOn, Witnesses}
+use Rattle.book.specs.Heads.{headCount}
+use Rattle.book.specs.Witnesses.{CommitCut, allClaimed, fourOpen, FourClaims, GoesOn, Witnesses}
 use Rattle.book.proofs.Performed.{work-granted}
-use Rattle.book.proofs.Sample.{words-fit, sampled, computed, told-apart, two-to-change, other-geometry}
+use Rattle.book.proofs.Sample.{words-fit, computed, four-follows, told-apart, other-geometry}
 
 -- ---- power lost within an operation
 
@@ -145,7 +146,8 @@ module _ (kept : Demand3) where
         elim (kept s t f .survives (query (has 0 0)) fit 0 _ _ c none-yet .whole _ (r .recovered)) [ inl p ↦ p .1 | inr a ↦ rw (has-after 0 0 _ t) at a ],
       )
 
-  commit-cut : (s : State) (t : Table) → Follows s t → (script h : ℕ) → h < 2 → perform (commit script h) s .answer ≡ 0 → CommitCut s t script h
+  commit-cut : (s : State) (t : Table) → Follows s t → (script h : ℕ) → h < headCount → perform (commit script h) s .answer ≡ 0
+      → CommitCut s t script h
   commit-cut s t f script h l e =
       let b = recovery f in
       let a = recovery (performed f (commit script h) (words-fit (h ∷ []) (omega arith))) in
@@ -154,16 +156,26 @@ module _ (kept : Demand3) where
         after = (a .0, record { left = done (commit script h) s .image; interrupted = commit-done s script h e; recovered = a .1 }, a .2);
       }
 
+  four-claims : FourClaims
+  four-claims = record {
+    history = four-follows;
+    no-fifth = computed .no-fifth;
+    answered = computed .answered;
+    cut = commit-cut allClaimed fourOpen four-follows 50 3 (omega arith) (computed .answered);
+    told-apart = told-apart;
+    recovers = computed .recovers;
+    all-old = computed .all-old;
+    all-new = computed .all-new;
+    all-idle = computed .all-idle;
+  }
+
 -- all of them, where every history agrees with its table through every crash
 pub witnesses-from : Demand3 → Witnesses
 witnesses-from kept = record {
   commit-cut = commit-cut kept;
-  sampled = sampled;
-  answered = computed .answered;
-  told-apart = told-apart kept;
+  four-claims = four-claims kept;
   later-kept = later-kept;
   mixed = λ s words image. cut-itself image (λ u. elim u [ ]);
-  two-to-change = two-to-change;
   second-crash = second-crash;
   goes-on = goes-on kept;
   other-geometry = other-geometry;

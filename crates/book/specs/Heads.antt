@@ -11,7 +11,7 @@ use Rattle.book.specs.declared.HeadState.the-variants.{Idle, Claimed, Fi
 
 -- how many heads there are
 abbrev pub headCount : ℕ
-headCount = 2
+headCount = 4
 
 -- any state word but 1 and 2 is read as idle
 unfoldable pub stateOf : ℕ → Target → HeadState

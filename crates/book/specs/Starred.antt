@@ -24,7 +24,7 @@ run (op ∷ ops) s = run ops (done op s)
 -- a book just formatted over zeros
 unfoldable pub formatted : (slots nodes : ℕ) → State
 formatted slots nodes =
-    done (format 1 slots nodes) (record { image = replicate (64 + 2 * slots + 80 * nodes) 0; pool = []; heads = replicate 10 0 })
+    done (format 1 slots nodes) (record { image = replicate (64 + 2 * slots + 80 * nodes) 0; pool = []; heads = [] })
 
 -- a frame of a reel claimed by head 0, and then filled and committed
 abbrev pub claims : (reel f : ℕ) → Operation

@@ -2,15 +2,16 @@
 -- (That every mixture of stores kept and lost is a crash image is `possible` of the memory layer.)
 use mathlib.Core.Path.{_≡_}
 use mathlib.Core.Logic.{_⊎_}
-use mathlib.Core.List.{List, [], _∷_}
+use mathlib.Core.List.{List, [], _∷_, map}
 use Prim.Native.Nat.{ℕ, _<_}
-use lib.ListN.{length, set}
+use lib.ListN.{length, set, replicate}
 use Rattle.tree.specs.Memory.{reads, segmented, passed, Fit}
 use Rattle.tree.specs.Layout.{reelAt, locateAt}
 use Rattle.tree.specs.Slots.{emptySlot}
+use Rattle.book.specs.Heads.{headCount}
 use Rattle.book.specs.State.{State, Operation, format, recover, openReel, claim, fill, commit, arguments, memory, shape}
 use Rattle.book.specs.Perform.{perform}
-use Rattle.book.specs.Table.{Table, emptyTable, allIdle}
+use Rattle.book.specs.Table.{Table, Reel, claimed, filled, emptyTable, allIdle}
 use Rattle.book.specs.Agrees.{Agrees}
 use Rattle.book.specs.Histories.{replied, Interrupted, Attempts, Recovered, Follows}
 use Rattle.book.specs.Starred.{run, formatted}
@@ -30,25 +31,49 @@ pub record CommitCut (s : State) (t : Table) (script h : ℕ) : Type 0 where
   -- both entries carried out: the book recovered has the table after
   pub after : (s' : State) × CutAt (commit script h) s 2 s' × Agrees s' (allIdle (replied (commit script h) s t .work .after))
 
--- a book in which head 0 has filled a place with frame 12 of reel 7
-unfoldable pub sample : State
-sample = run (openReel 1 50 7 ∷ claim 1 50 0 7 12 ∷ fill 50 0 ∷ []) (formatted 1 1)
+-- ---- a crash with four claims open
+
+-- four reels are opened; each of the four heads claims a place in one of them, and heads 2 and 3 fill theirs
+abbrev pub claimsOfAll : List Operation
+claimsOfAll =
+    openReel 1 50 7 ∷ openReel 1 50 8 ∷ openReel 1 50 9 ∷ openReel 1 50 10
+    ∷ claim 1 50 0 7 12 ∷ claim 1 50 1 8 12 ∷ claim 1 50 2 9 12 ∷ claim 1 50 3 10 12 ∷ fill 50 2 ∷ fill 50 3 ∷ []
+
+-- the book and the table that this comes to
+unfoldable pub allClaimed : State
+allClaimed = run claimsOfAll (formatted 4 4)
+
+abbrev pub noFrames : ℕ → Reel
+noFrames reel = record { number = reel; frames = [] }
+
+abbrev pub fourOpen : Table
+fourOpen = record {
+  slots = 4;
+  nodes = 4;
+  reels = noFrames 10 ∷ noFrames 9 ∷ noFrames 8 ∷ noFrames 7 ∷ [];
+  heads = claimed 7 12 ∷ claimed 8 12 ∷ filled 9 12 ∷ filled 10 12 ∷ [];
+}
+
+-- the locate words of nodes 0 to 3, a root each
+abbrev pub locateWords : State → List ℕ
+locateWords s = map (λ n. memory s (locateAt (shape s) n)) (0 ∷ 1 ∷ 2 ∷ 3 ∷ [])
+
+pub record FourClaims : Type 0 where
+  pub history : Follows allClaimed fourOpen
+  -- a fifth head is none
+  pub no-fifth : perform (claim 1 50 4 7 12) allClaimed .answer ≡ 11
+  -- the commit of head 3 may be cut before and after
+  pub answered : perform (commit 50 3) allClaimed .answer ≡ 0
+  pub cut : CommitCut allClaimed fourOpen 50 3
+  -- and there the two ends differ: no book agrees with both tables
+  pub told-apart : (s : State) → Agrees s (allIdle fourOpen) → Agrees s (allIdle (replied (commit 50 3) allClaimed fourOpen .work .after)) → ⊥
+  -- a recovery has four words to change, so that any of them old and the others new is among the mixtures that a crash in it may leave
+  pub recovers : perform (recover 1) allClaimed .answer ≡ 0
+  pub all-old : locateWords allClaimed ≡ 1 ∷ 1 ∷ 1 ∷ 1 ∷ []
+  pub all-new : locateWords (perform (recover 1) allClaimed .work .after) ≡ 0 ∷ 0 ∷ 0 ∷ 0 ∷ []
+  pub all-idle : perform (recover 1) allClaimed .work .after .heads ≡ replicate 20 0
 
 -- ---- a crash in Recover
-
--- a book in which each head has claimed a place, in a reel of its own, and the locate words of its nodes 0 and 1
-unfoldable pub claimedTwice : State
-claimedTwice = run (openReel 1 50 7 ∷ openReel 1 50 8 ∷ claim 1 50 0 7 12 ∷ claim 1 50 1 8 12 ∷ []) (formatted 2 2)
-
-abbrev pub locateWords : State → List ℕ
-locateWords s = memory s (locateAt (shape s) 0) ∷ memory s (locateAt (shape s) 1) ∷ []
-
--- a recovery that has two words to change, so that one old and one new is among the mixtures that a crash in it may leave
-pub record TwoToChange : Type 0 where
-  pub history : (t : Table) × Follows claimedTwice t
-  pub answered : perform (recover 1) claimedTwice .answer ≡ 0
-  pub both-old : locateWords claimedTwice ≡ 1 ∷ 1 ∷ []
-  pub both-new : locateWords (perform (recover 1) claimedTwice .work .after) ≡ 0 ∷ 0 ∷ []
 
 -- from an image that a crash, and recoveries after it that did not end, have left: a recovery that ends, and a history from there on
 pub record GoesOn (m : List ℕ) : Type 0 where
@@ -72,13 +97,10 @@ pub record OtherGeometry : Type 0 where
 
 pub record Witnesses : Type 0 where
   -- an answered commit may be cut before and after, in every history
-  pub commit-cut : (s : State) (t : Table) → Follows s t → (script h : ℕ) → h < 2 → perform (commit script h) s .answer ≡ 0 → CommitCut s t script h
-  -- there is a history with such a commit
-  pub sampled : (t : Table) × Follows sample t
-  pub answered : perform (commit 50 0) sample .answer ≡ 0
-  -- and there the two ends differ: no book agrees with both tables
-  pub told-apart : (t : Table) → Follows sample t → (s' : State)
-      → Agrees s' (allIdle t) → Agrees s' (allIdle (replied (commit 50 0) sample t .work .after)) → ⊥
+  pub commit-cut : (s : State) (t : Table) → Follows s t → (script h : ℕ) → h < headCount → perform (commit script h) s .answer ≡ 0
+      → CommitCut s t script h
+  -- there is a history with such a commit, with a claim of every head open
+  pub four-claims : FourClaims
   -- a crash of Open may keep a later store, the reel number, and lose the five before it
   pub later-kept : (s : State) (words script reel : ℕ) → perform (openReel words script reel) s .answer ≡ 0
       → Interrupted (openReel words script reel) s 6 (set (s .image) (reelAt (emptySlot (shape s) (memory s))) reel)
@@ -86,8 +108,6 @@ pub record Witnesses : Type 0 where
   pub mixed : (s : State) (words : ℕ) (image : List ℕ) → length image ≡ length (s .image)
       → ((i : ℕ) → (reads image i ≡ memory s i) ⊎ (reads image i ≡ memory (perform (recover words) s .work .after) i))
       → Interrupted (recover words) s 0 image
-  -- and there is a history whose recovery has two of them to change
-  pub two-to-change : TwoToChange
   -- a second crash may come, in the recovery from the first
   pub second-crash : (s s' : State) (m m' : List ℕ) (words k : ℕ) → s .image ≡ m → Interrupted (recover words) s k m' → Recovered m' s' → Recovered m s'
   -- after any crash and any attempts some recovery ends, and the history goes on

@@ -1,7 +1,7 @@
 // The types that the operations' definitions and their code share: a head's record and its state.
 
 // How many heads there are, and how many words their records have. `headCount` of specs/Heads.antt is the same number.
-pub const HEADS: usize = 2;
+pub const HEADS: usize = 4;
 
 pub const HEAD_WORDS: usize = 5 * HEADS;
 

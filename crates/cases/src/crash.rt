@@ -131,13 +131,18 @@ fn crash(image: &mut [u64], script: &[u64], first: usize, barrier: usize, mixtur
     stored
 }
 
-// Map and heads are lost: they come up as all ones.
+// Map and heads are lost: they come up as all ones. A recovery leaves every head idle.
 fn is_as_due(image: &mut [u64], list: &[u64], command: Command) -> bool {
     let mut map = [ONES; 1];
     let mut heads = [ONES; HEAD_WORDS];
     let recovered = reelbook_recover(image, &mut map, &mut heads) == 0;
     let listed = is_listed(image, list, command.a);
-    recovered & listed & ((map[0] == command.b) | (map[0] == command.c))
+    recovered & are_idle(&heads) & listed & ((map[0] == command.b) | (map[0] == command.c))
+}
+
+// Is every word of the records 0?
+fn are_idle(heads: &[u64; HEAD_WORDS]) -> bool {
+    starts_with(&[0u64; HEAD_WORDS], heads)
 }
 
 fn is_listed(image: &[u64], list: &[u64], reel: u64) -> bool {

@@ -19,7 +19,7 @@
 //                              words put, each `step` places behind the one before and greater by `rise`
 //   show BUFFER PLACE COUNT    words shown
 //   crash REEL MAP MAP         all crashes of the script as it is lent, each recovered: the reel must list what `list` has, as it
-//                              is lent, and the map, one word, must be one of the two (crash.rt)
+//                              is lent, the map, one word, must be one of the two, and every head idle (crash.rt)
 //
 // Behind a line that cannot be read, or names a place that is not there, stands = ?.
 mod buffers;

@@ -1,9 +1,11 @@
 -- Books computed from a format on, and that histories come to them.
-use mathlib.Core.Path.{_≡_, refl, _∙_, subst}
+use mathlib.Core.Path.{_≡_, refl, sym, _∙_, subst}
+use mathlib.Core.Logic.{inl, inr}
 use mathlib.Core.List.{List, [], _∷_, flatMap}
 use Prim.Native.Nat.{ℕ, zero, suc, _+_, _*_, _^_, _<_}
 use native.Mathlib.Omega.{arith}
 use lib.ListN.{replicate}
+use lib.Dec.{eqb}
 use Rattle.tree.specs.MemoryComputed.{field, withField, bit, isSet, withBit, byte, withByte, marked, first, stores, segmented, apply}
 use Rattle.tree.specs.Memory.{Fit}
 use Rattle.tree.specs.Layout.{badImage, geometryOf}
@@ -15,6 +17,7 @@ use Rattle.tree.specs.Lookup.{firstSpot, path, pathFrom, clearAt, clearSpot, ma
 use Rattle.tree.specs.Pool.{mark}
 use Rattle.tree.specs.Subtree.{children, subtree, tree, allTrees, heldPlaces}
 use Rattle.tree.specs.Check.{walkable, inPlace, isSound}
+use Rattle.tree.proofs.Cases.{test}
 use Rattle.book.specs.Heads.{stateOf, headAt, wordsOf, withHead, busy}
 use Rattle.book.specs.Refusals.{refusal}
 use Rattle.tree.specs.Room.{roomOn}
@@ -22,11 +25,12 @@ use Rattle.book.specs.State.{State, Operation, format, recover, claim, c
 use Rattle.book.specs.Checks.{refusals}
 use Rattle.tree.specs.Recovery.{recoverStores}
 use Rattle.book.specs.Perform.{formatStores, openScript, roomScript, claimScript, fillScript, granted, leaves, clears, perform}
-use Rattle.book.specs.Table.{Table, Fed, nothing, fed, framesIn, isPresent, framesOf, isHeld, isBusy, tableRefusals, changeFrames, joined, tableWork, reply, emptyTable, allIdle}
+use Rattle.book.specs.Table.{Table, Fed, nothing, fed, framesIn, isPresent, framesOf, isHeld, isBusy, tableRefusals, tableWork, reply, emptyTable, allIdle}
 use Rattle.book.specs.Agrees.{Agrees}
 use Rattle.book.specs.Histories.{done, replied, Follows, formatted, started, performed}
 use Rattle.book.specs.Starred as starred
 use Rattle.book.specs.Starred.{run}
+use Rattle.book.specs.Demands.{Demand3}
 use Rattle.book.specs.Witnesses.{claimsOfAll, allClaimed, fourOpen, locateWords, OtherGeometry}
 use Rattle.book.proofs.Entries.{Each}
 use Rattle.book.proofs.Alike.{alike}
@@ -78,6 +82,9 @@ pub record Computed : Type 0 where
   pub table : tableAfter claimsOfAll (starred.formatted 4 4) (emptyTable 4 4) ≡ fourOpen
   pub no-fifth : perform (claim 1 50 4 7 12) allClaimed .answer ≡ 11
   pub answered : perform (commit 50 3) allClaimed .answer ≡ 0
+  -- Has of frame 12 of reel 10 hands back 0 before the commit, 1 after it
+  pub absent : perform (query (has 10 12)) allClaimed .work .handed .value ≡ 0
+  pub present : perform (query (has 10 12)) (done (commit 50 3) allClaimed) .work .handed .value ≡ 1
   -- a recovery makes every locate word new, so one that is cut may leave any of them old
   pub recovers : perform (recover 1) allClaimed .answer ≡ 0
   pub all-old : locateWords allClaimed ≡ 1 ∷ 1 ∷ 1 ∷ 1 ∷ []
@@ -90,6 +97,8 @@ computed = record {
   table = refl;
   no-fifth = refl;
   answered = refl;
+  absent = refl;
+  present = refl;
   recovers = refl;
   all-old = refl;
   all-new = refl;
@@ -110,23 +119,32 @@ other-geometry = record { history = format-follows 41 1 (format-answers .0); ans
 abbrev said : Table → ℕ
 said t = reply (query (has 10 12)) nothing t .work .handed .value
 
--- whatever it is fed
+-- whatever it is fed, and the same with every head idle
 said-fed : (x : Fed) (t : Table) → reply (query (has 10 12)) x t .work .handed .value ≡ said t
 unfolding reply tableRefusals
 said-fed x t = refl
+
+said-idle : (t : Table) → said (allIdle t) ≡ said t
+unfolding reply tableRefusals tableWork isPresent isHeld framesOf allIdle
+said-idle t = elim (test (eqb (refusal (tableRefusals (query (has 10 12)) nothing t)) 0)) [ inl e ↦ rw (e, said) | inr e ↦ rw (e, said) ]
 
 -- a book that agrees with it says the same
 said-alike : {s : State} {t : Table} → Agrees s t → perform (query (has 10 12)) s .work .handed .value ≡ said t
 said-alike {s} {t} a = alike a (query (has 10 12)) (words-fit (10 ∷ 12 ∷ []) (omega arith)) .value ∙ said-fed (fed (perform (query (has 10 12)) s .answer)) t
 
-said-before : said (allIdle fourOpen) ≡ 0
-unfolding reply tableRefusals tableWork isPresent isHeld framesOf framesIn hasKey allIdle refusal
-said-before = refl
+module _ (kept : Demand3) (t : Table) (f : Follows allClaimed t) where
+  abbrev then : Table
+  then = replied (commit 50 3) allClaimed t .work .after
 
-said-after : said (allIdle (replied (commit 50 3) allClaimed fourOpen .work .after)) ≡ 1
-unfolding reply tableRefusals tableWork isPresent isHeld framesOf framesIn hasKey allIdle refusal changeFrames joined
-said-after = refl
+  said-before : said t ≡ 0
+  said-before = sym (said-alike (kept allClaimed t f .agrees)) ∙ computed .absent
 
--- no book agrees with both
-pub told-apart : (s : State) → Agrees s (allIdle fourOpen) → Agrees s (allIdle (replied (commit 50 3) allClaimed fourOpen .work .after)) → ⊥
-told-apart s a b = omega (arith, said-before, said-after, said-alike a, said-alike b)
+  said-after : said then ≡ 1
+  said-after =
+      let g : Follows (done (commit 50 3) allClaimed) then = performed f (commit 50 3) (words-fit (3 ∷ []) (omega arith)) in
+      sym (said-alike (kept (done (commit 50 3) allClaimed) then g .agrees)) ∙ computed .present
+
+  -- no book agrees with both
+  pub told-apart : (s' : State) → Agrees s' (allIdle t) → Agrees s' (allIdle then) → ⊥
+  told-apart s' a b =
+      omega (arith, said-before, said-after, said-alike a ∙ said-idle t, said-alike b ∙ said-idle then)

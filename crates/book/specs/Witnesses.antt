@@ -66,7 +66,8 @@ pub record FourClaims : Type 0 where
   pub answered : perform (commit 50 3) allClaimed .answer ≡ 0
   pub cut : CommitCut allClaimed fourOpen 50 3
   -- and there the two ends differ: no book agrees with both tables
-  pub told-apart : (s : State) → Agrees s (allIdle fourOpen) → Agrees s (allIdle (replied (commit 50 3) allClaimed fourOpen .work .after)) → ⊥
+  pub told-apart : (t : Table) → Follows allClaimed t → (s' : State)
+      → Agrees s' (allIdle t) → Agrees s' (allIdle (replied (commit 50 3) allClaimed t .work .after)) → ⊥
   -- a recovery has four words to change, so that any of them old and the others new is among the mixtures that a crash in it may leave
   pub recovers : perform (recover 1) allClaimed .answer ≡ 0
   pub all-old : locateWords allClaimed ≡ 1 ∷ 1 ∷ 1 ∷ 1 ∷ []

@@ -29,7 +29,6 @@ use Rattle.tree.proofs.Nodes.{children-inside}
 use Rattle.tree.proofs.Laws.{child-laws, node-laws}
 use Rattle.paths.specs.declared.descent.Step.{Step}
 use Rattle.paths.specs.declared.descent.Step.the-variants.{End, Down}
-use Rattle.paths.specs.declared.descent.Trail.{Trail}
 use Rattle.paths.specs.Descent.{stepFrom, trailOn, trailFrom}
 use Rattle.visits.specs.Walk.{groupStops, formedAt}
 use Rattle.settled.specs.Settled.{Formed, isAbsent, absentBelow, holdsAt, settledAt, settledNode}

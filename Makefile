@@ -7,6 +7,12 @@ CXX ?= c++
 CFLAGS ?= -O2
 WARNINGS = -std=c99 -Wall -Wextra -Wpedantic -Wshadow -Wconversion -Werror
 LIBRARY = build/libreelbook.a
+<<<<<<< HEAD
+# rt with its temporary files in memory: tests/temporary.sh says why
+RT = TMPDIR="$$(tests/temporary.sh)" rt
+=======
+BOOKRUN = target/bin/bookrun
+>>>>>>> bookrun
 # every crate but the programs, so that none is forgotten; `rt` itself proves only what the library uses and what has changed
 PROGRAMS = $(patsubst %/src/main.rt,%,$(wildcard crates/*/src/main.rt))
 RATTLE_SOURCES = crates.txt $(shell find $(filter-out $(PROGRAMS),$(wildcard crates/*)) -name '*.rt' -o -name '*.antt')
@@ -29,6 +35,7 @@ Tests:
   make check-header   the header in C and C++, its constants against the library
   make check-archive  no writable data in the library; its stack use; two books in two threads
   make check-stores   Recover's stores, one by one
+  make check-bookrun  bookrun on Case A, on input in pieces, and where a write or a read fails
   make check-tool     the tool's commands, errors and power failures
   make check-install  an installation, and examples/ compiled against it
   make fuzz           the library against a model; CASES=, SEED=
@@ -38,21 +45,23 @@ endef
 help:
 	@:$(info $(HELP))
 
+# rt itself sees whether there is anything to prove or build
+prove_bookrun = mkdir -p target && $(RT) check bookrun >target/run.log 2>&1 </dev/null || { cat target/run.log; exit 1; }
+
 # On the paper's Case A where nothing is given: at a terminal, from /dev/null, or with standard input closed.
 run:
-	@mkdir -p target
-	@rt check bookrun >target/run.log 2>&1 </dev/null || { cat target/run.log; exit 1; }
+	@$(prove_bookrun)
 	@if [ -t 0 ] || [ ! -e /dev/stdin ] || [ /dev/stdin -ef /dev/null ]; then \
-	    ./target/bin/bookrun <crates/bookrun/stdin; \
+	    $(BOOKRUN) <crates/bookrun/stdin; \
 	else \
-	    ./target/bin/bookrun; \
+	    $(BOOKRUN); \
 	fi
 
 lib: $(LIBRARY)
 
 $(LIBRARY): $(RATTLE_SOURCES)
 	@mkdir -p build
-	@rt staticlib reelbook >build/library.log 2>&1 </dev/null || { cat build/library.log; exit 1; }
+	@$(RT) staticlib reelbook >build/library.log 2>&1 </dev/null || { cat build/library.log; exit 1; }
 	cp target/staticlib/libreelbook.a $@
 
 clean:
@@ -69,6 +78,11 @@ test:
 	rt fmt --check
 	python3 tests/unused.py
 	@mkdir -p build
-	@{ rt ci && echo 0 >build/ci.status || echo 1 >build/ci.status; } 2>&1 | tee build/ci.log; read status <build/ci.status; exit $$status
+<<<<<<< HEAD
+	@{ $(RT) ci && echo 0 >build/ci.status || echo 1 >build/ci.status; } 2>&1 | tee build/ci.log; read status <build/ci.status; exit $$status
 	$(MAKE) --no-print-directory check-header check-archive check-stores check-tool check-install faults fuzz
+=======
+	@{ rt ci && echo 0 >build/ci.status || echo 1 >build/ci.status; } 2>&1 | tee build/ci.log; read status <build/ci.status; exit $$status
+	$(MAKE) --no-print-directory check-header check-archive check-stores check-bookrun check-tool check-install faults fuzz
+>>>>>>> bookrun
 	@tail -n 1 build/ci.log

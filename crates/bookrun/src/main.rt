@@ -1,5 +1,6 @@
 // The bench program: each line of standard input is an operation on a book of 4 slots and 16 nodes in ordinary memory, and is
-// answered with a line of output.
+// answered with a line of output. It ends at the first write or read that fails, with one error; `main` has no exit status to say
+// so with.
 mod answer;
 mod run;
 
@@ -10,8 +11,14 @@ use lines::input::take_piece;
 use reelbook::HEAD_WORDS;
 use reelbook::reelbook_format;
 
-// Runs the lines that end in a piece of input. The first bytes of `line` are those of the line that has not ended; answers
-// how many there are then.
+// What a piece of input came to: how many bytes are held of a line that has not ended, and whether every answer was written.
+struct Rest {
+    held: usize,
+    written: bool,
+}
+
+// Runs the lines that end in a piece of input, up to the first whose answer is not written. The first bytes of `line` are those
+// of the line that has not ended.
 fn run_piece(
     image: &mut [u64],
     map: &mut [u64],
@@ -19,9 +26,9 @@ fn run_piece(
     piece: &[u8],
     line: &mut [u8],
     held: usize,
-) -> usize
+) -> Rest
     requires { ⌜ (held ≤ 81) × (81 ≤ length (now line)) ⌝ }
-    ensures { λ r. ⌜ r ≤ 81 ⌝ }
+    ensures { λ r. ⌜ r .held ≤ 81 ⌝ }
 {
     let mut count = held;
     let mut at = 0;
@@ -29,13 +36,21 @@ fn run_piece(
         let taken = take_piece(piece, at, line, count);
         at = taken.next;
         if taken.ended {
-            run::run_line(image, map, heads, &line[..taken.count]);
+            if !run::run_line(image, map, heads, &line[..taken.count]) {
+                return Rest {
+                    held: 0,
+                    written: false,
+                };
+            }
             count = 0;
         } else {
             count = taken.count;
         }
     }
-    count
+    Rest {
+        held: count,
+        written: true,
+    }
 }
 
 // Nothing says that an input ends, and a proved loop has to: it counts its turns down from a number that no run uses up.
@@ -59,7 +74,7 @@ fn main() {
             break;
         }
         let n = io::count(got, &piece);
-        held = run_piece(
+        let rest = run_piece(
             &mut image,
             &mut map,
             &mut heads,
@@ -67,6 +82,10 @@ fn main() {
             &mut line,
             held,
         );
+        if !rest.written {
+            return;
+        }
+        held = rest.held;
         turns -= 1;
     }
     if held > 0 {

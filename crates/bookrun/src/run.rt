@@ -1,4 +1,5 @@
-// A line run: its operation is called, its answer printed, and its script carried out.
+// A line run: its operation is called, its script carried out, and its answer printed. Each function answers whether the answer
+// is written.
 ghost use Prim.Native.Nat.{_≤_};
 ghost use lib.ListN.{length};
 use crate::answer;
@@ -20,7 +21,12 @@ use reelbook::reelbook_retire;
 // The answer to a line that is none of the nine kinds.
 const NO_SUCH_LINE: u64 = 15;
 
-pub fn run_line(image: &mut [u64], map: &mut [u64], heads: &mut [u64; HEAD_WORDS], bytes: &[u8]) {
+pub fn run_line(
+    image: &mut [u64],
+    map: &mut [u64],
+    heads: &mut [u64; HEAD_WORDS],
+    bytes: &[u8],
+) -> bool {
     match read_line(bytes) {
         Line::Open { reel } => run_open(image, map, reel),
         Line::Claim { head, reel, frame } => run_claim(image, map, heads, head, reel, frame),
@@ -35,20 +41,21 @@ pub fn run_line(image: &mut [u64], map: &mut [u64], heads: &mut [u64; HEAD_WORDS
     }
 }
 
-// Prints an answer with the stores of the script's used words, and carries them out.
-fn finish(image: &mut [u64], script: &[u64], used: u64, number: u64)
+// Carries out the script's used words, and prints the answer with their stores. So an operation whose answer cannot be written is
+// carried out: nobody sees that, since the book is in ordinary memory and ends with the program.
+fn finish(image: &mut [u64], script: &[u64], used: u64, number: u64) -> bool
     requires { ⌜ used ≤ length (now script) ⌝ }
 {
     let n = used as usize;
-    answer::answer(number, count_stores(&script[..n]), 0);
     reelbook_apply(image, &script[..n]);
+    answer::answer(number, count_stores(&script[..n]), 0)
 }
 
-fn run_open(image: &mut [u64], map: &mut [u64], reel: u64) {
+fn run_open(image: &mut [u64], map: &mut [u64], reel: u64) -> bool {
     let mut script = [0u64; 50];
     let mut used = 0;
     let number = reelbook_open(image, map, &mut script, reel, &mut used);
-    finish(image, &script, used, number);
+    finish(image, &script, used, number)
 }
 
 fn run_claim(
@@ -58,58 +65,60 @@ fn run_claim(
     head: u64,
     reel: u64,
     frame: u64,
-) {
+) -> bool {
     let mut script = [0u64; 50];
     let mut used = 0;
     let number = reelbook_claim(image, map, heads, &mut script, head, reel, frame, &mut used);
-    finish(image, &script, used, number);
+    finish(image, &script, used, number)
 }
 
-fn run_fill(image: &mut [u64], heads: &mut [u64; HEAD_WORDS], head: u64) {
+fn run_fill(image: &mut [u64], heads: &mut [u64; HEAD_WORDS], head: u64) -> bool {
     let mut script = [0u64; 50];
     let mut used = 0;
     let number = reelbook_fill(image, heads, &mut script, head, &mut used);
-    finish(image, &script, used, number);
+    finish(image, &script, used, number)
 }
 
-fn run_commit(image: &mut [u64], heads: &mut [u64; HEAD_WORDS], head: u64) {
+fn run_commit(image: &mut [u64], heads: &mut [u64; HEAD_WORDS], head: u64) -> bool {
     let mut script = [0u64; 50];
     let mut used = 0;
     let number = reelbook_commit(image, heads, &mut script, head, &mut used);
-    finish(image, &script, used, number);
+    finish(image, &script, used, number)
 }
 
-fn run_abandon(image: &mut [u64], heads: &mut [u64; HEAD_WORDS], head: u64) {
+fn run_abandon(image: &mut [u64], heads: &mut [u64; HEAD_WORDS], head: u64) -> bool {
     let mut script = [0u64; 50];
     let mut used = 0;
     let number = reelbook_abandon(image, heads, &mut script, head, &mut used);
-    finish(image, &script, used, number);
+    finish(image, &script, used, number)
 }
 
-fn run_remove(image: &mut [u64], heads: &[u64; HEAD_WORDS], reel: u64, frame: u64) {
+fn run_remove(image: &mut [u64], heads: &[u64; HEAD_WORDS], reel: u64, frame: u64) -> bool {
     let mut script = [0u64; 50];
     let mut used = 0;
     let number = reelbook_remove(image, heads, &mut script, reel, frame, &mut used);
-    finish(image, &script, used, number);
+    finish(image, &script, used, number)
 }
 
-fn run_has(image: &[u64], reel: u64, frame: u64) {
+fn run_has(image: &[u64], reel: u64, frame: u64) -> bool {
     let mut yes = 0;
     let number = reelbook_has(image, reel, frame, &mut yes);
-    answer::answer(number, 0, yes);
+    answer::answer(number, 0, yes)
 }
 
 // Prints the frames behind the answer.
-fn run_list(image: &[u64], reel: u64) {
+fn run_list(image: &[u64], reel: u64) -> bool {
     let mut scratch = [0u64; 1];
     let mut list = [0u64; 1024];
     let mut count = 0;
     let number = reelbook_list(image, &mut scratch, &mut list, reel, &mut count);
-    answer::answer(number, 0, count);
-    answer::frames(&list[..count as usize]);
+    if !answer::answer(number, 0, count) {
+        return false;
+    }
+    answer::frames(&list[..count as usize])
 }
 
-fn run_retire(image: &mut [u64], map: &mut [u64], heads: &[u64; HEAD_WORDS], reel: u64) {
+fn run_retire(image: &mut [u64], map: &mut [u64], heads: &[u64; HEAD_WORDS], reel: u64) -> bool {
     let mut scratch = [0u64; 1];
     let mut script = [0u64; 50];
     let mut used = 0;
@@ -122,5 +131,5 @@ fn run_retire(image: &mut [u64], map: &mut [u64], heads: &[u64; HEAD_WORDS], ree
         reel,
         &mut used,
     );
-    finish(image, &script, used, number);
+    finish(image, &script, used, number)
 }

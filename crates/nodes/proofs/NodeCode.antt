@@ -1,17 +1,15 @@
 -- What the code of fingerprints and nodes computes, step by step, in the code's own terms.
 use mathlib.Core.Path.{_≡_, refl, sym, _∙_}
-use mathlib.Core.Bool.{Bool, true, false, _&&_, and-assoc}
+use mathlib.Core.Bool.{Bool, true, false, _&&_, and-assoc, or-false}
 use mathlib.Core.Logic.{inl, inr}
-use mathlib.Core.List.{List}
 use Prim.Native.Nat.{ℕ, _+_, _-_, _*_, _/_, _^_, _≤_, _<_}
 use native.Mathlib.Numerals.{add-one}
 use native.Mathlib.Omega.{arith}
-use native.Mathlib.Nat.{lt-of-lt-of-le, div-eq-of-lt, div-lt-iff-lt-mul, one-mul}
+use native.Mathlib.Nat.{div-eq-of-lt, div-lt-iff-lt-mul, one-mul}
 use native.Mathlib.Decide.{decLt}
 use borrow.Author.Tests.{lt-ltb, le-ltb, le-leb, lt-leb, eq-eqb, ne-eqb}
 use lib.Dec.{eqb, ltb, leb}
-use lib.ListN.{length, getD}
-use lib.Pow.{pow-mono, pow-pos}
+use lib.Pow.{pow-pos}
 use lib.Bits.{bitXor, xor-lt}
 use Rattle.memory.specs.Words.{Memory, byte}
 use Rattle.memory.proofs.Laws.{byte-laws}
@@ -20,8 +18,8 @@ use Rattle.tree.specs.Test.{Test, lt, le, eq, _and_, _or_, holds}
 use Rattle.tree.specs.Layout.{nextAt, locateAt, setAt, levelAt, sizeAt}
 use Rattle.tree.specs.Node.{sizeAllowed, formed, wellFormed}
 use Rattle.tree.specs.Path.{fanout}
-use Rattle.tree.specs.Fingerprint.{folded, tableEntry, theTable, fingerprint, editionOne}
-use Rattle.tree.proofs.Fingerprints.{table-at, table-length, fingerprint-laws}
+use Rattle.tree.specs.Fingerprint.{folded, tableEntry, fingerprint, editionOne}
+use Rattle.tree.proofs.Fingerprints.{fingerprint-laws}
 use Rattle.tree.proofs.Cases.{not-false}
 use Rattle.tree.proofs.Tests.{says}
 use Rattle.tree.proofs.Ways.{child-lt}
@@ -34,14 +32,14 @@ byte-small w j e = rw e (byte-laws .byte-fits w j)
 pub folded-small : {h : ℕ} (k f : ℕ) → h ≡ folded tableEntry k f → h < 256
 folded-small k f e = rw e (fingerprint-laws .fits (fingerprint-laws .table-once) k f)
 
--- a step by a table that is lent: inside it, and to the next h
-module _ {t : List ℕ} (is : t ≡ theTable) (k f : ℕ) {h b : ℕ} (p : h ≡ folded tableEntry k f) (q : b ≡ byte f k) where
-  pub entry-inside : bitXor h b < length t
-  entry-inside = rw (is, table-length) (xor-lt 8 h b (folded-small k f p) (byte-small f k q))
+-- a step of the fold: to an entry of the table, and so to the next h
+module _ (k f : ℕ) {h b : ℕ} (p : h ≡ folded tableEntry k f) (q : b ≡ byte f k) where
+  pub entry-inside : bitXor h b < 256
+  entry-inside = xor-lt 8 h b (folded-small k f p) (byte-small f k q)
 
-  pub folded-step : getD t (bitXor h b) 0 ≡ folded tableEntry (k + 1) f
+  pub folded-step : {e : ℕ} → e ≡ tableEntry (bitXor h b) → e ≡ folded tableEntry (k + 1) f
   unfolding folded
-  folded-step = rw (add-one, ← p, ← q, is) (table-at (bitXor h b) (xor-lt 8 h b (folded-small k f p) (byte-small f k q)))
+  folded-step s = rw (add-one, ← p, ← q) s
 
 pub fingerprint-small : {h : ℕ} (f : ℕ) → h ≡ fingerprint editionOne f → h < 256
 unfolding fingerprint editionOne
@@ -49,10 +47,7 @@ fingerprint-small f e = folded-small 4 f e
 
 -- ---- nodes
 
--- a bitmap has no bit at or above a size: by the size of a word, or by a shift
-pub within-word : (w size : ℕ) → w < 2 ^ 64 → 64 ≤ size → true ≡ ltb w (2 ^ size)
-within-word w size h l = sym (lt-ltb w (2 ^ size) (lt-of-lt-of-le h (pow-mono l)))
-
+-- a bitmap has no bit at or above a size, by a shift
 pub shifted-out : (w size : ℕ) → eqb (w / 2 ^ size) 0 ≡ ltb w (2 ^ size)
 shifted-out w size = elim (decLt w (2 ^ size)) [
   | yes l ↦ eq-eqb (w / 2 ^ size) 0 (div-eq-of-lt l) ∙ sym (lt-ltb w (2 ^ size) l)
@@ -61,19 +56,31 @@ shifted-out w size = elim (decLt w (2 ^ size)) [
       ∙ sym (le-ltb w (2 ^ size) (omega arith))
 ]
 
+-- a root of a size below 64
+module _ (size : ℕ) where
+  abbrev smallSize : Test
+  smallSize = eq size 16 or eq size 32
+
+  pub small-size : holds smallSize ≡ true → size < 64
+  small-size h = elim (says smallSize h) [ inl e ↦ omega arith | inr e ↦ omega arith ]
+
+  abbrev pub smallRoot : (d locate set next : ℕ) → Test
+  smallRoot d locate set next = eq d 0 and smallSize and lt locate (2 ^ size) and lt set (2 ^ size) and eq next 0
+
 -- a node's children are inside the pool
-module _ (nodes d size next : ℕ) where
+module _ (nodes d next : ℕ) where
   abbrev pub childrenInside : Test
-  childrenInside = eq next 0 or (eq size 64 and lt d 31 and le (next - 1 + fanout d) nodes)
+  childrenInside = eq next 0 or (lt d 31 and le (next - 1 + fanout d) nodes)
 
   pub no-children : next ≡ 0 → true ≡ holds childrenInside
   no-children z = simp (eq-eqb next 0 z)
 
   pub children-past : (next ≡ 0 → ⊥) → nodes ≤ next - 1 → false ≡ holds childrenInside
-  children-past z l = sym (not-false (λ h. elim (says childrenInside h) [ inl q ↦ z q | inr t ↦ omega (arith, child-lt d 0 (t .1 .0)) ]))
+  children-past z l =
+      sym (not-false (λ h. elim (says childrenInside h) [ inl q ↦ z q | inr t ↦ omega (arith, child-lt d 0 (t .0)) ]))
 
   pub children-within : {r : ℕ} → (next ≡ 0 → ⊥) → next - 1 < nodes → r ≡ fanout d
-      → eqb size 64 && (ltb d 31 && leb r (nodes - (next - 1))) ≡ holds childrenInside
+      → ltb d 31 && leb r (nodes - (next - 1)) ≡ holds childrenInside
   children-within z l e = let q = less-by (next - 1) (fanout d) nodes (omega arith) in rw (e, ne-eqb next 0 z, q) refl
     where
       less-by : (b f n : ℕ) → b ≤ n → leb f (n - b) ≡ leb (b + f) n
@@ -88,9 +95,23 @@ module _ (g : Geometry) (m : Memory) (d n : ℕ) where
   formed-outside h = simp (le-ltb n (g .nodes) h)
 
   -- the words read, and what each test says of them
-  pub formed-inside : {size level locate set next : ℕ} {sized located held linked : Bool} → n < g .nodes → size ≡ m (sizeAt g n)
-      → level ≡ m (levelAt g n) → sized ≡ holds (sizeAllowed d size) → locate ≡ m (locateAt g n) → located ≡ ltb locate (2 ^ size)
-      → set ≡ m (setAt g n) → held ≡ ltb set (2 ^ size) → next ≡ m (nextAt g n)
-      → linked ≡ holds (childrenInside (g .nodes) d size next) → eqb level d && sized && located && held && linked ≡ wellFormed g m d n
-  unfolding wellFormed formed
-  formed-inside h z l p i q t r k s = rw (p, q, r, s, z, l, i, t, k) (simp (lt-ltb n (g .nodes) h, and-assoc))
+  module _ {level : ℕ} (h : n < g .nodes) (l : level ≡ m (levelAt g n)) where
+    pub formed-elsewhere : (level ≡ d → ⊥) → false ≡ wellFormed g m d n
+    unfolding wellFormed formed
+    formed-elsewhere z = rw (lt-ltb n (g .nodes) h, ← l, ne-eqb level d z) refl
+
+    module _ {size next : ℕ} {r : Bool} (e : level ≡ d) (z : size ≡ m (sizeAt g n)) (k : next ≡ m (nextAt g n)) where
+      pub formed-small : {locate set : ℕ} → (size ≡ 64 → ⊥) → locate ≡ m (locateAt g n) → set ≡ m (setAt g n)
+          → r ≡ holds (smallRoot size d locate set next) → r ≡ wellFormed g m d n
+      unfolding wellFormed formed sizeAllowed
+      formed-small q i t s =
+          rw (lt-ltb n (g .nodes) h, ← l, ← z, ← k, ← i, ← t, eq-eqb level d e, ne-eqb size 64 q, or-false, and-assoc) s
+
+      -- at size 64 every word is within
+      pub formed-full : size ≡ 64 → ((i : ℕ) → m i < 2 ^ 64) → r ≡ holds (childrenInside (g .nodes) d next)
+          → r ≡ wellFormed g m d n
+      unfolding wellFormed formed sizeAllowed
+      formed-full q f s =
+          let locates = lt-ltb (m (locateAt g n)) (2 ^ 64) (f _) in
+          let sets = lt-ltb (m (setAt g n)) (2 ^ 64) (f _) in
+          rw (lt-ltb n (g .nodes) h, ← l, ← z, ← k, eq-eqb level d e, q, locates, sets) s

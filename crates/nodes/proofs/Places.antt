@@ -1,6 +1,6 @@
 -- What the search for a frame in a node asks, in the code's own terms.
 use mathlib.Core.Path.{_≡_, refl, sym, _∙_, ap}
-use mathlib.Core.Bool.{Bool, true, false, _&&_, _||_, or-false, and-true}
+use mathlib.Core.Bool.{Bool, true, false, _&&_, _||_, or-false, or-true, and-true}
 use Prim.Native.Nat.{ℕ, suc, _+_, _-_, _*_, _/_, _%_, _^_, _≤_, _<_}
 use native.Mathlib.Omega.{arith}
 use native.Mathlib.Decide.{decLt, ℕ-discrete}
@@ -53,6 +53,31 @@ module _ (words : ℕ → ℕ) (b : ℕ) where
     where
       bits : (i : ℕ) → isSet (bitOr (c / 2) z) i ≡ isSet c (suc i) || isSet z i
       bits i = rw (or-bits (c / 2) z i, half-bits c i)
+
+-- ---- eight words' bytes that are b, all in one byte's place
+
+-- after j words: the highest bit of byte k is set if byte k of one of them is b
+pub record Gathered (words : ℕ → ℕ) (b j c : ℕ) : Type 0 where
+  met : (i k : ℕ) → i < j → k < 8 → eqb (byte (words i) k) b ≡ true → isSet c (8 * k + 7) ≡ true
+
+module _ (words : ℕ → ℕ) (b : ℕ) where
+  pub gathered-none : Gathered words b 0 0
+  gathered-none = record { met = λ i k l h t. absurd (omega arith) }
+
+  pub gathered-more : (j c z : ℕ) → Gathered words b j c → EqualBytes (words j) b z → Gathered words b (j + 1) (bitOr c z)
+  gathered-more j c z a e = record {
+    met = λ i k l h t. or-bits c z (8 * k + 7) ∙ (elim (ℕ-discrete i j) [
+      | yes q ↦
+          let d : (8 * k + 7) / 8 ≡ k = omega arith in
+          let s : isSet z (8 * k + 7) ≡ true = equal-bit e (8 * k + 7) (omega arith) (omega arith) ∙ rw (d, ← q) t in
+          rw (s, or-true) refl
+      | no q ↦ rw (a .met i k (omega arith) h t) refl
+    ]);
+  }
+
+  -- none was met
+  pub gathered-no : (c : ℕ) → c ≡ 0 → Gathered words b 8 c → (i k : ℕ) → i < 8 → k < 8 → eqb (byte (words i) k) b ≡ false
+  gathered-no c z a i k l h = not-false (λ t. true-not-false (a .met i k l h t) (ap (λ (x : ℕ). isSet x (8 * k + 7)) z ∙ no-bit (8 * k + 7)))
 
 -- ---- a node's places, those with the fingerprint tested in any order
 
@@ -128,6 +153,14 @@ module _ (g : Geometry) (m : Memory) (f n : ℕ) where
 
     pub seek-on : t && ltb (turned i) lowest ≡ false → Seeking (withoutBit left i) lowest
     seek-on h = moves left lowest i lowest s (omega arith) (s .hit) (λ a l. true-not-false (true-and (e ∙ a) (lt-ltb (turned i) lowest l)) h)
+
+  -- no place has the fingerprint
+  pub seek-none : (b : ℕ) → b ≡ fingerprint editionOne f → ((p : ℕ) → p < 64 → eqb (storedFingerprint g m n p) b ≡ false) → 64 ≡ foundAt editionOne g m f n
+  unfolding foundAt
+  seek-none b e a =
+      first-laws match 64 .stops 64 (omega arith)
+      (λ p l. not-false (λ t. true-not-false (eq-eqb (storedFingerprint g m n p) b (match-facts editionOne g m f n p .0 t .1 .1 ∙ sym e)) (a p l)))
+      (λ l. absurd (omega arith))
 
   pub seek-end : (left lowest : ℕ) → left ≡ 0 → Seeking left lowest → lowest ≡ foundAt editionOne g m f n
   unfolding foundAt

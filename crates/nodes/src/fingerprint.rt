@@ -2,9 +2,12 @@
 ghost use mathlib.Core.Path.{_≡_};
 ghost use Prim.Native.Nat.{_%_, _<_};
 ghost use Rattle.memory.specs.Words.{withByte};
-ghost use Rattle.tree.specs.Fingerprint.{theTable, editionOne, fingerprint};
+ghost use Rattle.tree.specs.Fingerprint.{tableEntry, theTable, editionOne, fingerprint};
 use memory::words::byte_of;
 use memory::words::with_byte;
+
+// How many bytes of a frame are folded, lowest first.
+const BYTES: u32 = 4;
 
 const TABLE: [u8; 256] = [
     13,
@@ -273,26 +276,39 @@ pub fn table() -> [u8; 256]
     TABLE
 }
 
-// A frame's fingerprint by a table that is lent: its four low bytes, lowest first, folded over the table.
+// A frame's fingerprint by a table that is lent.
 pub fn fold(table: &[u8], frame: u64) -> u64
     requires { ⌜ now table ≡ theTable ⌝ }
     ensures { λ r. ⌜ r ≡ fingerprint editionOne frame ⌝ }
 {
     let mut h: u64 = 0;
     let mut k: u32 = 0;
-    while k < 4 {
+    while k < BYTES {
         h = table[(h ^ byte_of(frame, k)) as usize] as u64;
         k += 1;
     }
     h
 }
 
-// A frame's fingerprint, where it is the only one to be folded.
+// An entry of the table, by its rule.
+fn entry(i: u64) -> u64
+    requires { ⌜ i < 256 ⌝ }
+    ensures { λ r. ⌜ r ≡ tableEntry i ⌝ }
+{
+    (167 * i + 13) % 256
+}
+
+// A frame's fingerprint, where it is the only one to be folded: to lay the table out would cost more than its four entries.
 pub fn fingerprint(frame: u64) -> u64
     ensures { λ r. ⌜ r ≡ fingerprint editionOne frame ⌝ }
 {
-    let table = table();
-    fold(&table, frame)
+    let mut h: u64 = 0;
+    let mut k: u32 = 0;
+    while k < BYTES {
+        h = entry(h ^ byte_of(frame, k));
+        k += 1;
+    }
+    h
 }
 
 // The fingerprint word of a place with the frame's fingerprint in it, its seven other bytes kept.

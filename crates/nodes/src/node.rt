@@ -2,12 +2,11 @@
 ghost use mathlib.Core.Path.{_≡_};
 ghost use Prim.Native.Nat.{_+_, _-_, _^_, _≤_, _<_};
 ghost use lib.ListN.{length};
-ghost use lib.Dec.{ltb};
 ghost use Rattle.memory.specs.Words.{reads};
 ghost use Rattle.tree.specs.Test.{lt, le, eq, _and_, _or_, holds};
 ghost use Rattle.tree.specs.Layout.{Sized, sizeAt};
 ghost use Rattle.tree.specs.Path.{fanout};
-ghost use Rattle.tree.specs.Node.{sizeAllowed, wellFormed};
+ghost use Rattle.tree.specs.Node.{wellFormed};
 ghost use Rattle.tree.specs.Lookup.{clearAt};
 use memory::search::lowest_clear;
 use tree::layout::Geometry;
@@ -19,27 +18,25 @@ use tree::layout::next_of;
 use tree::layout::word_of;
 use tree::path::fanout;
 
-// A root may have size 16 or 32, every node 64.
-fn size_allowed(depth: u64, size: u64) -> bool
-    ensures { λ r. ⌜ r ≡ holds (sizeAllowed depth size) ⌝ }
+// A root of size 16 or 32, with no bit at or above its size in either bitmap, and no children.
+fn small_root(depth: u64, size: u64, locate: u64, set: u64, next: u64) -> bool
+    ensures { λ r. ⌜
+        r ≡ holds (eq depth 0 and (eq size 16 or eq size 32) and lt locate (2 ^ size) and lt set (2 ^ size) and eq next 0)
+        ⌝ }
 {
-    (size == 64) | ((depth == 0) & ((size == 16) | (size == 32)))
-}
-
-// Has a bitmap no bit at or above the size? A word has none from bit 64 on.
-fn below_size(bitmap: u64, size: u64) -> bool
-    ensures { λ r. ⌜ r ≡ ltb bitmap (2 ^ size) ⌝ }
-{
-    if 64 <= size {
-        return true;
+    if depth != 0 {
+        return false;
     }
-    (bitmap >> size) == 0
+    if (size == 16) | (size == 32) {
+        return ((locate >> size) == 0) & ((set >> size) == 0) & (next == 0);
+    }
+    false
 }
 
-// No children, or at size 64 and above level 31 all of them inside the pool. The next word may be as
-// large as a word can be, so it is compared before it is counted with.
-fn children_inside(nodes: usize, depth: u64, size: u64, next: u64) -> bool
-    ensures { λ r. ⌜ r ≡ holds (eq next 0 or (eq size 64 and lt depth 31 and le (next - 1 + fanout depth) nodes)) ⌝ }
+// No children, or above level 31 all of them inside the pool. The next word may be as large as a word
+// can be, so it is compared before it is counted with.
+fn children_inside(nodes: usize, depth: u64, next: u64) -> bool
+    ensures { λ r. ⌜ r ≡ holds (eq next 0 or (lt depth 31 and le (next - 1 + fanout depth) nodes)) ⌝ }
 {
     if next == 0 {
         return true;
@@ -48,10 +45,11 @@ fn children_inside(nodes: usize, depth: u64, size: u64, next: u64) -> bool
     if nodes <= before {
         return false;
     }
-    (size == 64) & ((depth < 31) & (fanout(depth) <= nodes - before))
+    (depth < 31) & (fanout(depth) <= nodes - before)
 }
 
-// Is node n well formed at a depth? Outside the pool it is not, and is not read.
+// Is node n well formed at a depth? Outside the pool it is not, and is not read. Nearly every node has size 64: no bitmap
+// has a bit there or above, so that neither is read. Any other size is a root's.
 pub fn well_formed(image: &[u64], g: Geometry, depth: u64, n: usize) -> bool
     requires { ⌜ Sized (now image) g ⌝ }
     ensures { λ r. ⌜ r ≡ wellFormed g (reads (now (image .entry))) depth n ⌝ }
@@ -60,12 +58,21 @@ pub fn well_formed(image: &[u64], g: Geometry, depth: u64, n: usize) -> bool
     if nodes <= n {
         return false;
     }
+    if word_of(image, g, n, LEVEL) != depth {
+        return false;
+    }
     let size = word_of(image, g, n, SIZE);
-    (word_of(image, g, n, LEVEL) == depth)
-        & size_allowed(depth, size)
-        & below_size(word_of(image, g, n, LOCATE), size)
-        & below_size(word_of(image, g, n, SET), size)
-        & children_inside(nodes, depth, size, next_of(image, g, n))
+    let next = next_of(image, g, n);
+    if size != 64 {
+        return small_root(
+            depth,
+            size,
+            word_of(image, g, n, LOCATE),
+            word_of(image, g, n, SET),
+            next,
+        );
+    }
+    children_inside(nodes, depth, next)
 }
 
 // The lowest clear place of a node of the pool: its locate bit is 0. Its size where there is none.

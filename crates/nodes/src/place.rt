@@ -1,5 +1,6 @@
 // The place of a node where the lookup finds a frame.
 ghost use mathlib.Core.Path.{_≡_};
+ghost use mathlib.Core.Bool.{false};
 ghost use Prim.Native.Nat.{ℕ, _+_, _*_, _/_, _%_, _<_};
 ghost use lib.Dec.{eqb};
 ghost use Rattle.memory.specs.Words.{reads, isSet};
@@ -15,6 +16,22 @@ use tree::layout::SET;
 use tree::layout::fingerprints_of;
 use tree::layout::frame_of;
 use tree::layout::word_of;
+
+// May a place of a node have a fingerprint? A no is sure: no place has it. Mostly that is the answer, with one branch for all 64.
+fn has_print(image: &[u64], g: Geometry, n: usize, print: u64) -> bool
+    requires { ⌜ Sized (now image) g × (n < g .nodes) × (print < 256) ⌝ }
+    ensures { λ r. ⌜
+        (r ≡ false → (p : ℕ) → p < 64 → eqb (storedFingerprint g (reads (now (image .entry))) n p) print ≡ false)
+        ⌝ }
+{
+    let mut found: u64 = 0;
+    let mut j = 0;
+    while j < 8 {
+        found = found | equal_bytes(fingerprints_of(image, g, n, j), print);
+        j += 1;
+    }
+    found != 0
+}
 
 // The places of a node that have a fingerprint, a word of eight at a time and without a branch. A word's answers
 // are the highest bits of the bytes, and move down a bit with each word after it: in the end bit
@@ -50,12 +67,15 @@ fn is_match(image: &[u64], g: Geometry, n: usize, frame: u64, set: u64, p: usize
     is_set(set, p as u32) & (frame_of(image, g, n, p) == frame)
 }
 
-// The lowest place of a node of the pool that holds the frame, or 64. Mostly no place has its fingerprint; the few
-// that have are tested in any order. The caller has the fingerprint, once for all nodes of a path.
+// The lowest place of a node of the pool that holds the frame, or 64. The few places that have its fingerprint are tested
+// in any order. The caller has the fingerprint, once for all nodes of a path.
 pub fn found_place(image: &[u64], g: Geometry, n: usize, frame: u64, print: u64) -> usize
     requires { ⌜ Sized (now image) g × (n < g .nodes) × (print ≡ fingerprint editionOne frame) ⌝ }
     ensures { λ r. ⌜ r ≡ foundAt editionOne g (reads (now (image .entry))) frame n ⌝ }
 {
+    if !has_print(image, g, n, print) {
+        return 64;
+    }
     let set = word_of(image, g, n, SET);
     let mut left = candidates(image, g, n, print);
     let mut lowest = 64;

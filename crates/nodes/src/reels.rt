@@ -45,8 +45,8 @@ fn none_of_four(image: &[u64], g: Geometry, s: usize, reel: u64) -> bool
             & ((reel_of(image, g, s + 2) != reel) & (reel_of(image, g, s + 3) != reel)))
 }
 
-// Slots that are not the reel's, passed over in fours; the rest is for a search slot by slot.
-fn passed_in_fours(image: &[u64], g: Geometry, reel: u64) -> usize
+// Slots that are not the reel's, passed over in eights; the rest is for a search slot by slot.
+fn passed_in_eights(image: &[u64], g: Geometry, reel: u64) -> usize
     requires { ⌜ Sized (now image) g ⌝ }
     ensures { λ r. ⌜
         (r ≤ g .slots)
@@ -55,11 +55,11 @@ fn passed_in_fours(image: &[u64], g: Geometry, reel: u64) -> usize
         ⌝ }
 {
     let mut s = 0;
-    while s + 4 <= g.slots {
-        if !none_of_four(image, g, s, reel) {
+    while s + 8 <= g.slots {
+        if !(none_of_four(image, g, s, reel) & none_of_four(image, g, s + 4, reel)) {
             return s;
         }
-        s += 4;
+        s += 8;
     }
     s
 }
@@ -69,7 +69,7 @@ pub fn slot_of(image: &[u64], g: Geometry, reel: u64) -> usize
     requires { ⌜ Sized (now image) g ⌝ }
     ensures { λ r. ⌜ r ≡ slotOf g (reads (now (image .entry))) reel ⌝ }
 {
-    let mut s = passed_in_fours(image, g, reel);
+    let mut s = passed_in_eights(image, g, reel);
     while s < g.slots {
         if is_reel(image, g, s, reel) {
             return s;

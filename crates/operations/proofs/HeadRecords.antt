@@ -2,10 +2,10 @@
 use mathlib.Core.Path.{_≡_, refl, sym, _∙_, ap}
 use mathlib.Core.Bool.{true, false}
 use mathlib.Core.List.{List, map}
-use Prim.Native.Nat.{ℕ, zero, suc, _+_, _<_}
+use Prim.Native.Nat.{ℕ, zero, suc, _+_, _≤_, _<_}
 use native.Mathlib.Omega.{arith}
 use native.Mathlib.Decide.{ℕ-discrete}
-use lib.ListN.{length, getD, set}
+use lib.ListN.{length, getD, set, List·getD-eq-default}
 use lib.Seq.{ext-getD, getD-set-same, getD-set-other}
 use lib.Dec.{ltb}
 use borrow.Author.Tests.{le-ltb}
@@ -58,6 +58,11 @@ one-more ws heads h x low q below k l = elim (ℕ-discrete k h) [
 pub state-read : (ws : List ℕ) (heads : List Head) (h : ℕ) → headsIn ws ≡ heads → h < headCount → stateIn heads h ≡ headAt ws h
 unfolding stateIn
 state-read ws heads h e l = rw (← e) (ap (λ (x : Head). x .state) (record-in ws h l))
+
+-- a number that no head has is an idle one's
+pub no-head : (ws : List ℕ) (h : ℕ) → headCount ≤ h → Idle ≡ stateIn (headsIn ws) h
+unfolding stateIn
+no-head ws h l = sym (ap (λ (x : Head). x .state) (List·getD-eq-default (headsIn ws) (headOf Idle) (rw records-count l)))
 
 pub busy-read : (ws : List ℕ) (heads : List Head) (s : ℕ) → headsIn ws ≡ heads → busyIn heads s ≡ busy ws s
 unfolding busyIn busy

@@ -4,7 +4,7 @@ ghost use mathlib.Core.List.{[], _∷_, _++_};
 ghost use Prim.Native.Nat.{_+_, _*_, _<_};
 ghost use lib.ListN.{length, take, drop};
 ghost use Rattle.book.specs.Heads.{headCount, headAt, withHead, idleHeads};
-ghost use Rattle.operations.specs.HeadLists.{headsIn};
+ghost use Rattle.operations.specs.HeadLists.{headsIn, stateIn};
 use book::HEAD_WORDS;
 use book::HEADS;
 use book::Head;
@@ -31,6 +31,16 @@ fn read_head(words: &[u64; HEAD_WORDS], h: usize) -> HeadState
         return HeadState::Filled(t);
     }
     HeadState::Idle
+}
+
+// The state of a head; idle for a number that no head has.
+pub fn state_of(words: &[u64; HEAD_WORDS], head: u64) -> HeadState
+    ensures { λ r. ⌜ r ≡ stateIn (headsIn (now (words .entry))) head ⌝ }
+{
+    if HEADS as u64 <= head {
+        return HeadState::Idle;
+    }
+    read_head(words, head as usize)
 }
 
 // All records.

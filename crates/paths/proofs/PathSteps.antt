@@ -4,7 +4,7 @@ use mathlib.Core.Bool.{Bool, true, false, cond, not}
 use mathlib.Core.Logic.{inl, inr}
 use mathlib.Core.Option.{Option, none, some}
 use mathlib.Core.List.{List, [], _∷_, _++_, append-assoc}
-use Prim.Native.Nat.{ℕ, zero, suc, _+_, _-_, _≤_, _<_}
+use Prim.Native.Nat.{ℕ, zero, suc, _+_, _-_, _*_, _/_, _%_, _≤_, _<_}
 use native.Mathlib.Numerals.{add-one}
 use native.Mathlib.Omega.{arith}
 use borrow.Author.Tests.{eq-eqb, ne-eqb, eqb-false, lt-ltb, le-ltb, not-true}
@@ -23,12 +23,10 @@ use Rattle.tree.proofs.Nodes.{children-inside}
 use Rattle.tree.proofs.Laws.{child-laws, node-laws}
 use Rattle.paths.specs.declared.descent.Step.{Step}
 use Rattle.paths.specs.declared.descent.Step.the-variants.{End, Down}
-use Rattle.paths.specs.declared.descent.Seen.{Seen}
-use Rattle.paths.specs.declared.descent.Seen.the-variants.{Nothing}
 use Rattle.paths.specs.declared.descent.Found.{Found}
 use Rattle.paths.specs.declared.descent.Found.the-variants.{Malformed, Absent, At}
 use Rattle.paths.specs.Answers.{onPath, foundAs, foundFrom}
-use Rattle.paths.specs.Descent.{stepFrom, spotOf, orElse, passed, Along}
+use Rattle.paths.specs.Descent.{stepFrom, numbered, orElse, passed, Along}
 
 -- a well-formed node is inside the pool, and so is the child to which a frame goes
 module _ (g : Geometry) (m : Memory) (d n : ℕ) (h : wellFormed g m d n ≡ true) where
@@ -116,6 +114,30 @@ module _ {g : Geometry} {m : Memory} {e₀ s f : ℕ} {ns : List ℕ} {d n : ℕ
           rest = rw k at (along-step z) ∙ passed-before ns n (path g m (32 - (d + 1)) (d + 1) c f);
         }
 
+-- ---- what was seen, as a number
+
+number-none : numbered 0 ≡ none
+unfolding numbered
+number-none = refl
+
+number-spot : (n p : ℕ) → p < 64 → numbered (64 * n + p + 1) ≡ some (spot n p)
+unfolding numbered
+number-spot n p h =
+    let node : (64 * n + p + 1 - 1) / 64 ≡ n = omega arith in
+    let place : (64 * n + p + 1 - 1) % 64 ≡ p = omega arith in
+    rw (ne-eqb (64 * n + p + 1) 0 (λ q. omega arith), node, place) refl
+
+pub number-read : (k : ℕ) → (k ≡ 0 → ⊥) → some (spot ((k - 1) / 64) ((k - 1) % 64)) ≡ numbered k
+unfolding numbered
+number-read k h = rw (ne-eqb k 0 h) refl
+
+pub none-read : {k : ℕ} → k ≡ 0 → none ≡ numbered k
+none-read q = sym (ap numbered q ∙ number-none)
+
+-- what was seen before stays
+pub number-kept : (k : ℕ) (o : Option Spot) → (k ≡ 0 → ⊥) → numbered k ≡ orElse (numbered k) o
+number-kept k o h = rw (← number-read k h) refl
+
 -- ---- a search of a path's nodes, with what was found so far
 
 -- what is found in nodes is the first spot of a search: the lookup and the clear place are both so
@@ -133,20 +155,20 @@ module _ (g : Geometry) (m : Memory) where
 
 module _ {found : List ℕ → Option Spot} {search bound : ℕ → ℕ} (w : Searches found search bound) where
   -- the node's own place, or none, unless one was found before it
-  module _ {so-far : Seen} (k : so-far ≡ Nothing) (n p : ℕ) (e : p ≡ search n) where
-    at-node : orElse (spotOf so-far) (found (n ∷ [])) ≡ cond (ltb p (bound n)) (some (spot n p)) none
+  module _ {so-far : ℕ} (k : so-far ≡ 0) (n p : ℕ) (e : p ≡ search n) where
+    at-node : orElse (numbered so-far) (found (n ∷ [])) ≡ cond (ltb p (bound n)) (some (spot n p)) none
     unfolding firstSpot
-    at-node = rw (k, w .is (n ∷ []), e) refl
+    at-node = rw (k, number-none, w .is (n ∷ []), e) refl
 
-    pub found-here : p < bound n → some (spot n p) ≡ orElse (spotOf so-far) (found (n ∷ []))
-    found-here l = sym (at-node ∙ rw (lt-ltb p (bound n) l) refl)
+    pub found-here : p < 64 → p < bound n → numbered (64 * n + p + 1) ≡ orElse (numbered so-far) (found (n ∷ []))
+    found-here h l = number-spot n p h ∙ sym (at-node ∙ rw (lt-ltb p (bound n) l) refl)
 
-    pub found-nowhere : bound n ≤ p → none ≡ orElse (spotOf so-far) (found (n ∷ []))
-    found-nowhere l = sym (at-node ∙ rw (le-ltb p (bound n) l) refl)
+    pub found-nowhere : bound n ≤ p → numbered 0 ≡ orElse (numbered so-far) (found (n ∷ []))
+    found-nowhere l = number-none ∙ sym (at-node ∙ rw (le-ltb p (bound n) l) refl)
 
-  pub found-none : none ≡ found []
+  pub found-none : numbered 0 ≡ found []
   unfolding firstSpot
-  found-none = rw (w .is []) refl
+  found-none = rw (number-none, w .is []) refl
 
   -- what was found down to a node is what is found in all nodes down to it
   pub found-more : (ns : List ℕ) (n : ℕ) {so-far r : Option Spot} → so-far ≡ found ns → r ≡ orElse so-far (found (n ∷ [])) → r ≡ found (ns ++ n ∷ [])

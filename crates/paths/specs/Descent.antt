@@ -3,7 +3,7 @@ use mathlib.Core.Path.{_≡_}
 use mathlib.Core.Bool.{cond}
 use mathlib.Core.Option.{Option, none, some}
 use mathlib.Core.List.{List, _++_}
-use Prim.Native.Nat.{ℕ, _+_, _-_, _≤_}
+use Prim.Native.Nat.{ℕ, _+_, _-_, _/_, _%_, _≤_}
 use lib.Dec.{eqb, ltb}
 use lib.ListN.{length}
 use Rattle.memory.specs.Words.{Memory}
@@ -15,7 +15,7 @@ use Rattle.tree.specs.Layout.{nextAt, sizeAt}
 use Rattle.tree.specs.Path.{child}
 use Rattle.tree.specs.Node.{childOf}
 use Rattle.tree.specs.Fingerprint.{editionOne}
-use Rattle.tree.specs.Lookup.{path, lookup, clearSpot}
+use Rattle.tree.specs.Lookup.{spot, path, lookup, clearSpot}
 use Rattle.tree.specs.Room.{lastOf}
 use Rattle.paths.specs.declared.descent.Step.{Step}
 use Rattle.paths.specs.declared.descent.Step.the-variants.{End, Down}
@@ -30,10 +30,14 @@ use Rattle.paths.specs.Answers.{onPath}
 unfoldable pub stepFrom : Geometry → Memory → (level node frame : ℕ) → Step
 stepFrom g m d n f = cond (eqb (m (nextAt g n)) 0) End (Down (childOf g m n (child d f)))
 
--- the spot that a search has seen so far
+-- the spot that a search has seen
 abbrev pub spotOf : Seen → Option Spot
 spotOf Nothing = none
 spotOf (At t) = some t
+
+-- the spot that a number stands for: 0 for none, else one more than the place's among all places of the pool
+unfoldable pub numbered : ℕ → Option Spot
+numbered k = cond (eqb k 0) none (some (spot ((k - 1) / 64) ((k - 1) % 64)))
 
 -- what was found before, or else what is found next
 abbrev pub orElse : Option Spot → Option Spot → Option Spot

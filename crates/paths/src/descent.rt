@@ -11,7 +11,7 @@ ghost use Rattle.tree.specs.Slots.{Filled, rootOf};
 ghost use Rattle.tree.specs.Lookup.{lookup, clearSpot};
 ghost use Rattle.tree.specs.Room.{atLevel31};
 ghost use Rattle.paths.specs.Answers.{foundAs, foundFrom, placementAs, placementFrom};
-ghost use Rattle.paths.specs.Descent.{stepFrom, spotOf, orElse, trailFrom, roomAt};
+ghost use Rattle.paths.specs.Descent.{stepFrom, spotOf, numbered, orElse, trailFrom, roomAt};
 use nodes::fingerprint::fingerprint;
 use nodes::node::clear_place;
 use nodes::node::well_formed;
@@ -33,7 +33,7 @@ pub enum Found {
     At(Spot),
 }
 
-// What a search of a path's nodes, from its first on, has seen so far.
+// What a search of a path's nodes has seen.
 pub enum Seen {
     Nothing,
     At(Spot),
@@ -83,35 +83,50 @@ pub fn step_from(image: &[u64], g: Geometry, level: u64, n: usize, frame: u64) -
     Step::Down(next - 1 + child(level, frame) as usize)
 }
 
-// What was found so far, or else the place of a node that holds the frame.
-fn found_on(image: &[u64], g: Geometry, n: usize, frame: u64, print: u64, found: Seen) -> Seen
-    requires { ⌜ Sized (now image) g × (n < g .nodes) × (print ≡ fingerprint editionOne frame) ⌝ }
-    ensures { λ r. ⌜ spotOf r ≡ orElse (spotOf found) (lookup editionOne g (reads (now (image .entry))) frame (n ∷ [])) ⌝ }
+// While a walk goes on, what it has seen is a number, which takes one register: 0 for nothing, else one more than the place's among
+// all places of the pool, 64 × node + place.
+fn seen_by(number: usize) -> Seen
+    ensures { λ r. ⌜ spotOf r ≡ numbered number ⌝ }
 {
-    if let Seen::At(_) = found {
+    if number == 0 {
+        return Seen::Nothing;
+    }
+    let before = number - 1;
+    Seen::At(Spot {
+        node: before / 64,
+        place: before % 64,
+    })
+}
+
+// What was found so far, or else the place of a node that holds the frame.
+fn found_on(image: &[u64], g: Geometry, n: usize, frame: u64, print: u64, found: usize) -> usize
+    requires { ⌜ Sized (now image) g × (n < g .nodes) × (print ≡ fingerprint editionOne frame) ⌝ }
+    ensures { λ r. ⌜ numbered r ≡ orElse (numbered found) (lookup editionOne g (reads (now (image .entry))) frame (n ∷ [])) ⌝ }
+{
+    if found != 0 {
         return found;
     }
     let place = found_place(image, g, n, frame, print);
     if place < 64 {
-        return Seen::At(Spot { node: n, place });
+        return 64 * n + place + 1;
     }
-    Seen::Nothing
+    0
 }
 
 // What was clear so far, or else the lowest clear place of a node.
-fn clear_on(image: &[u64], g: Geometry, n: usize, clear: Seen) -> Seen
+fn clear_on(image: &[u64], g: Geometry, n: usize, clear: usize) -> usize
     requires { ⌜ Sized (now image) g × (n < g .nodes) × (reads (now image) (sizeAt g n) ≤ 64) ⌝ }
-    ensures { λ r. ⌜ spotOf r ≡ orElse (spotOf clear) (clearSpot g (reads (now (image .entry))) (n ∷ [])) ⌝ }
+    ensures { λ r. ⌜ numbered r ≡ orElse (numbered clear) (clearSpot g (reads (now (image .entry))) (n ∷ [])) ⌝ }
 {
-    if let Seen::At(_) = clear {
+    if clear != 0 {
         return clear;
     }
     let size = word_of(image, g, n, SIZE) as usize;
     let place = clear_place(image, g, n);
     if place < size {
-        return Seen::At(Spot { node: n, place });
+        return 64 * n + place + 1;
     }
-    Seen::Nothing
+    0
 }
 
 // The walk along a frame's path, from a node on. It goes to the path's end also where it has found both places: a malformed node
@@ -122,8 +137,8 @@ pub fn walk(image: &[u64], g: Geometry, level: u64, n: usize, frame: u64, print:
 {
     let mut n = n;
     let mut level = level;
-    let mut found = Seen::Nothing;
-    let mut clear = Seen::Nothing;
+    let mut found: usize = 0;
+    let mut clear: usize = 0;
     loop {
         if !well_formed(image, g, level, n) {
             return Trail::Malformed;
@@ -135,8 +150,8 @@ pub fn walk(image: &[u64], g: Geometry, level: u64, n: usize, frame: u64, print:
                 return Trail::Ended {
                     node: n,
                     level,
-                    found,
-                    clear,
+                    found: seen_by(found),
+                    clear: seen_by(clear),
                 };
             }
             Step::Down(below) => {

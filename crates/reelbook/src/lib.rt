@@ -22,6 +22,7 @@ use operations::hand_over::hand_over;
 use operations::hand_over::hand_over_fresh;
 use operations::hand_over::hand_over_head;
 use operations::head_words::read_heads;
+use operations::head_words::state_of;
 use reels::list;
 use reels::open;
 use reels::retire;
@@ -123,7 +124,7 @@ pub extern "C" fn reelbook_fill(
         (buffers [] (now (script .entry)) []))
         ⌝ }
 {
-    let answer = targets::fill(image, read_heads(heads), script, head);
+    let answer = targets::fill(image, state_of(heads, head), script, head);
     hand_over_head(answer, heads, head, used)
 }
 
@@ -144,7 +145,7 @@ pub extern "C" fn reelbook_commit(
         (buffers [] (now (script .entry)) []))
         ⌝ }
 {
-    let answer = targets::commit(image, read_heads(heads), script, head);
+    let answer = targets::commit(image, state_of(heads, head), script, head);
     hand_over_head(answer, heads, head, used)
 }
 
@@ -165,7 +166,7 @@ pub extern "C" fn reelbook_abandon(
         (buffers [] (now (script .entry)) []))
         ⌝ }
 {
-    let answer = targets::abandon(image, read_heads(heads), script, head);
+    let answer = targets::abandon(image, state_of(heads, head), script, head);
     hand_over_head(answer, heads, head, used)
 }
 

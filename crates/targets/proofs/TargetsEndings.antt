@@ -26,7 +26,9 @@ use Rattle.book.specs.Checks.{outside, refusals}
 use Rattle.book.specs.Perform.{fillScript, bitOn, bitOff, writing, putHead, granted, leaves, clears}
 use Rattle.book.proofs.HeadState.{the-type}
 use Rattle.book.proofs.Refusals.{passed-all, refused-here, refused-later}
+use Rattle.operations.specs.HeadLists.{headsIn, stateIn}
 use Rattle.operations.specs.Ends.{Buffers, buffers, ended, countIn, found, ends}
+use Rattle.operations.proofs.HeadRecords.{state-read}
 use Rattle.operations.proofs.ScriptWords.{words-of}
 use Rattle.operations.proofs.Passed.{Checked, same-checks}
 use Rattle.operations.proofs.Tested.{Tested, refused-past, done-past}
@@ -77,6 +79,10 @@ module _ (s : State) (script : List ℕ) (h : ℕ) (y : HeadState) (read : headA
     work = refl;
     hands = λ w. refl;
   })
+
+-- the state that the code is given is the one in the driver's words
+pub given-state : (ws : List ℕ) (h : ℕ) {y : HeadState} → stateIn (headsIn ws) h ≡ y → h < headCount → headAt ws h ≡ y
+given-state ws h e l = sym (state-read ws (headsIn ws) h refl l) ∙ e
 
 -- ---- the ways through the code
 

@@ -1,6 +1,5 @@
-// Fill, Commit and Abandon: what becomes of the place that a head has claimed.
+// Fill, Commit and Abandon: what becomes of the place that a head has claimed. Each gets that head's state alone.
 ghost use mathlib.Core.Path.{_≡_};
-ghost use mathlib.Core.Bool.{cond, not};
 ghost use mathlib.Core.List.{List, [], _∷_};
 ghost use Prim.Native.Nat.{ℕ, _≤_, _<_};
 ghost use lib.ListN.{length};
@@ -8,14 +7,12 @@ ghost use Rattle.tree.specs.Memory.{segmented, written, reads};
 ghost use Rattle.tree.specs.Test.{holds};
 ghost use Rattle.tree.specs.Layout.{Sized, setAt, locateAt};
 ghost use Rattle.tree.specs.Fingerprint.{ruleOf};
-ghost use Rattle.book.specs.Heads.{headCount, isIdle, isFilled, targetOf};
 ghost use Rattle.book.specs.State.{fill, commit, abandon};
 ghost use Rattle.book.specs.Checks.{outside};
 ghost use Rattle.book.specs.Perform.{fillScript, bitOn, bitOff};
-ghost use Rattle.operations.specs.HeadLists.{headsIn, headAnswerOf, headCountOf, headsAfter};
-ghost use Rattle.operations.specs.Ends.{buffers, state, ended, ends};
+ghost use Rattle.operations.specs.HeadLists.{headsIn, stateIn, headAnswerOf, headCountOf, headsAfter};
+ghost use Rattle.operations.specs.Ends.{buffers, state as kept, ended, ends};
 use book::HEADS;
-use book::Head;
 use book::HeadState;
 use book::Target;
 use nodes::fingerprint::fingerprint_word;
@@ -24,7 +21,6 @@ use operations::answer::Refusal;
 use operations::checks::Buffer;
 use operations::checks::Verdict;
 use operations::checks::checks;
-use operations::heads::state_in;
 use tree::layout::FINGERPRINTS;
 use tree::layout::FRAMES;
 use tree::layout::Geometry;
@@ -96,13 +92,13 @@ fn put_abandon(image: &[u64], g: Geometry, script: &mut [u64], t: Target)
     put_fenced(script, at, bits);
 }
 
-pub fn fill(image: &[u64], heads: [Head; HEADS], script: &mut [u64], head: u64) -> HeadAnswer
+pub fn fill(image: &[u64], state: HeadState, script: &mut [u64], head: u64) -> HeadAnswer
     ensures { λ r. ⌜
         ((pool ws : List ℕ)
-        → headsIn ws ≡ heads
-        → ended (headAnswerOf r) (headCountOf r) (state (now (image .entry)) pool (headsAfter ws head r))
+        → stateIn (headsIn ws) head ≡ state
+        → ended (headAnswerOf r) (headCountOf r) (kept (now (image .entry)) pool (headsAfter ws head r))
         (buffers [] (now (script .exit)) [])
-        ≡ ends (fill (length (now (script .entry))) head) (state (now (image .entry)) pool ws)
+        ≡ ends (fill (length (now (script .entry))) head) (kept (now (image .entry)) pool ws)
         (buffers [] (now (script .entry)) []))
         ⌝ }
 {
@@ -118,7 +114,7 @@ pub fn fill(image: &[u64], heads: [Head; HEADS], script: &mut [u64], head: u64) 
     if HEADS as u64 <= head {
         return HeadAnswer::Refused(Refusal::HeadNumber);
     }
-    let HeadState::Claimed(t) = state_in(heads, head as usize) else {
+    let HeadState::Claimed(t) = state else {
         return HeadAnswer::Refused(Refusal::HeadState);
     };
     if is_outside(g, t) {
@@ -128,13 +124,13 @@ pub fn fill(image: &[u64], heads: [Head; HEADS], script: &mut [u64], head: u64) 
     HeadAnswer::Done(8, HeadState::Filled(t))
 }
 
-pub fn commit(image: &[u64], heads: [Head; HEADS], script: &mut [u64], head: u64) -> HeadAnswer
+pub fn commit(image: &[u64], state: HeadState, script: &mut [u64], head: u64) -> HeadAnswer
     ensures { λ r. ⌜
         ((pool ws : List ℕ)
-        → headsIn ws ≡ heads
-        → ended (headAnswerOf r) (headCountOf r) (state (now (image .entry)) pool (headsAfter ws head r))
+        → stateIn (headsIn ws) head ≡ state
+        → ended (headAnswerOf r) (headCountOf r) (kept (now (image .entry)) pool (headsAfter ws head r))
         (buffers [] (now (script .exit)) [])
-        ≡ ends (commit (length (now (script .entry))) head) (state (now (image .entry)) pool ws)
+        ≡ ends (commit (length (now (script .entry))) head) (kept (now (image .entry)) pool ws)
         (buffers [] (now (script .entry)) []))
         ⌝ }
 {
@@ -150,7 +146,7 @@ pub fn commit(image: &[u64], heads: [Head; HEADS], script: &mut [u64], head: u64
     if HEADS as u64 <= head {
         return HeadAnswer::Refused(Refusal::HeadNumber);
     }
-    let HeadState::Filled(t) = state_in(heads, head as usize) else {
+    let HeadState::Filled(t) = state else {
         return HeadAnswer::Refused(Refusal::HeadState);
     };
     if is_outside(g, t) {
@@ -160,13 +156,13 @@ pub fn commit(image: &[u64], heads: [Head; HEADS], script: &mut [u64], head: u64
     HeadAnswer::Done(4, HeadState::Idle)
 }
 
-pub fn abandon(image: &[u64], heads: [Head; HEADS], script: &mut [u64], head: u64) -> HeadAnswer
+pub fn abandon(image: &[u64], state: HeadState, script: &mut [u64], head: u64) -> HeadAnswer
     ensures { λ r. ⌜
         ((pool ws : List ℕ)
-        → headsIn ws ≡ heads
-        → ended (headAnswerOf r) (headCountOf r) (state (now (image .entry)) pool (headsAfter ws head r))
+        → stateIn (headsIn ws) head ≡ state
+        → ended (headAnswerOf r) (headCountOf r) (kept (now (image .entry)) pool (headsAfter ws head r))
         (buffers [] (now (script .exit)) [])
-        ≡ ends (abandon (length (now (script .entry))) head) (state (now (image .entry)) pool ws)
+        ≡ ends (abandon (length (now (script .entry))) head) (kept (now (image .entry)) pool ws)
         (buffers [] (now (script .entry)) []))
         ⌝ }
 {
@@ -182,7 +178,7 @@ pub fn abandon(image: &[u64], heads: [Head; HEADS], script: &mut [u64], head: u6
     if HEADS as u64 <= head {
         return HeadAnswer::Refused(Refusal::HeadNumber);
     }
-    let t = match state_in(heads, head as usize) {
+    let t = match state {
         HeadState::Idle => return HeadAnswer::Refused(Refusal::HeadState),
         HeadState::Claimed(t) => t,
         HeadState::Filled(t) => t,

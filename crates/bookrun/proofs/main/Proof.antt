@@ -38,6 +38,7 @@ main-spec =
     (λ c κs. (search needs, search needs))
     (λ c. search needs)
     (λ c. search needs)
+    (λ c. search needs)
     (λ c. (search needs, search needs, search needs, search needs))
     (λ c. search needs)
     (λ c. search needs)

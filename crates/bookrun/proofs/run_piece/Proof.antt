@@ -39,10 +39,16 @@ run-piece-spec =
     inside
     (λ c. sym (length-take-le _ _ (inside (c .before))))
     (λ c κs. search needs)
-    (λ c. let w = went-on (c .before .before .before .before .before .before .before .before .before .before .before .before) in
-    omega (arith, w .1 (c .before .before .before .before .before .before .before .before .before .before .before .before .before .before .loop-test .taken)))
-    (λ c. let w = went-on (c .before .before .before .before .before .before .before .before .before .before .before .before) in
-    let l = c .before .before .before .before .before .before .before .before .before .before .before .before .before .before .before .loop .inv in
+    (λ c. search needs)
+    (λ c. search needs)
+    (λ c. let w = went-on (c .before .before .before .before .before .before .before .before .before .before .before .before .before) in
+    let l = c .before .before .before .before .before .before .before .before .before .before .before .before .before .before .before .before .loop .inv in
+    w .3 ∙ l .2)
+    (λ c. search needs)
+    (λ c. let w = went-on (c .before .before .before .before .before .before .before .before .before .before .before .before .before) in
+    omega (arith, w .1 (c .before .before .before .before .before .before .before .before .before .before .before .before .before .before .before .loop-test .taken)))
+    (λ c. let w = went-on (c .before .before .before .before .before .before .before .before .before .before .before .before .before) in
+    let l = c .before .before .before .before .before .before .before .before .before .before .before .before .before .before .before .before .loop .inv in
     (search needs, w .0, w .3 ∙ l .2, search needs, search needs))
     (λ c. let w = went-on (c .before .before .before) in
     omega (arith, w .1 (c .before .before .before .before .before .loop-test .taken)))

@@ -13,14 +13,14 @@ hand-over-head-requires c κs =
     let done = c .before .before .before .before in
     let a = done .before .before .before .before .before .before .args in
     head-inside (OfHead.abandons {script = length (a .script .now)}) (state (a .image .now) [] (a .heads .now)) (buffers [] (a .script .now) []) (done .abandon .result)
-    (done .abandon .ensures [] (a .heads .now) (sym (done .before .before .read-heads .ensures)))
+    (done .abandon .ensures [] (a .heads .now) (sym (done .before .before .state-of .ensures)))
 
 returns : tie.Need-returns
 returns c pool =
     let done = c .before .before .before .before .before in
     let over = c .hand-over-head .ensures in
     let heads = done .before .before .before .before .before .before .args .heads in
-    rw (over .0, over .1, over .2) (done .abandon .ensures pool (heads .now) (sym (done .before .before .read-heads .ensures)))
+    rw (over .0, over .1, over .2) (done .abandon .ensures pool (heads .now) (sym (done .before .before .state-of .ensures)))
 
 pub reelbook-abandon-spec : {M : Type 1} → statement M
 reelbook-abandon-spec =

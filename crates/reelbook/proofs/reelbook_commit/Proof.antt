@@ -13,14 +13,14 @@ hand-over-head-requires c κs =
     let done = c .before .before .before .before in
     let a = done .before .before .before .before .before .before .args in
     head-inside (OfHead.commits {script = length (a .script .now)}) (state (a .image .now) [] (a .heads .now)) (buffers [] (a .script .now) []) (done .commit .result)
-    (done .commit .ensures [] (a .heads .now) (sym (done .before .before .read-heads .ensures)))
+    (done .commit .ensures [] (a .heads .now) (sym (done .before .before .state-of .ensures)))
 
 returns : tie.Need-returns
 returns c pool =
     let done = c .before .before .before .before .before in
     let over = c .hand-over-head .ensures in
     let heads = done .before .before .before .before .before .before .args .heads in
-    rw (over .0, over .1, over .2) (done .commit .ensures pool (heads .now) (sym (done .before .before .read-heads .ensures)))
+    rw (over .0, over .1, over .2) (done .commit .ensures pool (heads .now) (sym (done .before .before .state-of .ensures)))
 
 pub reelbook-commit-spec : {M : Type 1} → statement M
 reelbook-commit-spec =

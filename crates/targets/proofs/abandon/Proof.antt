@@ -2,18 +2,15 @@ use mathlib.Core.Path.{_≡_, refl, sym, _∙_}
 use mathlib.Core.Bool.{false}
 use mathlib.Core.Logic.{⊎-elim}
 use mathlib.Core.Option.{none, some}
-use mathlib.Core.List.{List, []}
-use Prim.Native.Nat.{ℕ}
+use mathlib.Core.List.{[]}
 use native.Mathlib.Omega.{arith}
-use Rattle.book.specs.Heads.{headAt, isIdle, targetOf}
+use Rattle.book.specs.Heads.{isIdle, targetOf}
 use Rattle.book.specs.Checks.{outside}
 use Rattle.book.proofs.Refusals.{denies}
-use Rattle.operations.specs.HeadLists.{headsIn}
 use Rattle.operations.specs.Ends.{buffers, state}
 use Rattle.operations.proofs.Passed.{Checked, all-checked}
 use Rattle.operations.proofs.Tested.{check-bad}
-use Rattle.operations.proofs.HeadRecords.{state-read}
-use Rattle.targets.proofs.TargetsEndings.{on-abandon, number-bad, state-bad, target-bad, all-done, bit-words}
+use Rattle.targets.proofs.TargetsEndings.{on-abandon, given-state, number-bad, state-bad, target-bad, all-done, bit-words}
 use borrow.Author.Needs.{needs}
 use Rattle.targets.proofs.abandon.Statement.{statement}
 use Rattle.targets.proofs.abandon.Tie as tie
@@ -27,14 +24,6 @@ fine c =
     let a = told .before .before .before .args in
     all-checked (a .image .now) none none (some (a .script .now)) (told .checks .ensures) (c .before .g .given .1)
 
--- the state that the code has read is the one in the driver's words
-read-from : (c : tie.After-state-in) (ws : List ℕ)
-    → let a = c .before .before .before .before .before .before .before .before .args in
-    headsIn ws ≡ a .heads → headAt ws (a .head) ≡ c .state-in .result
-read-from c ws e =
-    let a = c .before .before .before .before .before .before .before .before .args in
-    sym (state-read ws (a .heads) (a .head) e (c .before .if1 .left)) ∙ sym (c .state-in .ensures)
-
 returns : tie.Need-returns
 returns c pool ws e =
     let told = c .before .before .before in
@@ -47,25 +36,28 @@ returns-2 c pool ws e = number-bad (on-abandon (state _ pool ws) _ _ _ refl) (fi
 
 returns-3 : tie.Need-returns-3
 returns-3 c pool ws e =
-    let read = c .before .before in
-    state-bad (on-abandon (state _ pool ws) _ _ _ (read-from read ws e ∙ c .enum-told .given .1)) (fine (read .before .before)) (read .before .if1 .left) refl
+    let numbered = c .before .before in
+    let l = numbered .if1 .left in
+    state-bad (on-abandon (state _ pool ws) _ _ _ (given-state ws _ e l ∙ c .enum-told .given .1)) (fine (numbered .before)) l
+    refl
 
 -- claimed or filled, the head is not idle, and the target is its own
-aimed : (c : tie.At-match2-came) → (isIdle (c .before .state-in .result) ≡ false) × (c .match2 .t ≡ targetOf (c .before .state-in .result))
+aimed : (c : tie.At-match2-came)
+    → let y = c .before .before .before .before .before .before .before .before .args .state in
+    (isIdle y ≡ false) × (c .match2 .t ≡ targetOf y)
 aimed c = ⊎-elim (λ w. rw (w .1 .given .1) (refl, w .3)) (λ w. rw (w .1 .given .1) (refl, w .3)) (c .match2 .came)
 
 returns-4 : tie.Need-returns-4
 returns-4 c pool ws e =
     let met = c .before .before in
-    let read = met .before in
-    target-bad (on-abandon (state _ pool ws) _ _ _ (read-from read ws e))
-    (fine (read .before .before)) (read .before .if1 .left) (aimed met .0)
+    let l = met .before .if1 .left in
+    target-bad (on-abandon (state _ pool ws) _ _ _ (given-state ws _ e l)) (fine (met .before .before)) l (aimed met .0)
     (rw (← aimed met .1) (sym (c .before .is-outside .ensures) ∙ c .if2 .taken))
 
 put-abandon-requires : tie.Need-put-abandon-requires
 put-abandon-requires c κs =
     let met = c .before .before .before in
-    let checked = met .before .before .before in
+    let checked = met .before .before in
     let p = fine checked in
     let d = denies (outside (checked .before .g .given .0 .0) (met .match2 .t)) (sym (c .before .before .is-outside .ensures) ∙ c .before .if2 .left) in
     (p .sized, d .0, d .1, omega arith)
@@ -74,9 +66,9 @@ returns-5 : tie.Need-returns-5
 returns-5 c pool ws e =
     let inside = c .before .before .before .before in
     let met = inside .before .before in
-    let read = met .before in
-    all-done (on-abandon (state _ pool ws) _ _ _ (read-from read ws e))
-    (fine (read .before .before)) (read .before .if1 .left) 4 (c .before .before .put-abandon .last .1 .1 .0) (aimed met .0)
+    let l = met .before .if1 .left in
+    all-done (on-abandon (state _ pool ws) _ _ _ (given-state ws _ e l))
+    (fine (met .before .before)) l 4 (c .before .before .put-abandon .last .1 .1 .0) (aimed met .0)
     (rw (← aimed met .1) (sym (inside .before .is-outside .ensures) ∙ inside .if2 .left)) (bit-words _)
     (rw (← aimed met .1) (c .before .before .put-abandon .ensures))
 
@@ -89,7 +81,6 @@ abandon-spec =
     (λ c. search needs)
     returns
     returns-2
-    (λ c κs. search needs)
     (λ c. search needs)
     returns-3
     (λ c. search needs)

@@ -1,17 +1,13 @@
-use mathlib.Core.Path.{_≡_, refl, sym, _∙_}
+use mathlib.Core.Path.{refl, sym, _∙_}
 use mathlib.Core.Option.{none, some}
-use mathlib.Core.List.{List, []}
-use Prim.Native.Nat.{ℕ}
+use mathlib.Core.List.{[]}
 use native.Mathlib.Omega.{arith}
-use Rattle.book.specs.Heads.{headAt}
 use Rattle.book.specs.Checks.{outside}
 use Rattle.book.proofs.Refusals.{denies}
-use Rattle.operations.specs.HeadLists.{headsIn}
 use Rattle.operations.specs.Ends.{buffers, state}
 use Rattle.operations.proofs.Passed.{Checked, all-checked}
 use Rattle.operations.proofs.Tested.{check-bad}
-use Rattle.operations.proofs.HeadRecords.{state-read}
-use Rattle.targets.proofs.TargetsEndings.{on-fill, number-bad, state-bad, target-bad, all-done, not-claimed, fill-words}
+use Rattle.targets.proofs.TargetsEndings.{on-fill, given-state, number-bad, state-bad, target-bad, all-done, not-claimed, fill-words}
 use borrow.Author.Needs.{needs}
 use Rattle.targets.proofs.fill.Statement.{statement}
 use Rattle.targets.proofs.fill.Tie as tie
@@ -25,14 +21,6 @@ fine c =
     let a = told .before .before .before .args in
     all-checked (a .image .now) none none (some (a .script .now)) (told .checks .ensures) (c .before .g .given .1)
 
--- the state that the code has read is the one in the driver's words
-read-from : (c : tie.After-state-in) (ws : List ℕ)
-    → let a = c .before .before .before .before .before .before .before .before .args in
-    headsIn ws ≡ a .heads → headAt ws (a .head) ≡ c .state-in .result
-read-from c ws e =
-    let a = c .before .before .before .before .before .before .before .before .args in
-    sym (state-read ws (a .heads) (a .head) e (c .before .if1 .left)) ∙ sym (c .state-in .ensures)
-
 returns : tie.Need-returns
 returns c pool ws e =
     let told = c .before .before .before in
@@ -45,32 +33,36 @@ returns-2 c pool ws e = number-bad (on-fill (state _ pool ws) _ _ _ refl) (fine 
 
 returns-3 : tie.Need-returns-3
 returns-3 c pool ws e =
-    let read = c .before in
-    state-bad (on-fill (state _ pool ws) _ _ _ (read-from read ws e)) (fine (read .before .before))
-    (read .before .if1 .left) (not-claimed (read .state-in .result) (c .match2 .keys2))
+    let a = c .before .before .before .before .before .before .before .before .args in
+    let l = c .before .if1 .left in
+    state-bad (on-fill (state _ pool ws) _ _ _ (given-state ws _ e l)) (fine (c .before .before)) l
+    (not-claimed (a .state) (c .match2 .keys2))
 
 returns-4 : tie.Need-returns-4
 returns-4 c pool ws e =
     let taken = c .before .before .before in
-    let read = taken .before .before in
-    target-bad (on-fill (state _ pool ws) _ _ _ (read-from read ws e ∙ taken .t .given .1))
-    (fine (read .before .before)) (read .before .if1 .left) refl (sym (c .before .is-outside .ensures) ∙ c .if2 .taken)
+    let numbered = taken .before .before in
+    let l = numbered .if1 .left in
+    target-bad (on-fill (state _ pool ws) _ _ _ (given-state ws _ e l ∙ taken .state .given .1)) (fine (numbered .before)) l
+    refl (sym (c .before .is-outside .ensures) ∙ c .if2 .taken)
 
 put-fill-requires : tie.Need-put-fill-requires
 put-fill-requires c κs =
     let taken = c .before .before .before .before in
-    let checked = taken .before .before .before .before in
+    let checked = taken .before .before .before in
     let p = fine checked in
-    let d = denies (outside (checked .before .g .given .0 .0) (taken .t .given .0 .0)) (sym (c .before .before .is-outside .ensures) ∙ c .before .if2 .left) in
+    let within = sym (c .before .before .is-outside .ensures) ∙ c .before .if2 .left in
+    let d = denies (outside (checked .before .g .given .0 .0) (taken .state .given .0 .0)) within in
     (p .sized, d .0, d .1, omega arith)
 
 returns-5 : tie.Need-returns-5
 returns-5 c pool ws e =
     let inside = c .before .before .before .before in
     let taken = inside .before .before .before in
-    let read = taken .before .before in
-    all-done (on-fill (state _ pool ws) _ _ _ (read-from read ws e ∙ taken .t .given .1))
-    (fine (read .before .before)) (read .before .if1 .left) 8 (c .before .before .put-fill .last .1 .1 .0) refl
+    let numbered = taken .before .before in
+    let l = numbered .if1 .left in
+    all-done (on-fill (state _ pool ws) _ _ _ (given-state ws _ e l ∙ taken .state .given .1))
+    (fine (numbered .before)) l 8 (c .before .before .put-fill .last .1 .1 .0) refl
     (sym (inside .before .is-outside .ensures) ∙ inside .if2 .left) (fill-words _ _ _ _) (c .before .before .put-fill .ensures)
 
 pub fill-spec : {M : Type 1} → statement M
@@ -82,7 +74,6 @@ fill-spec =
     (λ c. search needs)
     returns
     returns-2
-    (λ c κs. search needs)
     (λ c. search needs)
     returns-3
     (λ c κs. search needs)

@@ -8,10 +8,10 @@ pub finish-spec : {M : Type 1} → statement M
 finish-spec =
     tie.close
     (tie.spec
-    (λ c. sym (length-take-le _ _ (c .before .before .before .pre)))
+    (λ c. sym (length-take-le _ _ (c .before .before .before .before .pre)))
     (λ c κs. search needs)
+    (λ c. sym (length-take-le _ _ (c .before .before .before .before .before .before .before .before .pre)))
     (λ c κs. search needs)
-    (λ c. sym (length-take-le _ _ (c .before .before .before .before .before .before .before .pre)))
     (λ c κs. search needs)
     (λ c. search needs)
     (λ c. search needs))

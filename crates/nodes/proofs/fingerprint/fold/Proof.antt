@@ -3,6 +3,7 @@ use Prim.Native.Nat.{_-_, _≤_}
 use native.Mathlib.Omega.{arith}
 use borrow.Author.Needs.{needs}
 use Rattle.tree.specs.Fingerprint.{fingerprint, editionOne, folded, tableEntry}
+use Rattle.tree.proofs.Fingerprints.{table-at, table-length}
 use Rattle.nodes.proofs.NodeCode.{folded-small, entry-inside, folded-step}
 use Rattle.nodes.proofs.fingerprint.fold.Statement.{statement}
 use Rattle.nodes.proofs.fingerprint.fold.Tie as tie
@@ -18,12 +19,16 @@ unfolding folded
 loop-holds c = (search needs, refl)
 
 inside : tie.Need-shared-slice-read-h Inv-loop μ-loop
-inside c = let l = c .before .before .before in entry-inside (l .before .before .pre) _ _ (l .loop .inv .1) (c .before .byte-of .ensures)
+inside c =
+    let l = c .before .before .before in
+    rw (l .before .before .pre, table-length) (entry-inside _ _ (l .loop .inv .1) (c .before .byte-of .ensures))
 
 loop-again : tie.Need-loop-again Inv-loop μ-loop
 loop-again c =
     let l = c .before .before .before in
-    (search needs, folded-step (l .before .before .pre) _ _ (l .loop .inv .1) (c .before .byte-of .ensures))
+    let h = l .loop .inv .1 in
+    let b = c .before .byte-of .ensures in
+    (search needs, folded-step _ _ h b (rw (l .before .before .pre) (table-at _ (entry-inside _ _ h b))))
 
 fits : tie.Need-cast-h Inv-loop μ-loop
 fits c = let l = folded-small _ _ (loop-again c .1) in search needs

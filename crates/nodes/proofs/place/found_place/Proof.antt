@@ -2,10 +2,11 @@ use Prim.Native.Nat.{_<_}
 use native.Mathlib.Omega.{arith}
 use lib.Count.{trailingZeros}
 use borrow.Author.Needs.{needs}
+use borrow.Author.Tests.{not-true}
 use Rattle.memory.specs.Words.{reads as readsWords}
 use Rattle.memory.proofs.Laws.{lowest-in, lowest-set, lowest-taken}
 use Rattle.nodes.proofs.NodeCode.{fingerprint-small}
-use Rattle.nodes.proofs.Places.{Seeking, seek-all, seek-found, seek-on, seek-end}
+use Rattle.nodes.proofs.Places.{Seeking, seek-none, seek-all, seek-found, seek-on, seek-end}
 use Rattle.nodes.proofs.place.found_place.Statement.{statement}
 use Rattle.nodes.proofs.place.found_place.Tie as tie
 
@@ -36,12 +37,12 @@ less c = rw (c .without-bit .ensures) (lowest-taken _ (c .before .loop-test .tak
 loop-again : tie.Need-loop-again Inv-loop μ-loop
 loop-again c =
     let l = c .before .before .before .before .loop in
-    rw (c .before .before .without-bit .ensures) (seek-found _ _ _ _ _ _ _ (l .inv) (c .before .is-match .ensures) (c .if1 .taken))
+    rw (c .before .before .without-bit .ensures) (seek-found _ _ _ _ _ _ _ (l .inv) (c .before .is-match .ensures) (c .if2 .taken))
 
 loop-again-2 : tie.Need-loop-again-2 Inv-loop μ-loop
 loop-again-2 c =
     let l = c .before .before .before .before .loop in
-    rw (c .before .before .without-bit .ensures) (seek-on _ _ _ _ _ _ _ (l .inv) (c .before .is-match .ensures) (c .if1 .left))
+    rw (c .before .before .without-bit .ensures) (seek-on _ _ _ _ _ _ _ (l .inv) (c .before .is-match .ensures) (c .if2 .left))
 
 pub found-place-spec : {M : Type 1} → statement M
 found-place-spec =
@@ -49,9 +50,11 @@ found-place-spec =
     (tie.spec
     Inv-loop
     μ-loop
+    (λ c κs. (search needs, search needs, fingerprint-small _ (c .before .pre .2)))
+    (λ c. seek-none _ _ _ _ _ (c .before .before .before .pre .2) (c .before .has-print .ensures (not-true _ (c .if1 .taken))))
     (λ c κs. search needs)
-    (λ c κs. (search needs, search needs, fingerprint-small _ (c .before .before .pre .2)))
-    (λ c. seek-all _ _ _ _ _ _ (c .candidates .ok) (c .before .before .before .pre .2) (c .candidates .ensures))
+    (λ c κs. (search needs, search needs, fingerprint-small _ (c .before .before .before .before .pre .2)))
+    (λ c. seek-all _ _ _ _ _ _ (c .candidates .ok) (c .before .before .before .before .before .pre .2) (c .candidates .ensures))
     (λ c. search (needs, low c))
     (λ c. search (needs, low c))
     (λ c. search (needs, low c))

@@ -33,7 +33,7 @@ slot-of-spec =
     Inv-loop
     μ-loop
     (λ c κs. search needs)
-    (λ c. (c .passed-in-fours .ensures .1, c .passed-in-fours .ensures .0))
+    (λ c. (c .passed-in-eights .ensures .1, c .passed-in-eights .ensures .0))
     (λ c κs. search needs)
     returns
     (λ c. search needs)

@@ -9,7 +9,7 @@ use Rattle.tree.specs.Fingerprint.{editionOne}
 use Rattle.tree.specs.Node.{wellFormed}
 use Rattle.tree.specs.Lookup.{lookup, clearSpot}
 use Rattle.tree.proofs.Nodes.{wellFormed-facts, size-most}
-use Rattle.paths.specs.Descent.{spotOf, Along}
+use Rattle.paths.specs.Descent.{numbered, Along}
 use Rattle.paths.proofs.PathSteps.{node-inside, along-start, along-malformed, along-end, along-down, lookups, clears, found-more, found-none}
 use Rattle.paths.proofs.Trails.{trail-malformed, trail-end}
 use Rattle.paths.proofs.descent.walk.Statement.{statement}
@@ -18,7 +18,7 @@ use Rattle.paths.proofs.descent.walk.Tie as tie
 abbrev Inv-loop : tie.InvT-loop
 Inv-loop image g start first frame print n₀ level₀ found₀ clear₀ n level found clear =
     let m = readsWords image in
-    (ns : List ℕ) × (Along g m start first frame ns level n × (spotOf found ≡ lookup editionOne g m frame ns) × (spotOf clear ≡ clearSpot g m ns))
+    (ns : List ℕ) × (Along g m start first frame ns level n × (numbered found ≡ lookup editionOne g m frame ns) × (numbered clear ≡ clearSpot g m ns))
 
 abbrev μ-loop : tie.MeasureT-loop
 μ-loop image g start first frame print n₀ level₀ found₀ clear₀ n level found clear = 32 - level
@@ -37,13 +37,13 @@ returns c =
 
 returns-2 : tie.Need-returns-2 Inv-loop μ-loop
 returns-2 c =
-    let e = c in
+    let e = c .before .before in
     let s = e .before .before in
     let l = s .before .before .before .before .before .loop in
     trail-end (l .inv .1 .0)
     (along-end (l .inv .1 .0) (formed (s .before .before .before)) (s .step-from .ensures) (e .enum-told .given .1))
-    (found-more (lookups _ _ _) _ _ (l .inv .1 .1) (s .before .before .found-on .ensures))
-    (found-more (clears _ _) _ _ (l .inv .1 .2) (s .before .clear-on .ensures))
+    (c .before .seen-by .ensures ∙ found-more (lookups _ _ _) _ _ (l .inv .1 .1) (s .before .before .found-on .ensures))
+    (c .seen-by2 .ensures ∙ found-more (clears _ _) _ _ (l .inv .1 .2) (s .before .clear-on .ensures))
 
 loop-again : tie.Need-loop-again Inv-loop μ-loop
 loop-again c =
@@ -70,6 +70,8 @@ walk-spec =
     (λ c κs. let w = wellFormed-facts _ _ _ _ .0 (formed (c .before)) in let k = size-most w in search needs)
     (λ c κs. let h = formed (c .before .before) in search needs)
     (λ c. search needs)
+    (λ c κs. search needs)
+    (λ c κs. search needs)
     returns-2
     (λ c. search needs)
     (λ c. search needs)

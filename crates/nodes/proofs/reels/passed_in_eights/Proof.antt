@@ -2,15 +2,14 @@ use Prim.Native.Nat.{ℕ, _≤_, _-_}
 use borrow.Author.Count.{below-none}
 use borrow.Author.Needs.{needs}
 use borrow.Author.Tests.{not-false}
-use mathlib.Core.Path.{sym, _∙_}
 use Rattle.memory.specs.Words.{reads as readsWords}
 use Rattle.memory.specs.Laws.{NoneBelow}
 use Rattle.tree.specs.Slots.{filled}
 use Rattle.tree.specs.Test.{is, eq, _and_, holds}
 use Rattle.tree.specs.Layout.{reelAt}
-use Rattle.nodes.proofs.ReelCode.{past-four}
-use Rattle.nodes.proofs.reels.passed_in_fours.Statement.{statement}
-use Rattle.nodes.proofs.reels.passed_in_fours.Tie as tie
+use Rattle.nodes.proofs.ReelCode.{past-eight}
+use Rattle.nodes.proofs.reels.passed_in_eights.Statement.{statement}
+use Rattle.nodes.proofs.reels.passed_in_eights.Tie as tie
 
 abbrev Inv-loop : tie.InvT-loop
 Inv-loop image g reel s₀ s = (s ≤ g .slots) × NoneBelow (λ (k : ℕ). holds (is (filled (readsWords image) k) and eq (readsWords image (reelAt k)) reel)) s
@@ -18,8 +17,8 @@ Inv-loop image g reel s₀ s = (s ≤ g .slots) × NoneBelow (λ (k : ℕ). hold
 abbrev μ-loop : tie.MeasureT-loop
 μ-loop image g reel s₀ s = g .slots - s
 
-pub passed-in-fours-spec : {M : Type 1} → statement M
-passed-in-fours-spec =
+pub passed-in-eights-spec : {M : Type 1} → statement M
+passed-in-eights-spec =
     tie.close
     (tie.spec
     Inv-loop
@@ -27,9 +26,12 @@ passed-in-fours-spec =
     (λ c. (search needs, below-none _))
     (λ c. search needs)
     (λ c κs. search needs)
-    (λ c. c .before .before .before .before .loop .inv)
+    (λ c. search needs)
+    (λ c κs. search needs)
+    (λ c. c .before .before .before .before .before .loop .inv)
     (λ c. search needs)
     (λ c. search needs)
     (λ c.
-    (search needs, past-four _ _ _ (c .before .before .before .before .loop .inv .1) (sym (c .before .none-of-four .ensures) ∙ not-false _ (c .if2 .left))))
+    let l = c .before .before .before .before .before .loop in
+    (search needs, past-eight _ _ _ (l .inv .1) (c .before .before .none-of-four .ensures) (c .before .none-of-four2 .ensures) (not-false _ (c .if2 .left))))
     (λ c. c .before .before .loop .inv))

@@ -3,7 +3,7 @@ use mathlib.Core.Path.{_≡_, refl, sym, _∙_}
 use mathlib.Core.Bool.{Bool, true, false, _&&_}
 use mathlib.Core.Logic.{inl, inr, _↔_}
 use mathlib.Core.List.{List}
-use Prim.Native.Nat.{ℕ, _<_}
+use Prim.Native.Nat.{ℕ, _*_, _<_}
 use native.Mathlib.Omega.{arith}
 use native.Mathlib.Decide.{ℕ-discrete}
 use lib.Count.{trailingZeros}
@@ -64,6 +64,8 @@ module _ (g : Geometry) (m : Memory) (n : ℕ) where
   met-more rest p {map} a = record {
     bits = pool-laws .length-mark map _ ∙ a .bits;
     each = λ q l h.
-        let marks = pool-laws .marks map (fingerprint editionOne (frame g m n p)) (fingerprint editionOne (frame g m n q)) (omega (arith, a .bits, fingerprint-small (frame g m n p) refl)) .1 in
+        let print = fingerprint editionOne (frame g m n p) in
+        let fits : print < 64 * length map = omega (arith, a .bits, fingerprint-small (frame g m n p) refl) in
+        let marks = pool-laws .marks map print (fingerprint editionOne (frame g m n q)) fits .1 in
         elim (ℕ-discrete q p) [ yes e ↦ marks (inl (rw e refl)) | no d ↦ marks (inr (a .each q (sym (bit-laws .without-keeps rest p q d) ∙ l) h)) ];
   }

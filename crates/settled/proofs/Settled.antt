@@ -104,7 +104,8 @@ module _ {g : Geometry} {m : Memory} {s : ℕ} (a : SoundTree g m s) (b : Filled
     lowest : foundAt editionOne g m f n ≡ p
     absent : Absent f (length w)
 
-  -- what the test of a place says, that holds its frame; and the test holds where all of the node's places with that frame are settled
+  -- where a place holds its frame: it is settled if the test holds, and the test holds if each place of the node that holds the
+  -- frame is settled
   settled-at : (left : ℕ) {w : List ℕ} {n p : ℕ} → left + length w ≡ levels → Holds g m s w n p (frame g m n p)
       → (settledAt g m left (length w) n (suffixOf w) p ≡ true → Settled w n p (frame g m n p))
       × (((q : ℕ) → Holds g m s w n q (frame g m n p) → Settled w n q (frame g m n p)) → settledAt g m left (length w) n (suffixOf w) p ≡ true)
@@ -125,18 +126,11 @@ module _ {g : Geometry} {m : Memory} {s : ℕ} (a : SoundTree g m s) (b : Filled
         λ l. let i = l p x in
             let r = subst (λ v. Reaches g m s v n) (i .on-path) (x .there) in
             let own = found-holds f (length w) n r (rw (i .lowest) (x .place)) .1 in
-            said t (
-              way .1 (i .on-path),
-              (
-                rw (i .lowest) at own,
-                (
-                  none-lower g m n f p (λ q k o e.
-                      let z = l q (record { there = x .there; place = omega (arith, x .place); set = o; is = e }) .lowest in
-                      omega (arith, z, i .lowest)),
-                  below (i .on-path) .1 (i .absent),
-                ),
-              ),
-            ),
+            let lone : first (holdsAt g m n f) p ≡ p =
+            none-lower g m n f p (λ q k o e.
+            let z = l q (record { there = x .there; place = omega (arith, x .place); set = o; is = e }) .lowest in
+            omega (arith, z, i .lowest)) in
+            said t (way .1 (i .on-path), (rw (i .lowest) at own, (lone, below (i .on-path) .1 (i .absent)))),
       )
 
   -- where the lookup finds each frame where it is held, each is settled

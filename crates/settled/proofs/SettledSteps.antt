@@ -4,7 +4,7 @@ use mathlib.Core.Bool.{Bool, true, false, not, _&&_}
 use mathlib.Core.Logic.{_≢_, inl, inr}
 use mathlib.Core.Option.{Option, none, some}
 use mathlib.Core.List.{List, []}
-use Prim.Native.Nat.{ℕ, zero, suc, _+_, _-_, _%_, _^_, _≤_, _<_}
+use Prim.Native.Nat.{ℕ, zero, suc, _+_, _-_, _^_, _≤_, _<_}
 use native.Mathlib.Omega.{arith}
 use native.Mathlib.Decide.{decLt}
 use lib.Bits.{bitAnd, and-mask}
@@ -29,7 +29,6 @@ use Rattle.tree.proofs.Nodes.{children-inside}
 use Rattle.tree.proofs.Laws.{child-laws, node-laws}
 use Rattle.paths.specs.declared.descent.Step.{Step}
 use Rattle.paths.specs.declared.descent.Step.the-variants.{End, Down}
-use Rattle.paths.specs.declared.descent.Trail.{Trail}
 use Rattle.paths.specs.Descent.{stepFrom, trailOn, trailFrom}
 use Rattle.visits.specs.Walk.{groupStops, formedAt}
 use Rattle.settled.specs.Settled.{Formed, isAbsent, absentBelow, holdsAt, settledAt, settledNode}
@@ -80,12 +79,13 @@ module _ (g : Geometry) (m : Memory) where
     absent-before : (n : ℕ) (o : Option (List ℕ)) → absentOn (before n o) ≡ leb 64 (foundAt editionOne g m f n) && absentOn o
     unfolding lookup firstSpot
     absent-before n o = elim (decLt (foundAt editionOne g m f n) 64) [
-      | yes l ↦ rw (lt-leb 64 (foundAt editionOne g m f n) l) (elim (seen o) [ nothing q ↦ rw q refl | just ns q ↦ rw (q, lt-ltb (foundAt editionOne g m f n) 64 l) refl ])
+      | yes l ↦
+          rw (lt-leb 64 (foundAt editionOne g m f n) l)
+          (elim (seen o) [ nothing q ↦ rw q refl | just ns q ↦ rw (q, lt-ltb (foundAt editionOne g m f n) 64 l) refl ])
       | no l ↦
-          rw (le-leb 64 (foundAt editionOne g m f n) (omega arith)) (elim (seen o) [
-            | nothing q ↦ rw q refl
-            | just ns q ↦ rw (q, le-ltb (foundAt editionOne g m f n) 64 (omega arith)) refl
-          ])
+          let h : 64 ≤ foundAt editionOne g m f n = omega arith in
+          rw (le-leb 64 (foundAt editionOne g m f n) h)
+          (elim (seen o) [ nothing q ↦ rw q refl | just ns q ↦ rw (q, le-ltb (foundAt editionOne g m f n) 64 h) refl ])
     ]
 
     -- the path from a node known to be formed with all below it is there
@@ -127,29 +127,35 @@ module _ (g : Geometry) (m : Memory) where
 
   -- ---- the frame of a place
 
-  module _ (left d n x p unit f : ℕ) (e : unit ≡ 2 ^ bitsTo d) (is : f ≡ frame g m n p) where
-    masked : bitAnd f (unit - 1) ≡ f % 2 ^ bitsTo d
-    masked = rw e (and-mask f (bitsTo d))
+  -- a place as it is read: the unit of its level, its frame, the fingerprint stored and the one due
+  pub record Place (d n p unit f stored print : ℕ) : Type 0 where
+    pub unit-is : unit ≡ 2 ^ bitsTo d
+    pub frame-is : f ≡ frame g m n p
+    pub stored-is : stored ≡ storedFingerprint g m n p
+    pub print-is : print ≡ fingerprint editionOne f
+
+  module _ (left x : ℕ) {d n p unit f stored print : ℕ} (a : Place d n p unit f stored print) where
+    tested : settledAt g m left d n x p
+        ≡ eqb (bitAnd f (unit - 1)) x && (eqb stored print && (eqb (first (holdsAt g m n f) p) p && absentBelow g m left d n f))
+    unfolding settledAt
+    tested = rw (a .unit-is, a .stored-is, a .print-is, a .frame-is, and-mask (frame g m n p) (bitsTo d)) refl
 
     pub off-path : (bitAnd f (unit - 1) ≡ x → ⊥) → false ≡ settledAt g m left d n x p
-    unfolding settledAt
-    off-path o = rw (← is, ne-eqb (f % 2 ^ bitsTo d) x (rw masked at o)) refl
+    off-path o = rw (tested, ne-eqb (bitAnd f (unit - 1)) x o) refl
 
-    module _ (on : bitAnd f (unit - 1) ≡ x) {stored print : ℕ} (own : stored ≡ storedFingerprint g m n p) (right : print ≡ fingerprint editionOne f) where
+    module _ (on : bitAnd f (unit - 1) ≡ x) where
       pub wrong-print : (stored ≡ print → ⊥) → false ≡ settledAt g m left d n x p
-      unfolding settledAt
-      wrong-print o = rw (← is, eq-eqb (f % 2 ^ bitsTo d) x (sym masked ∙ on), ← own, ← right, ne-eqb stored print o) refl
+      wrong-print o = rw (tested, eq-eqb (bitAnd f (unit - 1)) x on, ne-eqb stored print o) refl
 
-      module _ (same : stored ≡ print) where
+      module _ (right : stored ≡ print) where
+        passed : settledAt g m left d n x p ≡ eqb (first (holdsAt g m n f) p) p && absentBelow g m left d n f
+        passed = rw (tested, eq-eqb (bitAnd f (unit - 1)) x on, eq-eqb stored print right) refl
+
         pub held-before : {q : ℕ} → q ≡ first (holdsAt g m n f) p → (q ≡ p → ⊥) → false ≡ settledAt g m left d n x p
-        unfolding settledAt
-        held-before {q} at o =
-            rw (← is, eq-eqb (f % 2 ^ bitsTo d) x (sym masked ∙ on), ← own, ← right, eq-eqb stored print same, ← at, ne-eqb q p o) refl
+        held-before {q} e o = rw (passed, ← e, ne-eqb q p o) refl
 
         pub first-here : {r : Bool} → first (holdsAt g m n f) p ≡ p → r ≡ absentBelow g m left d n f → r ≡ settledAt g m left d n x p
-        unfolding settledAt
-        first-here o a =
-            a ∙ rw (← is, eq-eqb (f % 2 ^ bitsTo d) x (sym masked ∙ on), ← own, ← right, eq-eqb stored print same, eq-eqb (first (holdsAt g m n f) p) p o) refl
+        first-here o e = e ∙ rw (passed, eq-eqb (first (holdsAt g m n f) p) p o) refl
 
 -- ---- a test at each set bit of a word, the lowest first
 

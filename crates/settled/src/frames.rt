@@ -115,12 +115,13 @@ fn settled_at(
     let n = t.node;
     let frame = frame_of(image, g, n, p);
     let print = fold(table, frame);
+    let stored = byte_of(fingerprints_of(image, g, n, p / 8), (p % 8) as u32);
     let again = is_used(met, print as usize);
     mark(met, print as usize);
     if frame & (t.unit - 1) != t.suffix {
         return false;
     }
-    if byte_of(fingerprints_of(image, g, n, p / 8), (p % 8) as u32) != print {
+    if stored != print {
         return false;
     }
     if again && first_held(image, g, n, frame, p) != p {

@@ -14,8 +14,10 @@ absent-below-spec =
     (λ c. search needs)
     (λ c. search needs)
     (λ c. search needs)
-    (λ c κs. let pre = c .before .before .before .before .before .pre in (pre .0, told-below _ _ _ (pre .1) (c .before .before .before .step-from .ensures) (c .before .below .given .1) .0, pre .2))
+    (λ c κs. let pre = c .before .before .before .before .before .pre in
+    (pre .0, told-below _ _ _ (pre .1) (c .before .before .before .step-from .ensures) (c .before .below .given .1) .0, pre .2))
     (λ c κs. search needs)
     (λ c. told-below _ _ _ (c .before .before .before .before .pre .1) (c .before .before .step-from .ensures) (c .enum-told .given .1))
     (λ c. c .is-absent .ensures ∙ ap isAbsent (c .before .walk .ensures)
-    ∙ told-below _ _ _ (c .before .before .before .before .before .before .before .pre .1) (c .before .before .before .before .before .step-from .ensures) (c .before .before .before .below .given .1) .1))
+    ∙ told-below _ _ _ (c .before .before .before .before .before .before .before .pre .1)
+    (c .before .before .before .before .before .step-from .ensures) (c .before .before .before .below .given .1) .1))

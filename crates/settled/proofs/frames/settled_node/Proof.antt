@@ -42,7 +42,8 @@ settled-node-spec =
     (λ c. search (needs, low c))
     (λ c κs. let start = c .before .before .before .before .before .before .pre in (start .0, start .1, low (c .before), start .2, met-lower _ _ _ _ (c .before .before .loop .inv .2)))
     (λ c. let l = c .before .before .before .before .loop in
-    bits-stop _ (l .rest) (c .before .before .before .loop-test .taken) (l .inv .0) (c .before .settled-at .ensures .0) (c .if1 .taken) ∙ l .inv .1)
+    let o = c .before .before .before .loop-test .taken in
+    bits-stop _ (l .rest) o (l .inv .0) (c .before .settled-at .ensures .0) (c .if1 .taken) ∙ l .inv .1)
     (λ c κs. low (c .before .before .before))
     (λ c. let l = c .before .before .before .before .before .loop in
     rw (c .without-bit .ensures) (omega (arith, ap length (places-next (l .rest) (c .before .before .before .before .loop-test .taken) (l .inv .0)))))

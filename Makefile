@@ -7,12 +7,9 @@ CXX ?= c++
 CFLAGS ?= -O2
 WARNINGS = -std=c99 -Wall -Wextra -Wpedantic -Wshadow -Wconversion -Werror
 LIBRARY = build/libreelbook.a
-<<<<<<< HEAD
+BOOKRUN = target/bin/bookrun
 # rt with its temporary files in memory: tests/temporary.sh says why
 RT = TMPDIR="$$(tests/temporary.sh)" rt
-=======
-BOOKRUN = target/bin/bookrun
->>>>>>> bookrun
 # every crate but the programs, so that none is forgotten; `rt` itself proves only what the library uses and what has changed
 PROGRAMS = $(patsubst %/src/main.rt,%,$(wildcard crates/*/src/main.rt))
 RATTLE_SOURCES = crates.txt $(shell find $(filter-out $(PROGRAMS),$(wildcard crates/*)) -name '*.rt' -o -name '*.antt')
@@ -78,11 +75,6 @@ test:
 	rt fmt --check
 	python3 tests/unused.py
 	@mkdir -p build
-<<<<<<< HEAD
 	@{ $(RT) ci && echo 0 >build/ci.status || echo 1 >build/ci.status; } 2>&1 | tee build/ci.log; read status <build/ci.status; exit $$status
-	$(MAKE) --no-print-directory check-header check-archive check-stores check-tool check-install faults fuzz
-=======
-	@{ rt ci && echo 0 >build/ci.status || echo 1 >build/ci.status; } 2>&1 | tee build/ci.log; read status <build/ci.status; exit $$status
 	$(MAKE) --no-print-directory check-header check-archive check-stores check-bookrun check-tool check-install faults fuzz
->>>>>>> bookrun
 	@tail -n 1 build/ci.log

@@ -9,7 +9,7 @@ WARNINGS = -std=c99 -Wall -Wextra -Wpedantic -Wshadow -Wconversion -Werror
 LIBRARY = build/libreelbook.a
 BOOKRUN = target/bin/bookrun
 # rt with its temporary files in memory: tests/temporary.sh says why
-RT = TMPDIR="$$(tests/temporary.sh)" rt
+RT = TMPDIR="$$(sh tests/temporary.sh)" rt
 # every crate but the programs, so that none is forgotten; `rt` itself proves only what the library uses and what has changed
 PROGRAMS = $(patsubst %/src/main.rt,%,$(wildcard crates/*/src/main.rt))
 RATTLE_SOURCES = crates.txt $(shell find $(filter-out $(PROGRAMS),$(wildcard crates/*)) -name '*.rt' -o -name '*.antt')

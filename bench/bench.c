@@ -1,5 +1,5 @@
 /* bench MEMORY DISK TABLE FRAMES [quick]: measures the reel book, its floors and other stores. MEMORY and DISK are folders for
- * their files, TABLE is the file for the table that other programs read. Quick: the book in memory, C by hand and the floor alone. */
+ * their files, TABLE is the file for the table that other programs read. Quick: in memory the book, C by hand and the floor. */
 #define _GNU_SOURCE /* for sched_setaffinity */
 #include "report.h"
 

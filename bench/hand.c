@@ -124,11 +124,15 @@ static struct path walk(struct hand *h, struct node *n, uint64_t frame) {
 }
 
 static size_t free_run(const struct book *b, unsigned count) {
-    for (size_t start = 0, length = 0, n = 0; n < NODES; n++) {
+    for (size_t length = 0, n = 0; n < NODES; n++) {
+        if (n % 64 == 0 && b->map[n / 64] == UINT64_MAX) {
+            length = 0;
+            n += 63;
+            continue;
+        }
         length = b->map[n / 64] >> n % 64 & 1 ? 0 : length + 1;
-        start = length == 1 ? n : start;
         if (length == count)
-            return start;
+            return n + 1 - count;
     }
     fail("C by hand", "no free run");
 }

@@ -3,10 +3,11 @@
 # one. A check writes some 200 MB in 4,000 files and takes them away again, which on a disk can take longer than its proofs.
 folder=/dev/shm
 usual=${TMPDIR:-/tmp}
-needed=4194304 # KiB, for four checks at a time
-free=$(df -Pk "$folder" 2>/dev/null | awk 'NR == 2 { print $4 }')
+needed=8388608 # KiB: four checks at a time, with their files and what they hold themselves
+room=$(df -Pk "$folder" 2>/dev/null | awk 'NR == 2 { print $4 }')
+memory=$(awk '$1 == "MemAvailable:" { print $2 }' /proc/meminfo 2>/dev/null)
 trial=
-if [ "${free:-0}" -ge "$needed" ] && trial=$(mktemp "$folder/XXXXXX" 2>/dev/null) &&
+if [ "${room:-0}" -ge "$needed" ] && [ "${memory:-0}" -ge "$needed" ] && trial=$(mktemp "$folder/XXXXXX" 2>/dev/null) &&
     printf '#!/bin/sh\n' >"$trial" && chmod u+x "$trial" && "$trial" 2>/dev/null; then
     echo "$folder"
 else

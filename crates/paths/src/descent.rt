@@ -83,8 +83,8 @@ pub fn step_from(image: &[u64], g: Geometry, level: u64, n: usize, frame: u64) -
     Step::Down(next - 1 + child(level, frame) as usize)
 }
 
-// While a walk goes on, what it has seen is a number, which takes one register: 0 for nothing, else one more than the place's among
-// all places of the pool, 64 × node + place.
+// While a walk goes on, what it has seen is a number, which takes one register: 0 for nothing, else one more than the
+// place's among all places of the pool, 64 × node + place.
 fn seen_by(number: usize) -> Seen
     ensures { λ r. ⌜ spotOf r ≡ numbered number ⌝ }
 {

@@ -5,7 +5,8 @@ LD_LIBRARY_PATH=$(pkg-config --variable=libdir reelbook) python3 book.py"""
 
 import ctypes
 
-SCRIPT_WORDS, HEADS_WORDS, BARRIER = 50, 4 * 5, 2**64 - 1
+HEADS, HEAD_WORDS = 4, 5
+SCRIPT_WORDS, HEADS_WORDS, BARRIER = 50, HEADS * HEAD_WORDS, 2**64 - 1
 SLICE = [ctypes.POINTER(ctypes.c_uint64), ctypes.c_size_t]
 ARRAY = COUNT = [ctypes.POINTER(ctypes.c_uint64)]
 NUMBER = [ctypes.c_uint64]

@@ -24,8 +24,8 @@
 #error "reelbook: x86-64 with a size_t of 64 bits and the System V calling convention (Linux) only"
 #endif
 
-/* The version of this header, and of the library beside which it is installed. With another major number the interface is another:
- * a program has to be compiled anew, and the shared object has another name. */
+/* The version of this header, and of the library beside which it is installed. With another major number the interface is
+ * another: a program has to be compiled anew, and the shared object has another name. */
 #define REELBOOK_VERSION_MAJOR 2
 #define REELBOOK_VERSION_MINOR 0
 #define REELBOOK_VERSION_PATCH 0

@@ -199,6 +199,10 @@ keep_old() {
 # An interrupt, as the text has not ended yet, leaves nothing.
 interrupt_load() {
     for signal in TERM HUP; do # a shell's background has no INT
+        if (sh -c "kill -$signal \$\$"; exit $?) 2>/dev/null; then
+            echo "skipped: load interrupted by $signal, because it is ignored here, as below nohup"
+            continue
+        fi
         rm -f pipe
         mkfifo pipe
         "$tool" load loads/new <pipe >interrupted 2>&1 &

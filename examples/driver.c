@@ -33,7 +33,7 @@ static uint64_t open_reel(struct book *b, uint64_t reel) {
                                       &b->used));
 }
 
-/* The frame is held when this answers 0. Between the three calls other reels may be worked on, with other heads. */
+/* The frame is held when this answers 0. Between the three calls other heads may be at work, in this reel too. */
 static uint64_t add(struct book *b, uint64_t reel, uint64_t frame) {
     uint64_t answer = carry_out(b, reelbook_claim(b->image, b->image_words, b->map, b->map_words, b->heads, b->script,
                                                   REELBOOK_SCRIPT_WORDS, 0, reel, frame, &b->used));

@@ -27,9 +27,9 @@
 /* The version of this header, and of the library beside which it is installed. With another major number the interface is
  * another: a program has to be compiled anew, and the shared object has another name. */
 #define REELBOOK_VERSION_MAJOR 2
-#define REELBOOK_VERSION_MINOR 0
+#define REELBOOK_VERSION_MINOR 1
 #define REELBOOK_VERSION_PATCH 0
-#define REELBOOK_VERSION "2.0.0"
+#define REELBOOK_VERSION "2.1.0"
 
 #ifdef __cplusplus
 extern "C" {
@@ -50,7 +50,7 @@ enum {
     REELBOOK_NOT_HELD = 10,    /* the reel does not hold the frame */
     REELBOOK_BAD_HEAD = 11,    /* no such head */
     REELBOOK_WRONG_STATE = 12, /* the head is in another state than the operation needs */
-    REELBOOK_BUSY = 13,        /* a head that is not idle is about this reel */
+    REELBOOK_BUSY = 13,        /* another head has this frame or is at this node (Claim); a claim is open in this reel (else) */
     REELBOOK_LIST_SHORT = 14   /* the list has too little room */
 };
 
@@ -107,7 +107,7 @@ static inline const char *reelbook_answer_text(uint64_t answer) {
     case REELBOOK_NOT_HELD: return "not held";
     case REELBOOK_BAD_HEAD: return "no such head";
     case REELBOOK_WRONG_STATE: return "the head is in another state";
-    case REELBOOK_BUSY: return "a head is about this reel";
+    case REELBOOK_BUSY: return "an open claim is in the way";
     case REELBOOK_LIST_SHORT: return "the list has too little room";
     default: return "unknown answer";
     }
@@ -139,8 +139,11 @@ uint64_t reelbook_recover(uint64_t *image, size_t image_words, uint64_t *map, si
 uint64_t reelbook_open(const uint64_t *image, size_t image_words, uint64_t *map, size_t map_words, uint64_t *script,
                        size_t script_words, uint64_t reel, uint64_t *used);
 
-/* Takes a place for a frame. Refusals 1, 2, 3, 11, 12 unless the head is idle, 5, 13, 4, 9, 8. The head is claimed; new nodes are
- * marked in the map. The frame is not held before its commit, and a claim that a power failure cuts short leaves no frame. */
+/* Takes a place for a frame. Refusals 1, 2, 3, 11, 12 unless the head is idle, 5, 4, 9, 13, 8. 13 is for another head that has a
+ * claim open in this reel, with the same frame, or at the very node in which this claim would take its place: not at a full node
+ * that would get children, and at none if there are no free nodes for these. Other heads may be at work in the reel. The head is
+ * claimed; new nodes are marked in the map. The frame is not held before its commit, and a claim that a power failure cuts short
+ * leaves no frame. */
 uint64_t reelbook_claim(const uint64_t *image, size_t image_words, uint64_t *map, size_t map_words,
                         uint64_t heads[REELBOOK_HEADS_WORDS], uint64_t *script, size_t script_words, uint64_t head, uint64_t reel,
                         uint64_t frame, uint64_t *used);
@@ -158,7 +161,7 @@ uint64_t reelbook_commit(const uint64_t *image, size_t image_words, uint64_t hea
 uint64_t reelbook_abandon(const uint64_t *image, size_t image_words, uint64_t heads[REELBOOK_HEADS_WORDS], uint64_t *script,
                           size_t script_words, uint64_t head, uint64_t *used);
 
-/* Takes a frame out of its reel. Refusals 1, 2, 3, 5, 13, 4, 10. */
+/* Takes a frame out of its reel. Refusals 1, 2, 3, 5, 13 while a claim is open in the reel, 4, 10. */
 uint64_t reelbook_remove(const uint64_t *image, size_t image_words, const uint64_t heads[REELBOOK_HEADS_WORDS], uint64_t *script,
                          size_t script_words, uint64_t reel, uint64_t frame, uint64_t *used);
 
@@ -170,8 +173,8 @@ uint64_t reelbook_has(const uint64_t *image, size_t image_words, uint64_t reel, 
 uint64_t reelbook_list(const uint64_t *image, size_t image_words, uint64_t *scratch, size_t scratch_words, uint64_t *list,
                        size_t list_words, uint64_t reel, uint64_t *count);
 
-/* Takes a reel out with all its frames; its nodes become free in the map. Refusals 1, 2, 3, 5, 13, 4. The scratch map is all 0
- * after any end but 1, 2 or 3. */
+/* Takes a reel out with all its frames; its nodes become free in the map. Refusals 1, 2, 3, 5, 13 while a claim is open in the
+ * reel, 4. The scratch map is all 0 after any end but 1, 2 or 3. */
 uint64_t reelbook_retire(const uint64_t *image, size_t image_words, uint64_t *map, size_t map_words,
                          const uint64_t heads[REELBOOK_HEADS_WORDS], uint64_t *scratch, size_t scratch_words, uint64_t *script,
                          size_t script_words, uint64_t reel, uint64_t *used);

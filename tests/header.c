@@ -161,10 +161,14 @@ static void check_refusals_of_heads(void) {
     equal(book_fill(&b, 0), REELBOOK_WRONG_STATE, "REELBOOK_WRONG_STATE");
     equal(book_claim(&b, 0, 7, 100), REELBOOK_DONE, "claim");
     equal(book_claim(&b, 0, 8, 100), REELBOOK_WRONG_STATE, "REELBOOK_WRONG_STATE");
-    equal(book_claim(&b, 1, 7, 101), REELBOOK_BUSY, "REELBOOK_BUSY");
+    equal(book_claim(&b, 1, 7, 2), REELBOOK_FRAME_HELD, "a held frame before REELBOOK_BUSY");
+    equal(book_claim(&b, 1, 7, 102), REELBOOK_BUSY, "REELBOOK_BUSY for the node");
+    equal(book_claim(&b, 1, 7, 101), REELBOOK_DONE, "claim in another node of the reel");
     equal(book_remove(&b, 7, 1), REELBOOK_BUSY, "REELBOOK_BUSY");
     equal(book_retire(&b, 7), REELBOOK_BUSY, "REELBOOK_BUSY");
     equal(book_abandon(&b, 0), REELBOOK_DONE, "abandon");
+    equal(book_remove(&b, 7, 1), REELBOOK_BUSY, "REELBOOK_BUSY for one of two claims");
+    equal(book_abandon(&b, 1), REELBOOK_DONE, "abandon");
     equal(book_abandon(&b, REELBOOK_HEADS), REELBOOK_BAD_HEAD, "REELBOOK_BAD_HEAD");
     book_free(&b);
 }
@@ -208,7 +212,7 @@ static void check_refusals_of_images(void) {
 static void check_version(void) {
     char version[64];
     equal(REELBOOK_VERSION_MAJOR, 2, "REELBOOK_VERSION_MAJOR");
-    equal(REELBOOK_VERSION_MINOR, 0, "REELBOOK_VERSION_MINOR");
+    equal(REELBOOK_VERSION_MINOR, 1, "REELBOOK_VERSION_MINOR");
     equal(REELBOOK_VERSION_PATCH, 0, "REELBOOK_VERSION_PATCH");
     snprintf(version, sizeof version, "%d.%d.%d", REELBOOK_VERSION_MAJOR, REELBOOK_VERSION_MINOR, REELBOOK_VERSION_PATCH);
     same_text(REELBOOK_VERSION, version, "REELBOOK_VERSION");
@@ -220,7 +224,7 @@ static void check_texts(void) {
         "done", "the image's length or numbers are wrong", "the image is of another edition", "a buffer has the wrong length",
         "the tree is malformed", "no such reel", "the reel is open already", "no empty reel slot",
         "not enough adjacent free nodes", "held already", "not held", "no such head", "the head is in another state",
-        "a head is about this reel", "the list has too little room", "unknown answer"};
+        "an open claim is in the way", "the list has too little room", "unknown answer"};
     uint64_t answer;
     equal(sizeof texts / sizeof texts[0], REELBOOK_LIST_SHORT + 2, "a text for each answer, and one for any other");
     for (answer = 0; answer < sizeof texts / sizeof texts[0]; answer++) {

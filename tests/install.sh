@@ -118,10 +118,16 @@ prints() { # FILE EXPECTED COMPILER
     same "examples/$1, with the archive" "$(cd "$work" && "./$name-static")" "$2"
 }
 
+program() { # PAGE NUMBER: of those in C
+    awk -v wanted="$2" '/^```/ { inside = /^```c$/; number += inside; next } inside && number == wanted' "$1"
+}
+
 try_examples() {
     prints first.c 'format: done
 open: done, 18 words of script' "$cc"
     prints driver.c 'answer 0, held' "$cc"
+    prints heads.c '200 frames: done; head 1 had to wait 32 times
+the same frame twice: held already (9)' "$cc"
     prints book.cpp 'reel 7: 12 5 900
 frame 5: held already (9)' "$cxx"
     cp examples/book.py "$work"
@@ -130,9 +136,16 @@ power lost, stores kept: frame 13 is held after entry 7 of 8
 power lost, stores lost: frame 13 is held after entry 8 of 8'
     checks=$((checks + 1))
     for page in README.md:first.c docs/DRIVER.md:driver.c; do
-        sed -n '/^```c$/,/^```$/ { /^```/ !p; }' "${page%%:*}" | cmp - "examples/${page##*:}" ||
-            fail "the program in ${page%%:*} is not examples/${page##*:}"
+        program "${page%%:*}" 1 | cmp - "examples/${page##*:}" || fail "the program in ${page%%:*} is not examples/${page##*:}"
     done
+    same 'programs in the pages' "$(grep -c '^```c$' README.md docs/DRIVER.md)" 'README.md:1
+docs/DRIVER.md:2'
+    case $(cat examples/heads.c) in
+    *"
+$(program docs/DRIVER.md 2)
+"*) ;;
+    *) fail 'the second program in docs/DRIVER.md is not a part of examples/heads.c' ;;
+    esac
 }
 
 # A header that the compiler reads as the page has it, and each of the tool's commands.

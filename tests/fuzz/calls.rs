@@ -124,6 +124,7 @@ impl Case {
         match function {
             Function::Fill | Function::Commit | Function::Abandon if lending.random.one_in(2) => lending.heads(function),
             Function::Claim if lending.random.one_in(2) => lending.lent.heads.fill(0),
+            Function::Claim if lending.random.one_in(2) => lending.rivals(call),
             _ if lending.random.one_in(8) => lending.heads(function),
             _ => (),
         }

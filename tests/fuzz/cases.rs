@@ -1,10 +1,12 @@
 //! The specification's own cases, with its numbers, so that library and model do not merely agree with each other.
+use crate::crash::Crash;
 use crate::model::buffer::Buffer;
 use crate::model::call::{Call, Function, Function::*, Lent};
 use crate::model::image::*;
-use crate::model::node::{FINGERPRINTS, LOCATE, SIZE_AT};
-use crate::model::script::{self, BARRIER, SCRIPT_WORDS};
+use crate::model::node::{FINGERPRINTS, LOCATE, SET, SIZE_AT};
+use crate::model::script::{self, Entry, BARRIER, SCRIPT_WORDS};
 use crate::subject::Subject;
+use std::collections::BTreeSet;
 
 /// What every word holds before it is written, so that no result is there already.
 const JUNK: u64 = 0x5a5a_5a5a_5a5a_5a5a;
@@ -12,6 +14,7 @@ const JUNK: u64 = 0x5a5a_5a5a_5a5a_5a5a;
 /// Answer, node and place of a claim.
 type Claimed = (u64, u64, u64);
 
+#[derive(Clone)]
 struct Book {
     subject: Subject,
     lent: Lent,
@@ -40,15 +43,31 @@ impl Book {
     }
 
     fn call_with(&mut self, head: u64, function: Function, reel: u64, frame: u64) -> (u64, u64, u64) {
-        let call = Call { function, slots: 0, nodes: 0, head, reel, frame };
-        let (answer, count) = self.subject.perform(&call, &mut self.lent, JUNK);
+        let (answer, count, entries) = self.hold(head, function, reel, frame);
         if answer != 0 || matches!(function, Has | List) {
             return (answer, 0, count);
         }
-        let used = (count as usize).min(SCRIPT_WORDS);
-        let entries = script::read(&self.lent.script[..used]);
         script::carry_out(&mut self.lent.image, &entries);
         (answer, entries.iter().filter(|&&entry| entry != BARRIER).count() as u64, 0)
+    }
+
+    /// Answer, count, and the entries handed out, which are not carried out.
+    fn hold(&mut self, head: u64, function: Function, reel: u64, frame: u64) -> (u64, u64, Vec<Entry>) {
+        let call = Call { function, slots: 0, nodes: 0, head, reel, frame };
+        let (answer, count) = self.subject.perform(&call, &mut self.lent, JUNK);
+        let scripted = answer == 0 && !matches!(function, Has | List | Recover);
+        let used = if scripted { (count as usize).min(SCRIPT_WORDS) } else { 0 };
+        (answer, count, script::read(&self.lent.script[..used]))
+    }
+
+    /// The answers of claims in reel 7, by head and frame.
+    fn claims(&mut self, claims: &[(u64, u64)]) -> Vec<u64> {
+        claims.iter().map(|&(head, frame)| self.call_with(head, Claim, 7, frame).0).collect()
+    }
+
+    fn frames(&mut self, reel: u64) -> BTreeSet<u64> {
+        let (_, _, count) = self.call(List, reel, 0);
+        self.lent.list.iter().copied().take(count as usize).collect()
     }
 
     fn add(&mut self, reel: u64, frame: u64) -> Claimed {
@@ -142,6 +161,87 @@ fn four_heads(subject: Subject) -> bool {
     answers == [0, 0, 0, 0, 11, 11] && open && recovered && locates(&book) == [0; 6]
 }
 
+/// Reel 7 with frames from 0 on.
+fn reel_7(subject: Subject, slots: u64, nodes: u64, frames: u64) -> Book {
+    let mut book = Book::formatted(subject, slots, nodes);
+    book.call(Open, 7, 0);
+    for frame in 0..frames {
+        book.add(7, frame);
+    }
+    book
+}
+
+/// The root is full. Head 0 branches out, head 1 is in the other child. Head 2 finds the node of 66 taken, and the frame 64; that
+/// 9 is held comes first. Remove and Retire wait until no claim is open.
+fn heads_in_one_reel(subject: Subject) -> bool {
+    let mut book = reel_7(subject, 1, 3, 64);
+    let claims = book.claims(&[(0, 64), (1, 65), (2, 66), (2, 64), (2, 9)]) == [0, 0, 13, 13, 9];
+    let records = [[1, 0, 1, 0, 64], [1, 0, 2, 0, 65], [0; 5], [0; 5]].concat() == book.lent.heads[..];
+    let mut taken_out = Vec::new();
+    for head in 0..3 {
+        taken_out.push((book.call(Remove, 7, 9).0, book.call(Retire, 7, 0).0));
+        book.call_with(head, Abandon, 0, 0);
+    }
+    claims && records && taken_out == [(13, 13), (13, 13), (0, 0)]
+}
+
+/// Head 0 is at the root, claimed or filled, with places left there or before a scale-up: another frame is held (9), the same one
+/// (13), or in its node (13).
+fn heads_at_the_root(subject: Subject) -> bool {
+    let mut small = reel_7(subject, 1, 1, 1);
+    let mut doubled = reel_7(subject, 1, 1, 15);
+    let first = (small.claims(&[(0, 1)]), doubled.claims(&[(0, 15)]));
+    small.call_with(0, Fill, 0, 0);
+    let second = (small.claims(&[(1, 0), (1, 1), (1, 2)]), doubled.claims(&[(1, 14), (1, 15), (1, 16)]));
+    first == (vec![0], vec![0]) && second == (vec![9, 13, 13], vec![9, 13, 13])
+}
+
+/// 63 frames are held and head 0 has the last place of the root, which does not hinder a branch-out below it. Without a run a
+/// claim uses no node.
+fn below_a_claim(subject: Subject) -> bool {
+    let mut large = reel_7(subject, 1, 3, 63);
+    let mut small = reel_7(subject, 1, 1, 63);
+    let answers = (large.claims(&[(0, 63), (1, 63), (1, 64)]), small.claims(&[(0, 63), (1, 64), (1, 63)]));
+    answers == (vec![0, 13, 0], vec![0, 8, 13]) && Head::read(&large.lent.heads, 1).node == 1
+}
+
+/// Two claims in reel 7 and two elsewhere: every crash in a branch-out below a claim, in a fill, in a commit, in an abandon.
+fn crashes_with_two_in_one_reel(subject: Subject) -> bool {
+    let mut book = reel_7(subject, 3, 5, 63);
+    let opened = [8, 9].iter().all(|&reel| book.call(Open, reel, 0).0 == 0);
+    let claims = [(0, 7, 63), (2, 8, 12), (3, 9, 13)];
+    let claimed = claims.iter().all(|&(head, reel, frame)| book.call_with(head, Claim, reel, frame).0 == 0);
+    let calls = [(1, Claim, 64), (0, Fill, 0), (1, Fill, 0), (0, Commit, 0), (1, Abandon, 0)];
+    let crashed = calls.iter().all(|&(head, function, frame)| every_crash(&mut book, head, function, frame));
+    opened && claimed && crashed && book.frames(7) == (0..64).collect()
+}
+
+/// Makes a call in reel 7. True if after every crash in its script the frames are those of before, or those of after; no head is
+/// at work, no place claimed.
+fn every_crash(book: &mut Book, head: u64, function: Function, frame: u64) -> bool {
+    let mut before = book.clone();
+    let (answer, _, entries) = book.hold(head, function, 7, frame);
+    script::carry_out(&mut book.lent.image, &entries);
+    let contents = |book: &mut Book| [7, 8, 9].map(|reel| book.frames(reel));
+    let allowed = [contents(&mut before), contents(&mut book.clone())];
+    let is_recovered = |image: Buffer, passed: bool| {
+        let mut crashed = before.clone();
+        crashed.lent.image = image;
+        crashed.lent.map.fill(JUNK);
+        crashed.lent.heads.fill(JUNK);
+        let recovered = crashed.call(Recover, 0, 0).0 == 0 && crashed.lent.heads[..] == [0; 20];
+        let listed = allowed[usize::from(passed)..].contains(&contents(&mut crashed));
+        let used = |&node: &u64| is_used(&crashed.lent.map, node);
+        let clear = |node: u64| crashed.node_word(node, LOCATE) == crashed.node_word(node, SET);
+        recovered && listed && (0..crashed.lent.image[2]).filter(used).all(clear)
+    };
+    let crash_after = |cut: usize| {
+        let crash = Crash::after(&before.lent.image, &entries[..cut]);
+        (0..crash.mixtures()).all(|number| is_recovered(crash.mixture(number), cut == entries.len()))
+    };
+    answer == 0 && (0..=entries.len()).all(crash_after)
+}
+
 fn case_a(subject: Subject) -> bool {
     let mut book = Book::formatted(subject, 4, 16);
     let calls = [(Open, 7, 0), (Claim, 7, 12), (Fill, 0, 0), (Commit, 0, 0), (List, 7, 0), (Has, 7, 13), (Retire, 8, 0)];
@@ -159,6 +259,10 @@ pub fn check(name: &str, subject: Subject) -> bool {
         ("growth in a pool of three", growth(subject, 3)),
         ("two free nodes but no run", no_run(subject)),
         ("four heads", four_heads(subject)),
+        ("several heads in one reel", heads_in_one_reel(subject)),
+        ("several heads at the root", heads_at_the_root(subject)),
+        ("a branch-out below a claim", below_a_claim(subject)),
+        ("crashes with two claims in one reel", crashes_with_two_in_one_reel(subject)),
         ("case A", case_a(subject)),
     ];
     for (case, _) in results.iter().filter(|(_, right)| !right) {

@@ -1,10 +1,34 @@
 //! What the fuzzing has reached: each way in which a function can end, each answer in a history, each moment of a script for a
-//! crash, a crash of each function that stores with a claim of every head open.
-use crate::model::call::{Function, Function::*};
+//! crash, a crash of each function that stores with a claim of every head open, and with several in one tree.
+use crate::model::call::{Call, Function, Function::*};
 use crate::model::ending::*;
 use crate::model::image::HEADS;
 use crate::model::node::LAST_LEVEL;
+use crate::model::table::Table;
 use std::collections::BTreeMap;
+
+/// The claims open: in all, the most in one tree, and in the tree of the call's reel.
+#[derive(Clone, Copy)]
+pub struct Claims {
+    pub all: u64,
+    pub in_one_tree: u64,
+    in_this_tree: u64,
+}
+
+impl Claims {
+    pub fn of(table: &Table, call: &Call) -> Claims {
+        let in_one_tree = table.reels.keys().map(|&reel| table.claims_in(reel)).max().unwrap_or(0);
+        Claims { all: table.claims(), in_one_tree, in_this_tree: table.claims_in(call.reel) }
+    }
+
+    pub fn max(self, other: Claims) -> Claims {
+        Claims {
+            all: self.all.max(other.all),
+            in_one_tree: self.in_one_tree.max(other.in_one_tree),
+            in_this_tree: self.in_this_tree.max(other.in_this_tree),
+        }
+    }
+}
 
 #[derive(Default)]
 pub struct Coverage {
@@ -14,6 +38,12 @@ pub struct Coverage {
     crashes: BTreeMap<(Function, usize, usize), u64>,
     /// Those with a claim of every head open, by the function that was storing.
     all_claimed: BTreeMap<Function, u64>,
+    /// Those with several claims in one tree, by their number too.
+    together: BTreeMap<(Function, u64), u64>,
+    /// Those of a branch-out with another head's claim in its tree, by the entries of its script.
+    branched: BTreeMap<usize, u64>,
+    /// Why claims of histories were refused or answered where other heads were at work in the reel.
+    beside: BTreeMap<&'static str, u64>,
     deepest: u64,
     mixtures: u64,
     undone: u64,
@@ -27,6 +57,20 @@ const PATH: &[Ending] = &[OUTSIDE, LEVEL, SIZE, LOCATE_ABOVE, SET_ABOVE, NEXT_SM
 const UNSOUND: &[Ending] = &[REACHED_TWICE, REEL_TWICE, OFF_PATH, HELD_TWICE, FINGERPRINT];
 const TAKEN: &[Ending] =
     &[CLEAR_ROOT, CLEAR_BELOW, DOUBLED_32, DOUBLED_64, BRANCHED_2, BRANCHED_4, BRANCHED_LAST, LAST_FULL, TOO_FEW, NO_RUN];
+/// Of claims with other heads at work in the reel.
+const TOGETHER: &[Ending] = &[
+    CLEAR_BESIDE,
+    DOUBLED_BESIDE,
+    BRANCHED_BESIDE,
+    BRANCHED_UNDER,
+    NO_RUN_BESIDE,
+    NO_RUN_UNDER,
+    HELD_BUSY,
+    BUSY_FRAME,
+    BUSY_FRAME_NO_RUN,
+    BUSY_NODE,
+    BUSY_CHILD,
+];
 const TREES: &[Ending] = &[TREE_EMPTY, TREE_ROOT, TREE_DEEP, REACHED_TWICE];
 const BY_HEAD: &[Ending] = &[SCRIPT_LENGTH, HEAD_NUMBER, HEAD_NODE, HEAD_PLACE];
 
@@ -37,7 +81,7 @@ fn endings(function: Function) -> Vec<Ending> {
         Recover => &[HEADER, PATH, UNSOUND, &[MAP_LENGTH, LOCATE_EQUAL, LOCATE_SET]],
         Open => &[HEADER, &[MAP_LENGTH, SCRIPT_LENGTH, ALREADY_OPEN, NO_SLOT, NO_NODE, DONE]],
         Claim => {
-            &[HEADER, PATH, TAKEN, &[MAP_LENGTH, SCRIPT_LENGTH, HEAD_NUMBER, HEAD_CLAIMED, HEAD_FILLED, NO_REEL, BUSY, HELD]]
+            &[HEADER, PATH, TAKEN, TOGETHER, &[MAP_LENGTH, SCRIPT_LENGTH, HEAD_NUMBER, HEAD_CLAIMED, HEAD_FILLED, NO_REEL, HELD]]
         }
         Fill => &[HEADER, BY_HEAD, &[HEAD_IDLE, HEAD_FILLED, DONE]],
         Commit => &[HEADER, BY_HEAD, &[HEAD_IDLE, HEAD_CLAIMED, DONE]],
@@ -81,6 +125,14 @@ fn scripts(function: Function) -> &'static [usize] {
 /// The functions that store, on power that may fail.
 const STORING: [Function; 8] = [Recover, Open, Claim, Fill, Commit, Abandon, Remove, Retire];
 
+/// The entries of a branch-out of two and of one of four.
+const BRANCH_OUTS: [usize; 2] = [15, 25];
+
+const FRAME_TAKEN: &str = "13 for the frame";
+const NODE_TAKEN: &str = "13 for the node";
+const NO_NODES: &str = "8 beside another head";
+const ANSWERED: &str = "answered beside another head";
+
 impl Coverage {
     /// A single call.
     pub fn call(&mut self, function: Function, ending: Ending) {
@@ -92,16 +144,38 @@ impl Coverage {
         *self.answers.entry((function, answer)).or_default() += 1;
     }
 
+    /// A claim in a history that came as far as the other heads, with the table after it.
+    pub fn claim(&mut self, answer: u64, table: &Table, call: &Call) {
+        let others = table.claims_in(call.reel) - u64::from(answer == 0);
+        let key = match answer {
+            13 if table.claimed(call.reel, call.frame) => FRAME_TAKEN,
+            13 => NODE_TAKEN,
+            8 if others > 0 => NO_NODES,
+            0 if others > 0 => ANSWERED,
+            _ => return,
+        };
+        *self.beside.entry(key).or_default() += 1;
+    }
+
     /// A history, and the highest level in it.
     pub fn history(&mut self, deepest: u64) {
         self.deepest = self.deepest.max(deepest);
     }
 
     /// A crash after some of a script's entries, with so many claims open.
-    pub fn crash(&mut self, function: Function, entries: usize, cut: usize, claims: u64) {
+    pub fn crash(&mut self, function: Function, entries: usize, cut: usize, claims: Claims) {
         *self.crashes.entry((function, entries, cut)).or_default() += 1;
-        if claims == HEADS && (entries > 0 || function == Recover) {
+        if entries == 0 && function != Recover {
+            return;
+        }
+        if claims.all == HEADS {
             *self.all_claimed.entry(function).or_default() += 1;
+        }
+        if claims.in_one_tree > 1 {
+            *self.together.entry((function, claims.in_one_tree)).or_default() += 1;
+        }
+        if function == Claim && BRANCH_OUTS.contains(&entries) && claims.in_this_tree > 1 {
+            *self.branched.entry(entries).or_default() += 1;
         }
     }
 
@@ -142,6 +216,8 @@ impl Coverage {
         let crashes: u64 = self.crashes.values().sum();
         println!("{} crashes, {} mixtures recovered, {} recoveries cut", crashes, self.mixtures, self.cut_recoveries);
         println!("{} crashes with {} claims open", self.all_claimed.values().sum::<u64>(), HEADS);
+        let (together, branched) = (self.together.values().sum::<u64>(), self.branched.values().sum::<u64>());
+        println!("{} crashes with several claims in one tree, {} of them in a branch-out of it", together, branched);
         println!("where before and after differ: {} mixtures before, {} after", self.undone, self.completed);
     }
 
@@ -162,6 +238,13 @@ impl Coverage {
             .extend(missed(&all, &self.crashes, |key| format!("crash in {} after {} of {} entries", key.0.name(), key.2, key.1)));
         let claimed = |f: &Function| format!("crash in {} with {} claims open", f.name(), HEADS);
         lines.extend(missed(&STORING, &self.all_claimed, claimed));
+        let all: Vec<_> = STORING.iter().flat_map(|&f| (2..=HEADS).map(move |claims| (f, claims))).collect();
+        let together = |key: &(Function, u64)| format!("crash in {} with {} claims in one tree", key.0.name(), key.1);
+        lines.extend(missed(&all, &self.together, together));
+        let branched = |entries: &usize| format!("crash in a branch-out of {} entries beside another head", entries);
+        lines.extend(missed(&BRANCH_OUTS, &self.branched, branched));
+        let beside = |key: &&str| format!("claim of a history, {}", key);
+        lines.extend(missed(&[FRAME_TAKEN, NODE_TAKEN, NO_NODES, ANSWERED], &self.beside, beside));
         if self.deepest < LAST_LEVEL {
             lines.push(format!("never reached: level {} in a history", LAST_LEVEL));
         }

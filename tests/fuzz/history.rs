@@ -1,8 +1,9 @@
 //! Histories from a fresh format on, with crashes, held against the plain table: every answer, what Has and List read, and at any
 //! time the book as a whole.
-use crate::coverage::Coverage;
+use crate::coverage::{Claims, Coverage};
 use crate::model::buffer::Buffer;
 use crate::model::call::{Call, Function, Lent};
+use crate::model::claim::node_used;
 use crate::model::image::*;
 use crate::model::script::{self, Entry, BARRIER, SCRIPT_WORDS};
 use crate::model::table::{Lengths, Reply, Table, Value};
@@ -66,15 +67,16 @@ enum Which {
 
 impl History<'_> {
     fn step(&mut self, call: &mut Call) -> Result<(), String> {
-        let claims = self.table.claims();
-        // More often where it is seldom: in Open, and with a claim of every head in what is not a head's next.
+        let claims = Claims::of(&self.table, call);
+        // More often where it is seldom: in Open; with all heads at work, or several in one tree, in what is not a head's next.
         let next = matches!(call.function, Function::Claim | Function::Fill | Function::Commit);
-        let seldom = call.function == Function::Open || claims == HEADS && !next;
-        let crash = self.random.one_in(if seldom { 3 } else { self.plan.crash });
+        let seldom = call.function == Function::Open || (claims.all == HEADS || claims.in_one_tree > 1) && !next;
+        let often = if claims.in_one_tree > 1 { self.plan.crash.min(30) } else { self.plan.crash };
+        let crash = self.random.one_in(if seldom { 3 } else { often });
         let before = if crash { Some((self.table.reels.clone(), self.lent.image.clone())) } else { None };
         let (answer, entries) = self.perform(call)?;
         // A claim that is cut short is open too, and one that is cut short in its commit.
-        let claims = claims.max(self.table.claims());
+        let claims = claims.max(Claims::of(&self.table, call));
         // An answered Format runs on steady power.
         let steady = call.function == Function::Format && answer == 0;
         let branch = call.function == Function::Claim && entries.len() > 2;
@@ -94,6 +96,7 @@ impl History<'_> {
     /// Calls book and table, and compares. The answer, and the entries handed out.
     fn perform(&mut self, call: &mut Call) -> Result<(u64, Vec<Entry>), String> {
         let own = self.lend(call);
+        let due = self.due(call);
         let (answer, count) = self.subject.perform(call, &mut self.lent, self.random.word());
         let reply = self.table.perform(call, &Lengths::of(&self.lent), answer);
         self.coverage.answer(call.function, answer);
@@ -101,11 +104,34 @@ impl History<'_> {
             return Err(format!("words outside the {} are written", name));
         }
         self.compare(answer, count, &reply)?;
+        if call.function == Function::Claim && matches!(answer, 0 | 8 | 13) {
+            self.coverage.claim(answer, &self.table, call);
+            if answer != due {
+                return Err(format!("by heads and nodes {} is due, the book answers {}", due, answer));
+            }
+        }
         let entries = if reply == Ok(Value::None) { script::read(&self.lent.script[..count as usize]) } else { Vec::new() };
         if let Some((which, buffer)) = own {
             *self.buffer(which) = buffer;
         }
         Ok((answer, entries))
+    }
+
+    /// What is due to a claim that comes as far, where the table takes the book's word: 13 if another head has the frame, or is
+    /// at the node that this claim would use; else 8 if it uses none. In a history no two reels share a node.
+    fn due(&self, call: &Call) -> u64 {
+        if call.function != Function::Claim {
+            return 0;
+        }
+        let node = node_used(call, &self.lent);
+        let is_there = |head: Head| head.state != State::Idle && Some(head.node) == node;
+        if self.table.claimed(call.reel, call.frame) || (0..HEADS).any(|head| is_there(Head::read(&self.lent.heads, head))) {
+            13
+        } else if node.is_none() {
+            8
+        } else {
+            0
+        }
     }
 
     fn buffer(&mut self, which: Which) -> &mut Buffer {

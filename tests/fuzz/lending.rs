@@ -1,5 +1,7 @@
 //! Buffers of any content and length for one call: maps, head records, scripts, headers.
 use crate::model::call::{Call, Function, Lent};
+use crate::model::claim::node_used;
+use crate::model::fault::Fault;
 use crate::model::image::*;
 use crate::model::node::PLACES;
 use crate::model::script::{Entry, BARRIER, SCRIPT_WORDS};
@@ -59,6 +61,30 @@ impl Lending<'_> {
             let node = self.number(self.nodes);
             let place = self.number(PLACES);
             write_head(&mut self.lent.heads, head, [state, slot, node, place, self.random.word()]);
+        }
+    }
+
+    /// Other heads in the way of a claim, or just beside it: records with its slot, its frame, the node that it would use, nodes
+    /// of its path, or numbers near these. Now and then there is no run for it.
+    pub fn rivals(&mut self, call: &Call) {
+        if self.random.one_in(6) {
+            self.lent.map.fill(u64::MAX);
+        }
+        let image = Image { words: &self.lent.image, slots: self.slots, nodes: self.nodes, fault: Fault::None };
+        let slot = image.slot_of(call.reel).unwrap_or(0);
+        let path = if image.filled(slot) { image.path(image.root(slot), call.frame).unwrap_or_default() } else { Vec::new() };
+        let path: Vec<u64> = path.iter().map(|node| node.number).collect();
+        let last = path.last().copied().unwrap_or(0);
+        let used = node_used(call, self.lent).unwrap_or(last);
+        for head in 0..HEADS {
+            let state = if head == call.head { self.random.pick(&[0, 0, 0, 3]) } else { self.random.pick(&[0, 1, 1, 2, 2, 3]) };
+            let slot = self.random.pick(&[slot, slot, slot, slot, (slot + 1) % self.slots, self.slots]);
+            let any = self.random.below(self.nodes + 2);
+            let on_path = if path.is_empty() { any } else { self.random.pick(&path) };
+            let node = self.random.pick(&[used, used, last, last, on_path, used ^ 1, any, self.nodes]);
+            let near = call.frame ^ 1 << self.random.below(64);
+            let frame = self.random.pick(&[call.frame, near, near, near]);
+            write_head(&mut self.lent.heads, head, [state, slot, node, self.random.below(PLACES), frame]);
         }
     }
 

@@ -23,8 +23,11 @@ pub struct Plan {
     pub mixtures: u64,
     /// One step in this many is another operation than the head's next.
     other: u64,
-    /// Idle heads claim before others commit, each in a reel of its own where one is left: all have a claim open at times.
+    /// Idle heads claim before others commit: all have a claim open at times.
     together: bool,
+    /// Those claims are in the first reel, from so many frames in it on: till then one head works alone. Else each is in a reel
+    /// of its own where one is left.
+    one_tree: Option<u64>,
     others: &'static [Function],
     reels: Vec<u64>,
     frames: Frames,
@@ -36,6 +39,8 @@ const OTHERS: [Function; 25] = [
 ];
 const OTHERS_DEEP: [Function; 8] = [Open, Remove, Remove, Has, List, Abandon, Claim, Recover];
 
+const OTHERS_BESIDE: [Function; 8] = [Open, Open, Remove, Remove, Remove, Retire, Abandon, Recover];
+
 const REELS: [u64; 7] = [u64::MAX, 0, 7, 8, 9, 10, 11];
 
 /// A path to level 31 needs its root, three groups of two and 28 of four.
@@ -45,8 +50,9 @@ impl Plan {
     pub fn draw(random: &mut Random) -> Plan {
         match random.below(40) {
             0 => Plan::deep(random),
-            1..=15 => Plan::growing(random),
-            16..=23 => Plan::together(random),
+            1..=12 => Plan::growing(random),
+            13..=19 => Plan::one_tree(random),
+            20..=26 => Plan::together(random),
             _ => Plan::few(random),
         }
     }
@@ -64,6 +70,7 @@ impl Plan {
             mixtures: 256,
             other: random.pick(&[2, 6, 40]),
             together: false,
+            one_tree: None,
             others: &OTHERS,
             reels: REELS[..slots as usize + 2].to_vec(),
             frames: Frames::Few { bound: random.pick(&[4, 30, 200]), shift: random.pick(&[0, 0, 0, 1, 3, 20, 57]) },
@@ -90,9 +97,30 @@ impl Plan {
             mixtures: 16,
             other: 60,
             together: slots == HEADS,
+            one_tree: None,
             others: &OTHERS,
             reels: (7..7 + slots.max(2)).collect(),
             frames: Frames::Few { bound: 10_000, shift: random.pick(&[0, 3]) },
+        }
+    }
+
+    /// All heads at work in one tree, with nodes for several of them: below the root, of level 2, or below a path to level 3.
+    /// Other reels come and go beside it.
+    fn one_tree(random: &mut Random) -> Plan {
+        let (shift, alone) = random.pick(&[(0, 60), (0, 210), (0, 210), (3, 250)]);
+        Plan {
+            slots: 3,
+            nodes: random.between(9, 40),
+            steps: 3 * alone + 1000,
+            crash: 400,
+            every_moment: true,
+            mixtures: 8,
+            other: 8,
+            together: true,
+            one_tree: Some(alone),
+            others: &OTHERS_BESIDE,
+            reels: vec![7, 8, 9],
+            frames: Frames::Few { bound: 10_000, shift },
         }
     }
 
@@ -107,6 +135,7 @@ impl Plan {
             mixtures: 8,
             other: 30,
             together: false,
+            one_tree: None,
             others: &OTHERS_DEEP,
             reels: vec![0],
             frames: Frames::Deep { target: random.word() },
@@ -116,28 +145,55 @@ impl Plan {
     pub fn call(&self, random: &mut Random, table: &Table) -> Call {
         let head = if random.one_in(60) { random.odd_word(&[HEADS]) } else { self.head(random, table) };
         let function = self.function(random, table, head);
-        let among = match function {
-            Open if self.together => Vec::new(),
-            Claim | Remove | Retire if self.together && !random.one_in(4) => table.quiet_reels(),
-            _ => table.reels.keys().copied().collect(),
-        };
-        let reel = self.reel(random, &among);
-        let frame = self.frame(random, table, reel);
+        let reel = self.reel_for(random, table, function);
+        let frame = self.frame(random, table, reel, head);
         let held = table.reels.get(&reel).and_then(|frames| frames.range(frame..).next());
-        let frame = match held {
-            Some(&held) if matches!(function, Remove | Has) && random.one_in(2) => held,
+        let claimed = table.heads[random.below(HEADS) as usize].about();
+        let frame = match (held, claimed) {
+            (Some(&held), _) if matches!(function, Remove | Has) && random.one_in(2) => held,
+            (_, Some((about, claimed))) if function == Claim && about == reel && random.one_in(10) => claimed,
             _ => frame,
         };
         Call { function, slots: table.slots, nodes: table.nodes, head, reel, frame }
     }
 
-    /// A head that is under way, mostly; or an idle one.
+    /// A head that is under way, mostly, or an idle one; where heads work together the other way round.
     fn head(&self, random: &mut Random, table: &Table) -> u64 {
-        let wanted = table.heads.iter().position(|&head| (head == Head::Idle) == self.together);
-        match wanted {
-            Some(head) if !random.one_in(4) => head as u64,
-            _ => random.below(HEADS),
+        if self.alone(table) {
+            return 0;
         }
+        // In one tree claims are often refused, and the others have to go on.
+        let idle = if self.one_tree.is_some() { !random.one_in(4) } else { self.together };
+        let wanted: Vec<u64> = (0..HEADS).filter(|&head| (table.heads[head as usize] == Head::Idle) == idle).collect();
+        if wanted.is_empty() || random.one_in(4) {
+            random.below(HEADS)
+        } else if self.one_tree.is_some() {
+            random.pick(&wanted)
+        } else {
+            wanted[0]
+        }
+    }
+
+    /// Is the one tree still too small for several heads?
+    fn alone(&self, table: &Table) -> bool {
+        let frames = table.reels.get(&self.reels[0]).map_or(0, |frames| frames.len() as u64);
+        self.one_tree.map_or(false, |least| frames < least)
+    }
+
+    fn reel_for(&self, random: &mut Random, table: &Table, function: Function) -> u64 {
+        match function {
+            Open if self.one_tree.is_some() && !table.reels.contains_key(&self.reels[0]) => return self.reels[0],
+            Claim if self.one_tree.is_some() && !random.one_in(6) => return self.reels[0],
+            // What takes a tree away, or needs it quiet, is for the others.
+            Open | Remove | Retire if self.one_tree.is_some() && !random.one_in(6) => return random.pick(&self.reels[1..]),
+            _ => (),
+        }
+        let among = match function {
+            Open if self.together => Vec::new(),
+            Claim | Remove | Retire if self.together && !random.one_in(4) => table.quiet_reels(),
+            _ => table.reels.keys().copied().collect(),
+        };
+        self.reel(random, &among)
     }
 
     /// Mostly one of these, the lower ones more often, so that they grow.
@@ -154,7 +210,9 @@ impl Plan {
         if table.reels.is_empty() || few_reels && random.one_in(8) {
             return Open;
         }
-        if random.one_in(self.other) {
+        // All heads in one tree are seldom: then there are more of the others.
+        let all = self.one_tree.is_some() && table.claims_in(self.reels[0]) == HEADS;
+        if !self.alone(table) && random.one_in(if all { 2 } else { self.other }) {
             return random.pick(self.others);
         }
         match table.heads.get(head as usize) {
@@ -165,9 +223,13 @@ impl Plan {
         }
     }
 
-    fn frame(&self, random: &mut Random, table: &Table, reel: u64) -> u64 {
+    fn frame(&self, random: &mut Random, table: &Table, reel: u64, head: u64) -> u64 {
         match self.frames {
             Frames::Few { .. } if random.one_in(60) => random.word(),
+            // In one tree heads mostly go ways of their own.
+            Frames::Few { bound, shift } if self.one_tree.is_some() && !random.one_in(4) && !self.alone(table) => {
+                (HEADS * random.below(bound) + head % HEADS) << shift
+            }
             Frames::Few { bound, shift } => random.below(bound) << shift,
             Frames::Deep { target } => {
                 // Every 64 frames fill a node of the path, and the next ones have to agree with it one level further.

@@ -1,5 +1,6 @@
 //! Crashes of a history: every image that one can leave is recovered, by recoveries that crash too, and then has the frames and
 //! the nodes of before or after, with idle heads, the map of the nodes reached and their locate words.
+use crate::coverage::Claims;
 use crate::crash::Crash;
 use crate::history::History;
 use crate::model::buffer::Buffer;
@@ -93,7 +94,13 @@ fn check_locate(lent: &Lent, nodes: &BTreeSet<u64>) -> Result<(), String> {
 
 impl History<'_> {
     /// In a script, with so many claims open: at every moment of it, or at one.
-    pub fn crash_in_script(&mut self, function: Function, entries: &[Entry], before: &Reels, claims: u64) -> Result<(), String> {
+    pub fn crash_in_script(
+        &mut self,
+        function: Function,
+        entries: &[Entry],
+        before: &Reels,
+        claims: Claims,
+    ) -> Result<(), String> {
         let image = self.lent.image.clone();
         let before = Contents { reels: before.clone(), nodes: contents(&image)?.nodes };
         let mut carried = image.clone();
@@ -112,7 +119,7 @@ impl History<'_> {
     }
 
     /// In a Recover that the history has, or between it and the driver's barrier.
-    pub fn crash_in_recover(&mut self, image: &Buffer, reels: &Reels, claims: u64) -> Result<(), String> {
+    pub fn crash_in_recover(&mut self, image: &Buffer, reels: &Reels, claims: Claims) -> Result<(), String> {
         self.coverage.crash(Function::Recover, 0, 0, claims);
         let both = Contents { reels: reels.clone(), nodes: contents(image)?.nodes };
         self.crash(&Crash::in_recover(image, &self.lent.image), &both, &both, false)

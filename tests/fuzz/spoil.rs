@@ -22,7 +22,7 @@ const fn after(function: Function, answer: u64, text: &'static str, change: Chan
 }
 
 /// Found by single calls, where every word is compared with the model's.
-pub static OF_CALLS: [Spoil; 19] = [
+pub static OF_CALLS: [Spoil; 21] = [
     after(Retire, 13, "retire answers 5 for 13", |_, _, handed| handed.0 = 5),
     after(List, 14, "list hands back a count with 14", |_, _, handed| handed.1 = 1),
     after(Commit, 0, "commit hands back two words more", |_, _, handed| handed.1 += 2),
@@ -32,6 +32,8 @@ pub static OF_CALLS: [Spoil; 19] = [
     after(Open, 0, "open marks the last node too", |_, lent, _| mark_last(lent)),
     after(Recover, 0, "recover leaves a spare bit in the map", |_, lent, _| spare_bit(lent)),
     after(Claim, 0, "claim writes another head's record", |call, lent, _| record(lent, (call.head + 1) % HEADS)[4] ^= 1),
+    after(Claim, 13, "claim marks the last node with 13", |_, lent, _| mark_last(lent)),
+    after(Claim, 13, "claim's head is claimed with 13", |call, lent, _| record(lent, call.head)[0] = 1),
     after(Commit, 0, "commit leaves the frame in the record", |call, lent, _| record(lent, call.head)[4] = 1),
     after(Recover, 0, "recover stores to a frame", |_, lent, _| last_word(lent)),
     after(Recover, 4, "recover stores with 4", |_, lent, _| last_word(lent)),
@@ -45,9 +47,11 @@ pub static OF_CALLS: [Spoil; 19] = [
 ];
 
 /// Found by histories, held against the plain table alone.
-pub static OF_HISTORIES: [Spoil; 17] = [
+pub static OF_HISTORIES: [Spoil; 19] = [
     after(Commit, 0, "commit answers 12 and is done", |_, _, handed| *handed = (12, 0)),
     after(Claim, 9, "claim hands back a count with 9", |_, _, handed| handed.1 = 2),
+    after(Claim, 13, "claim answers 8 for 13", |_, _, handed| handed.0 = 8),
+    after(Claim, 13, "claim marks the last node with 13", |_, lent, _| mark_last(lent)),
     after(Has, 0, "has always says no", |_, _, handed| handed.1 = 0),
     after(List, 0, "list counts a frame less", |_, _, handed| handed.1 = handed.1.saturating_sub(1)),
     after(List, 0, "list gives another frame", |_, lent, handed| another_frame(lent, handed.1)),

@@ -1,4 +1,5 @@
 //! Claim: a place on the frame's path, by a clear place, a root of double size, or a branch-out.
+use super::beside::{Beside, Uses};
 use super::call::{Call, Lent};
 use super::ending::*;
 use super::fault::Fault;
@@ -27,37 +28,67 @@ pub fn claim(call: &Call, lent: &mut Lent, fault: Fault) -> Ended {
     }
     check_head(&lent.heads, call.head, &[State::Idle], fault)?;
     let slot = image.slot_of(call.reel).ok_or(NO_REEL)?;
-    check_busy(&lent.heads, slot, fault)?;
+    if fault == Fault::AnyClaimBusy {
+        check_busy(&lent.heads, slot, fault)?;
+    }
     let path = image.path(image.root(slot), call.frame)?;
-    check_frame(&path, call.frame, fault)?;
-    let last = path[path.len() - 1];
-    let mut taken = match tree::first_clear(&path) {
-        Some((node, place)) => clear(node, place, &path),
-        None if last.word(SIZE_AT) < 64 => doubled(last, fault),
-        None => branched(image, last, call.frame, &lent.map)?,
-    };
+    check_full(&path, call.frame, fault)?;
+    let taken = take(image, &path, call.frame, &lent.map);
+    let (node, new) = taken.as_ref().map_or((None, &[][..]), |taken| (Some(taken.node.number), &taken.new[..]));
+    let uses = Uses { node, new, last: path[path.len() - 1].number, nodes: image.nodes };
+    let beside = Beside::of(&lent.heads, call.head, slot, fault);
+    let busy = beside.check(call.frame, &uses);
+    let held = check_held(&path, call.frame, fault).map_err(|held| if busy.is_err() { HELD_BUSY } else { held });
+    let run = taken.as_ref().map(|taken| beside.ending(taken.ending, &uses)).map_err(|&none| beside.ending(none, &uses));
+    let ending = match fault {
+        Fault::BusyBeforeHeld => busy.and(held).and(run),
+        Fault::NoRunBeforeBusy => held.and(run).and_then(|ending| busy.map(|_| ending)),
+        _ => held.and(busy).and(run),
+    }?;
+    let mut taken = taken?;
     taken.entries.extend([(taken.node.at(LOCATE), taken.locate | 1 << taken.place), BARRIER]);
     for &number in &taken.new {
         mark_used(&mut lent.map, number);
     }
     write_head(&mut lent.heads, call.head, [1, slot, taken.node.number, taken.place, call.frame]);
-    Ok((taken.ending, script::write(&mut lent.script, &taken.entries)))
+    Ok((ending, script::write(&mut lent.script, &taken.entries)))
 }
 
-/// Refusal 4 where the path is full to level 31, then 9.
-fn check_frame(path: &[Node], frame: u64, fault: Fault) -> Result<(), Ending> {
-    let clear = path.iter().position(|node| node.clear_place().is_some());
-    let looked = match clear {
+/// Refusal 4 where the path is full to level 31.
+fn check_full(path: &[Node], frame: u64, fault: Fault) -> Result<(), Ending> {
+    if fault == Fault::HeldBeforeFull {
+        check_held(path, frame, fault)?;
+    }
+    let full = if fault == Fault::FullIsNoRun { TOO_FEW } else { LAST_FULL };
+    check(tree::first_clear(path).is_some() || path.len() as u64 - 1 < LAST_LEVEL, full)
+}
+
+/// Refusal 9.
+fn check_held(path: &[Node], frame: u64, fault: Fault) -> Result<(), Ending> {
+    let looked = match path.iter().position(|node| node.clear_place().is_some()) {
         Some(node) if fault == Fault::FirstClearPlace => &path[..node + 1],
         _ => path,
     };
-    let held = check(tree::lookup(looked, frame).is_none(), HELD);
-    if fault == Fault::HeldBeforeFull {
-        held?;
+    check(tree::lookup(looked, frame).is_none(), HELD)
+}
+
+/// What a claim takes on a path. Refusal 8 if it needs a run of free nodes and there is none.
+fn take<'a>(image: Image<'a>, path: &[Node<'a>], frame: u64, map: &[u64]) -> Result<Taken<'a>, Ending> {
+    let last = path[path.len() - 1];
+    match tree::first_clear(path) {
+        Some((node, place)) => Ok(clear(node, place, path)),
+        None if last.word(SIZE_AT) < 64 => Ok(doubled(last, image.fault)),
+        None => branched(image, last, frame, map),
     }
-    let full = if fault == Fault::FullIsNoRun { TOO_FEW } else { LAST_FULL };
-    check(clear.is_some() || path.len() as u64 - 1 < LAST_LEVEL, full)?;
-    held
+}
+
+/// The node that a claim would use, by what is lent. None where there is no such path or no run.
+pub fn node_used(call: &Call, lent: &Lent) -> Option<u64> {
+    let image = check_image(&lent.image, Fault::None).ok()?;
+    check_map(&lent.map, image.nodes).ok()?;
+    let path = image.path(image.root(image.slot_of(call.reel)?), call.frame).ok()?;
+    check_full(&path, call.frame, Fault::None).ok()?;
+    take(image, &path, call.frame, &lent.map).ok().map(|taken| taken.node.number)
 }
 
 fn clear<'a>(node: Node<'a>, place: u64, path: &[Node]) -> Taken<'a> {

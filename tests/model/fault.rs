@@ -37,11 +37,23 @@ pub enum Fault {
     LastHeadRefused,
     LastRecordLeft,
     ThreeMended,
+    OneMendedInReel,
+    AnyClaimBusy,
+    FrameShared,
+    NodeShared,
+    ParentForNode,
+    AnyChildForNode,
+    NodeWithoutRun,
+    EndWithoutRun,
+    AnySlotCounts,
+    FilledForgotten,
+    BusyBeforeHeld,
+    NoRunBeforeBusy,
 }
 
 impl Fault {
     /// Found by single calls: one buffer or answer differs from the sound model's.
-    pub const OF_CALLS: [(Fault, &'static str); 24] = [
+    pub const OF_CALLS: [(Fault, &'static str); 35] = [
         (Fault::NoSlots, "an image without slots is taken"),
         (Fault::EmptySlotRead, "an empty slot's reel number counts as open"),
         (Fault::HighestSlot, "a reel is the highest filled slot with its number"),
@@ -66,10 +78,21 @@ impl Fault {
         (Fault::BarrierWithValue, "apply takes a barrier with a value"),
         (Fault::AppliedInPart, "apply stores before it has tested every entry"),
         (Fault::LastHeadRefused, "11 comes from head 3 on"),
+        (Fault::AnyClaimBusy, "claim answers 13 for any open claim on the reel"),
+        (Fault::FrameShared, "claim takes a frame that another head has"),
+        (Fault::NodeShared, "claim takes a place in a node that another head is at"),
+        (Fault::ParentForNode, "a branch-out uses the full parent and not the new child"),
+        (Fault::AnyChildForNode, "a branch-out uses all of its new children"),
+        (Fault::NodeWithoutRun, "a claim without a run uses the full node"),
+        (Fault::EndWithoutRun, "a claim without a run uses a node past the pool"),
+        (Fault::AnySlotCounts, "heads of other slots count in claim's 13"),
+        (Fault::FilledForgotten, "filled heads do not count in claim's 13"),
+        (Fault::BusyBeforeHeld, "claim tries 13 before 9"),
+        (Fault::NoRunBeforeBusy, "claim tries 8 before 13"),
     ];
 
     /// Found by histories with crashes, held against the plain table alone.
-    pub const OF_HISTORIES: [(Fault, &'static str); 10] = [
+    pub const OF_HISTORIES: [(Fault, &'static str); 17] = [
         (Fault::LocateTrusted, "recover takes locate for the truth"),
         (Fault::RootUnordered, "open stores the root before the barrier"),
         (Fault::ReelUnordered, "open stores the reel number after the barrier"),
@@ -80,5 +103,12 @@ impl Fault {
         (Fault::NoLastBarrier, "commit without its barrier"),
         (Fault::LastRecordLeft, "format and recover leave the last head's record"),
         (Fault::ThreeMended, "recover mends three locate words and no more"),
+        (Fault::OneMendedInReel, "recover mends one locate word of each reel"),
+        (Fault::AnyClaimBusy, "claim answers 13 for any open claim on the reel"),
+        (Fault::FrameShared, "claim takes a frame that another head has"),
+        (Fault::NodeShared, "claim takes a place in a node that another head is at"),
+        (Fault::ParentForNode, "a branch-out uses the full parent and not the new child"),
+        (Fault::NodeWithoutRun, "a claim without a run uses the full node"),
+        (Fault::BusyBeforeHeld, "claim tries 13 before 9"),
     ];
 }

@@ -1,8 +1,9 @@
 //! The reel book as its specification tells it: plain code, sentence after sentence, to compare the library with.
 //! `operations` answers over any contents and lengths; `table` is the plain table of reels that a whole history is held against.
+mod beside;
 pub mod buffer;
 pub mod call;
-mod claim;
+pub mod claim;
 pub mod ending;
 pub mod fault;
 pub mod image;

@@ -65,7 +65,7 @@ pub fn check_script(script: &[u64]) -> Result<(), Ending> {
     check(script.len() >= SCRIPT_WORDS, SCRIPT_LENGTH)
 }
 
-/// Refusal 13.
+/// Refusal 13 of Remove and Retire: any head at work in the reel.
 pub fn check_busy(heads: &[u64], slot: u64, fault: Fault) -> Result<(), Ending> {
     let idle = |head: u64| match fault {
         Fault::AnyStateBusy => heads[head as usize * HEAD_WORDS] == 0,
@@ -124,12 +124,24 @@ fn recover(lent: &mut Lent, fault: Fault) -> Ended {
             stores.push((node.at(to), node.word(from)));
         }
     }
-    if fault == Fault::ThreeMended {
-        stores.truncate(3);
+    match fault {
+        Fault::ThreeMended => stores.truncate(3),
+        Fault::OneMendedInReel => first_of_each_reel(image, &mut stores),
+        _ => (),
     }
     script::carry_out(&mut lent.image, &stores);
     clear_heads(&mut lent.heads, fault);
     Ok((if stores.is_empty() { LOCATE_EQUAL } else { LOCATE_SET }, 0))
+}
+
+/// A fault: in each tree the first store alone.
+fn first_of_each_reel(image: Image, stores: &mut Vec<Entry>) {
+    for slot in image.filled_slots() {
+        let walk = image.walk(image.root(slot), &mut HashSet::new()).unwrap_or_default();
+        let is_here = |store: &Entry| walk.iter().any(|reached| reached.node.at(LOCATE) == store.0);
+        let first = stores.iter().copied().find(is_here);
+        stores.retain(|store| !is_here(store) || Some(*store) == first);
+    }
 }
 
 fn open(call: &Call, lent: &mut Lent, fault: Fault) -> Ended {

@@ -1,5 +1,5 @@
 //! The plain table of reels: what a history of operations answers, without nodes, scripts or crashes.
-//! It is fed the calls' numbers, the lengths lent, and the book's answer where that turns on nodes: 8.
+//! It is fed the calls' numbers, the lengths lent, and the book's answer where that turns on nodes: 8, and Claim's 13 for a node.
 use super::call::{Call, Function, Lent};
 use super::image::{image_words, map_words, HEADS, MAX_NODES, MAX_SLOTS};
 use super::script::SCRIPT_WORDS;
@@ -12,6 +12,16 @@ pub enum Head {
     Idle,
     Claimed { reel: u64, frame: u64 },
     Filled { reel: u64, frame: u64 },
+}
+
+impl Head {
+    /// The reel and the frame, unless it is idle.
+    pub fn about(&self) -> Option<(u64, u64)> {
+        match *self {
+            Head::Idle => None,
+            Head::Claimed { reel, frame } | Head::Filled { reel, frame } => Some((reel, frame)),
+        }
+    }
 }
 
 /// The lengths lent.
@@ -66,9 +76,13 @@ impl Table {
         Table { slots, nodes, reels: Reels::new(), heads: [Head::Idle; HEADS as usize] }
     }
 
-    /// How many heads have a claim open.
+    /// How many heads have a claim open, and in a reel.
     pub fn claims(&self) -> u64 {
         self.heads.iter().filter(|&&head| head != Head::Idle).count() as u64
+    }
+
+    pub fn claims_in(&self, reel: u64) -> u64 {
+        self.heads.iter().filter(|head| head.about().map_or(false, |about| about.0 == reel)).count() as u64
     }
 
     /// The reels that no head is about.
@@ -77,10 +91,12 @@ impl Table {
     }
 
     fn busy(&self, reel: u64) -> bool {
-        self.heads.iter().any(|head| match *head {
-            Head::Idle => false,
-            Head::Claimed { reel: about, .. } | Head::Filled { reel: about, .. } => about == reel,
-        })
+        self.claims_in(reel) > 0
+    }
+
+    /// Does a head have this frame of this reel?
+    pub fn claimed(&self, reel: u64, frame: u64) -> bool {
+        self.heads.iter().any(|head| head.about() == Some((reel, frame)))
     }
 
     /// The value, or the refusal's number. `book` is the book's answer.
@@ -154,7 +170,8 @@ impl Table {
     fn claim(&mut self, call: &Call, book: u64) -> Result<(), u64> {
         let (reel, frame) = (call.reel, call.frame);
         refuse(*self.head(call.head)? != Head::Idle, 12)?;
-        refuse(self.quiet(reel)?.contains(&frame), 9)?;
+        refuse(self.frames(reel)?.contains(&frame), 9)?;
+        refuse(self.claimed(reel, frame) || book == 13, 13)?;
         refuse(book == 8, 8)?;
         *self.head(call.head)? = Head::Claimed { reel, frame };
         Ok(())

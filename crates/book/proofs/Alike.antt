@@ -11,7 +11,7 @@ use lib.ListN.{length}
 use lib.Dec.{ltb, leb}
 use borrow.Author.Tests.{ltb-false, leb-true, le-leb, lt-leb, not-false}
 use Rattle.tree.specs.Memory.{reads, isSome, Fit}
-use Rattle.tree.specs.Test.{lt, le, ne, is, _and_, _or_, holds}
+use Rattle.tree.specs.Test.{lt, le, ne, is, _or_, holds}
 use Rattle.tree.specs.Lists.{empty}
 use Rattle.tree.specs.declared.layout.Geometry.{Geometry}
 use Rattle.tree.specs.Layout.{badImage, imageWords, editionAt}
@@ -20,20 +20,21 @@ use Rattle.tree.specs.Lookup.{pathFrom, freeRun}
 use Rattle.tree.proofs.Cases.{test, true-not-false, same-test}
 use Rattle.book.specs.Heads.{headCount, headAt, targetOf}
 use Rattle.book.specs.Refusals.{Refusal, _gives_, refusal}
-use Rattle.tree.specs.Room.{roomOn, needs, atLevel31}
+use Rattle.tree.specs.Room.{roomOn, atLevel31}
 use Rattle.book.specs.State.{State, Operation, format, recover, openReel, claim, fill, commit, abandon, remove, retire, query, has, list, arguments, Work, memory, shape}
-use Rattle.book.specs.Checks.{badMap, badScript, outside, noPath, refusals}
+use Rattle.book.specs.Checks.{badMap, badScript, outside, noPath, noRunFor, refusals}
 use Rattle.book.specs.Perform.{oneIf, granted, perform}
 use Rattle.book.specs.Table as table
-use Rattle.book.specs.Table.{Table, TableHead, TableWork, Fed, noRun, fed, isPresent, tableHead, tableRefusals, tableWork, reply}
+use Rattle.book.specs.Table.{Table, TableHead, TableWork, Fed, nothing, fed, isPresent, tableHead, tableRefusals, tableWork, reply}
 use Rattle.book.specs.Agrees.{EachOnce, Agrees}
-use Rattle.book.specs.Ways.{SlotHas, Lacks}
+use Rattle.book.specs.Ways.{SlotHas, Lacks, InTheWay}
 use Rattle.book.specs.Histories.{replied}
 use Rattle.book.specs.Demands.{IsFormat, is-format, Alike}
 use Rattle.book.proofs.Refusals.{Named, Passes, decided, denies, denied, passes}
 use Rattle.book.proofs.Performed.{answer-is, work-granted, work-refused, reply-is, reply-granted, reply-refused}
+use Rattle.book.proofs.InTheWay.{busy-remove, busy-retire, taken-in-the-way, conflict-claim, lacking}
 use Rattle.book.proofs.Level31.{never-level31, lacks-open, lacks-claim}
-use Rattle.book.proofs.Paired.{Paired, end, same, skip, run, paired-answer, paired-run}
+use Rattle.book.proofs.Paired.{Paired, end, same, skip, busy, meets, run, paired-answer, paired-run, paired-busy}
 use Rattle.book.proofs.Reading.{image-right, edition-right, same-geometry, is-sound, slot-has, slot-below, path-there, tree-right}
 use Rattle.book.proofs.Reading.{same-frames, same-length, same-held, all-filled, same-idle, same-claimed, same-filled, claim-of, claim-inside, same-busy}
 
@@ -69,19 +70,19 @@ module _ {s : State} {t : Table} (a : Agrees s t) where
       denied (outside (shape s) (targetOf (headAt (s .heads) h))) (claim-inside (a .shows) (claim-of x (same-idle x ∙ e)))
 
   -- 1 and 2 never come
-  checks : {x : Fed} {P : Type 0} {rs qs : List Refusal} → Paired x P rs qs
-      → Paired x P ((badImage (length (s .image)) (shape s) gives 1) ∷ (ne (memory s editionAt) 1 gives 2) ∷ rs) qs
+  checks : {x : Fed} {P Q : Type 0} {rs qs : List Refusal} → Paired x P Q rs qs
+      → Paired x P Q ((badImage (length (s .image)) (shape s) gives 1) ∷ (ne (memory s editionAt) 1 gives 2) ∷ rs) qs
   checks p = skip (image-right (a .shows)) (skip (edition-right (a .shows)) p)
 
   -- 5, and after it the reel's slot
-  reel-there : {x : Fed} {P : Type 0} {rs qs : List Refusal} (reel : ℕ)
-      → (SlotHas (shape s) (memory s) reel (slotOf (shape s) (memory s) reel) → Paired x P rs qs)
-      → Paired x P ((le (shape s .slots) (slotOf (shape s) (memory s) reel) gives 5) ∷ rs) ((is (not (isPresent t reel)) gives 5) ∷ qs)
+  reel-there : {x : Fed} {P Q : Type 0} {rs qs : List Refusal} (reel : ℕ)
+      → (SlotHas (shape s) (memory s) reel (slotOf (shape s) (memory s) reel) → Paired x P Q rs qs)
+      → Paired x P Q ((le (shape s .slots) (slotOf (shape s) (memory s) reel) gives 5) ∷ rs) ((is (not (isPresent t reel)) gives 5) ∷ qs)
   reel-there reel p = same 5 refl (absent-test reel) (λ e. p (slot-has (a .shows) reel (not-false _ e)))
 
   -- 11, and after it the head
-  head-there : {x : Fed} {P : Type 0} {rs qs : List Refusal} (h : ℕ) → (h < headCount → Paired x P rs qs)
-      → Paired x P ((le headCount h gives 11) ∷ rs) ((le headCount h gives 11) ∷ qs)
+  head-there : {x : Fed} {P Q : Type 0} {rs qs : List Refusal} (h : ℕ) → (h < headCount → Paired x P Q rs qs)
+      → Paired x P Q ((le headCount h gives 11) ∷ rs) ((le headCount h gives 11) ∷ qs)
   head-there h p = same 11 refl refl (λ e. p (denies (le headCount h) e))
 
   -- 4 never comes on a path
@@ -95,63 +96,65 @@ module _ {s : State} {t : Table} (a : Agrees s t) where
   room-test f r = let ns = path-there (a .shows) (r .open-slot) f in rw (ns .1) (never-level31 a f (ns .0) (r .open-slot) (ns .1))
 
   run-test : {reel slot : ℕ} (words script h f : ℕ) → SlotHas (shape s) (memory s) reel slot
-      → let n = needs (roomOn (shape s) (memory s) (pathFrom (shape s) (memory s) slot f)) in
-      (holds (lt 0 n and le (shape s .nodes) (freeRun (shape s) (reads (s .pool)) n)) ≡ true) ↔ Lacks s (claim words script h reel f)
+      → (holds (noRunFor (shape s) (reads (s .pool)) (roomOn (shape s) (memory s) (pathFrom (shape s) (memory s) slot f))) ≡ true)
+      ↔ Lacks s (claim words script h reel f)
   run-test words script h f r =
       let ns = path-there (a .shows) (r .open-slot) f in
-      let n = needs (roomOn (shape s) (memory s) (some (ns .0))) in
-      rw (ns .1) (decided (lt 0 n and le (shape s .nodes) (freeRun (shape s) (reads (s .pool)) n))
+      rw (ns .1) (decided (noRunFor (shape s) (reads (s .pool)) (roomOn (shape s) (memory s) (some (ns .0))))
       (lacks-claim a words script h f (ns .0) r (ns .1)))
 
-  paired : (op : Operation) (x : Fed) → Paired x (Lacks s op) (refusals op s) (tableRefusals op x t)
+  paired : (op : Operation) (x : Fed) → Paired x (Lacks s op) (InTheWay s op) (refusals op s) (tableRefusals op x t)
   unfolding refusals tableRefusals
   paired (format words slots nodes) x =
       let g : Geometry = record { slots = slots; nodes = nodes } in
       same 1 refl (ap (λ n. holds (badImage n g)) (a .shows .words ∙ ap imageWords (same-geometry (a .shows)))) (λ e.
-      same 3 refl refl (λ e. end))
+      same 3 refl refl (λ e. end (λ w. elim w [ ]) (λ w. elim w [ ])))
   paired (recover words) x =
-      checks (same 3 refl (ap (λ g. holds (badMap g words)) (same-geometry (a .shows))) (λ e. skip (ap not (is-sound (a .shows))) end))
+      checks (same 3 refl (ap (λ g. holds (badMap g words)) (same-geometry (a .shows))) (λ e. skip (ap not (is-sound (a .shows))) (end (λ w. elim w [ ]) (λ w. elim w [ ]))))
   paired (openReel words script reel) x =
       checks (same 3 refl (ap (λ g. holds (badMap g words or badScript script)) (same-geometry (a .shows))) (λ e.
       same 6 refl (present-test reel) (λ e.
       same 7 refl full-test (λ e.
-      run (decided (le (shape s .nodes) (freeRun (shape s) (reads (s .pool)) 1)) (lacks-open a words script reel))))))
+      run (λ w. elim w [ ]) (decided (le (shape s .nodes) (freeRun (shape s) (reads (s .pool)) 1)) (lacks-open a words script reel))))))
   paired (claim words script h reel f) x =
       checks (same 3 refl (ap (λ g. holds (badMap g words or badScript script)) (same-geometry (a .shows))) (λ e.
       head-there h (λ l.
       same 12 refl (ap not (same-idle (a .heads h l))) (λ e.
       reel-there reel (λ r.
-      same 13 refl (same-busy a r) (λ e.
-      skip (room-test f r) (same 9 refl (same-held (a .shows) r f) (λ e. run (run-test words script h f r)))))))))
+      skip (room-test f r) (same 9 refl (same-held (a .shows) r f) (λ e'.
+      let idle = same-idle (a .heads h l) ∙ not-false _ e in
+      meets (conflict-claim a r words script f h idle) (taken-in-the-way a r words script f h idle)
+      (λ own w z. lacking a r words script f h idle (run-test words script h f r .1 z) own w)
+      (run-test words script h f r))))))))
   paired (fill script h) x =
       checks (same 3 refl refl (λ e.
       head-there h (λ l.
       same 12 refl (ap not (same-claimed (a .heads h l))) (λ e.
-      skip (inside-test h l (claimed-not-idle (tableHead t h) (not-false _ e))) end))))
+      skip (inside-test h l (claimed-not-idle (tableHead t h) (not-false _ e))) (end (λ w. elim w [ ]) (λ w. elim w [ ]))))))
   paired (commit script h) x =
       checks (same 3 refl refl (λ e.
       head-there h (λ l.
       same 12 refl (ap not (same-filled (a .heads h l))) (λ e.
-      skip (inside-test h l (filled-not-idle (tableHead t h) (not-false _ e))) end))))
+      skip (inside-test h l (filled-not-idle (tableHead t h) (not-false _ e))) (end (λ w. elim w [ ]) (λ w. elim w [ ]))))))
   paired (abandon script h) x =
       checks (same 3 refl refl (λ e.
       head-there h (λ l.
-      same 12 refl (same-idle (a .heads h l)) (λ e. skip (inside-test h l e) end))))
+      same 12 refl (same-idle (a .heads h l)) (λ e. skip (inside-test h l e) (end (λ w. elim w [ ]) (λ w. elim w [ ]))))))
   paired (remove script reel f) x =
       checks (same 3 refl refl (λ e.
       reel-there reel (λ r.
-      same 13 refl (same-busy a r) (λ e.
-      skip (path-test f r) (same 10 refl (ap not (same-held (a .shows) r f)) (λ e. end))))))
-  paired (query (has reel f)) x = checks (skip refl (reel-there reel (λ r. skip (path-test f r) end)))
+      busy (same-busy a r) (busy-remove a r script f) (λ free.
+      skip (path-test f r) (same 10 refl (ap not (same-held (a .shows) r f)) (λ e. end (λ w. elim w [ ]) free))))))
+  paired (query (has reel f)) x = checks (skip refl (reel-there reel (λ r. skip (path-test f r) (end (λ w. elim w [ ]) (λ w. elim w [ ])))))
   paired (query (list scratch room reel)) x =
       checks (same 3 refl (ap (λ g. holds (badMap g scratch)) (same-geometry (a .shows))) (λ e.
       reel-there reel (λ r.
       skip (ap not (tree-right (a .shows) (r .open-slot)))
-      (same 14 refl (ap (ltb room) (same-length (same-frames (a .shows) r))) (λ e. end)))))
+      (same 14 refl (ap (ltb room) (same-length (same-frames (a .shows) r))) (λ e. end (λ w. elim w [ ]) (λ w. elim w [ ]))))))
   paired (retire words scratch script reel) x =
       checks (same 3 refl (ap (λ g. holds (badMap g words or badMap g scratch or badScript script)) (same-geometry (a .shows))) (λ e.
       reel-there reel (λ r.
-      same 13 refl (same-busy a r) (λ e. skip (ap not (tree-right (a .shows) (r .open-slot))) end))))
+      busy (same-busy a r) (busy-retire a r words scratch script) (λ free. skip (ap not (tree-right (a .shows) (r .open-slot))) (end (λ w. elim w [ ]) free)))))
 
 -- ---- what is handed back
 
@@ -250,5 +253,6 @@ alike {s} {t} a op fit =
       not-edition = λ z. n .not-edition (sym e ∙ z);
       not-malformed = λ z. n .not-malformed (sym e ∙ z);
       format-alone = λ z. n .format-alone (sym e ∙ z);
-      no-run = λ z. rw answer-is (paired-run (paired a op noRun) (sym (reply-is op noRun t) ∙ z));
+      busy = λ z. rw answer-is (paired-busy (paired a op nothing) z);
+      no-run = λ z. rw answer-is (paired-run (paired a op nothing) z);
     }

@@ -7,7 +7,8 @@ use lib.ListN.{length}
 use Rattle.tree.specs.Memory.{Fit}
 use Rattle.book.specs.declared.HeadState.the-variants.{Claimed}
 use Rattle.book.specs.State.{State, claim}
-use Rattle.book.specs.Perform.{placeIn, perform}
+use Rattle.book.specs.Checks.{placeIn}
+use Rattle.book.specs.Perform.{perform}
 use Rattle.book.specs.Table.{Table}
 use Rattle.book.specs.Agrees.{Agrees}
 use Rattle.book.specs.Demands.{ClaimPlaced}

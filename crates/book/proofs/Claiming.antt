@@ -24,13 +24,18 @@ use Rattle.book.proofs.Reading.{sizesOf}
 use Rattle.book.proofs.Claims.{SameClaim, head-on, agrees-of}
 use Rattle.book.proofs.Heads.{length-with, head-written, head-stays, one-target, idle-nothing, table-head-written, table-head-stays, length-with-table}
 
+-- no head is at the node
+pub record NoneAt (ws : List ℕ) (n : ℕ) : Type 0 where
+  pub none : (k : ℕ) {x : Target} → k < headCount → About x (headAt ws k) → x .node ≢ n
+
 -- what the tests of a granted claim say
 pub record Asked (s : State) (t : Table) (h reel f slot : ℕ) : Type 0 where
   pub agrees : Agrees s t
   pub low : h < headCount
   pub idle : isIdle (headAt (s .heads) h) ≡ true
   pub has : SlotHas (sizesOf (s .image)) (reads (s .image)) reel slot
-  pub not-busy : (k : ℕ) {x : Target} → k < headCount → About x (headAt (s .heads) k) → x .slot ≢ slot
+  -- no head is about the frame in this slot
+  pub other-frame : (k : ℕ) {x : Target} → k < headCount → About x (headAt (s .heads) k) → x .slot ≡ slot → x .frame ≢ f
   pub word : f < 2 ^ 64
   pub absent : FrameOf (sizesOf (s .image)) (reads (s .image)) slot f → ⊥
 
@@ -44,8 +49,8 @@ pub record Lands (g : Geometry) (s : State) (t : Table) (reel f slot : ℕ) (im'
   pub reached : (k : ℕ) → Reached g (reads (s .image)) k ↔ Reached g (reads im') k
   pub carries : (x : Target) (reel f : ℕ) → Claims g (reads (s .image)) x reel f → SameClaim g (reads (s .image)) (reads im') x
   pub claims : Claims g (reads im') (targetAt slot n p f) reel f
-  -- no head claims the place, and locate has the place besides those held and those claimed
-  pub unclaimed : (k : ℕ) → ClaimsPlace (s .heads) k n p → ⊥
+  -- no head is at the node, and locate has the place besides those held and those claimed
+  pub unclaimed : NoneAt (s .heads) n
   pub locates : (k q : ℕ) → Reached g (reads im') k → q < 64 → (isSet (reads im' (locateAt g k)) q ≡ true)
       ↔ (((held g (reads im') k q ≡ true) ⊎ ((i : ℕ) × ClaimsPlace (s .heads) i k q)) ⊎ ((k ≡ n) × (q ≡ p)))
 
@@ -95,29 +100,29 @@ module _ {s : State} {t : Table} {h reel f slot n p : ℕ} {im' : List ℕ}
 
   -- no other head meets the new one
   not-both : {x y : Target} (k : ℕ) → k < headCount → k ≢ h → About x (headAt heads' h) → About y (headAt heads' k)
-      → ((x .node ≡ y .node) × (x .place ≡ y .place)) ⊎ ((x .slot ≡ y .slot) × (x .frame ≡ y .frame)) → ⊥
+      → (x .node ≡ y .node) ⊎ ((x .slot ≡ y .slot) × (x .frame ≡ y .frame)) → ⊥
   not-both {x} {y} k b d c c' e =
       let z = about-new c in
       let o = rw (other k d) at c' in
       elim e [
-        | inl q ↦ l .unclaimed k (record { target = y; low = b; about = o; node = sym (q .0) ∙ ap (λ x. x .node) z; place = sym (q .1) ∙ ap (λ x. x .place) z })
-        | inr q ↦ a .not-busy k b o (sym (q .0) ∙ ap (λ x. x .slot) z)
+        | inl q ↦ l .unclaimed .none k b o (sym q ∙ ap (λ x. x .node) z)
+        | inr q ↦ a .other-frame k b o (sym (q .0) ∙ ap (λ x. x .slot) z) (sym (q .1) ∙ ap (λ x. x .frame) z)
       ]
 
-  turned : {x y : Target} → ((x .node ≡ y .node) × (x .place ≡ y .place)) ⊎ ((x .slot ≡ y .slot) × (x .frame ≡ y .frame))
-      → ((y .node ≡ x .node) × (y .place ≡ x .place)) ⊎ ((y .slot ≡ x .slot) × (y .frame ≡ x .frame))
-  turned (inl q) = inl (sym (q .0), sym (q .1))
-  turned (inr q) = inr (sym (q .0), sym (q .1))
+  turned : (x y : Target) → (x .node ≡ y .node) ⊎ ((x .slot ≡ y .slot) × (x .frame ≡ y .frame))
+      → (y .node ≡ x .node) ⊎ ((y .slot ≡ x .slot) × (y .frame ≡ x .frame))
+  turned x y (inl q) = inl (sym q)
+  turned x y (inr q) = inr (sym (q .0), sym (q .1))
 
   heads-apart : (k k' : ℕ) {x y : Target} → k < headCount → k' < headCount → About x (headAt heads' k) → About y (headAt heads' k')
-      → ((x .node ≡ y .node) × (x .place ≡ y .place)) ⊎ ((x .slot ≡ y .slot) × (x .frame ≡ y .frame)) → k ≡ k'
-  heads-apart k k' b b' c c' e = elim (ℕ-discrete k h) [
+      → (x .node ≡ y .node) ⊎ ((x .slot ≡ y .slot) × (x .frame ≡ y .frame)) → k ≡ k'
+  heads-apart k k' {x} {y} b b' c c' e = elim (ℕ-discrete k h) [
     | yes q ↦ elim (ℕ-discrete k' h) [
       | yes q' ↦ q ∙ sym q'
       | no q' ↦ absurd (not-both k' b' q' (rw q at c) c' e)
     ]
     | no q ↦ elim (ℕ-discrete k' h) [
-      | yes q' ↦ absurd (not-both k b q (rw q' at c') c (turned e))
+      | yes q' ↦ absurd (not-both k b q (rw q' at c') c (turned x y e))
       | no q' ↦ a .agrees .apart k k' b b' (rw (other k q) at c) (rw (other k' q') at c') e
     ]
   ]

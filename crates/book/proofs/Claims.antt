@@ -100,7 +100,7 @@ pub record AgreesBy (g : Geometry) (s : State) (t : Table) : Type 0 where
   pub table-heads : length (t .heads) ≡ headCount
   pub heads : (h : ℕ) → h < headCount → HeadAgrees g (reads (s .image)) (headAt (s .heads) h) (tableHead t h)
   pub apart : (h h' : ℕ) {a b : Target} → h < headCount → h' < headCount → About a (headAt (s .heads) h) → About b (headAt (s .heads) h')
-      → ((a .node ≡ b .node) × (a .place ≡ b .place)) ⊎ ((a .slot ≡ b .slot) × (a .frame ≡ b .frame)) → h ≡ h'
+      → (a .node ≡ b .node) ⊎ ((a .slot ≡ b .slot) × (a .frame ≡ b .frame)) → h ≡ h'
   pub locates : (n p : ℕ) → Reached g (reads (s .image)) n → p < 64
       → (isSet (reads (s .image) (locateAt g n)) p ≡ true) ↔ ((held g (reads (s .image)) n p ≡ true) ⊎ ((h : ℕ) × ClaimsPlace (s .heads) h n p))
 

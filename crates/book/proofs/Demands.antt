@@ -3,6 +3,7 @@ use Rattle.book.specs.Demands.{Demand2, Demand3, Placed}
 use Rattle.book.specs.Growth.{Growth}
 pub use Rattle.book.proofs.Demand1.{demand1}
 pub use Rattle.book.proofs.Due.{refusals-due}
+pub use Rattle.book.proofs.AsBefore.{claim-as-before}
 pub use Rattle.book.proofs.Fixed.{fixed}
 pub use Rattle.book.proofs.Scripts.{scripts}
 use Rattle.book.proofs.Assembly.{Scripted, opens, claims, fills, commits, abandons, removes, asks, retires, Steps, demand2-from, demand3-from}

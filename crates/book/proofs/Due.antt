@@ -25,7 +25,7 @@ use Rattle.book.specs.Due.{Due, _when_, First, here, later, none, header
 use Rattle.book.proofs.Refusals.{decided}
 use Rattle.book.proofs.Performed.{answer-is}
 use Rattle.book.proofs.DueWords.{plain, turned, image-test, idle-test, claimed-test, filled-test, outside-test, busy-test, open-test, absent-test, present, of-reel, full-test, run-says}
-use Rattle.book.proofs.DuePaths.{path-test, path-there, room-test, find-test, children-test}
+use Rattle.book.proofs.DuePaths.{path-test, path-there, room-test, find-test, conflict-test, children-test}
 use Rattle.book.proofs.DueTrees.{tree-test, tree-sound, frames-test}
 
 -- ---- a list of tests and a list of conditions
@@ -89,12 +89,12 @@ module _ (s : State) where
       next (plain (le headCount h)) (λ b.
       next (turned (idle-test s h)) (λ c.
       reel-there reel (λ r.
-      next (busy-of r) (λ d.
       let o = r .has .open-slot in
-      next (of-reel s reel _ r (room-test s f o)) (λ e.
-      let bad = past-reel r e in
+      next (of-reel s reel _ r (room-test s f o)) (λ d.
+      let bad = past-reel r d in
       let p = path-there s f o (λ x. bad (inl x)) in
-      next (of-reel s reel _ r (find-test s f o (p .0) (p .1))) (λ k.
+      next (of-reel s reel _ r (find-test s f o (p .0) (p .1))) (λ e.
+      next (of-reel s reel _ r (conflict-test s f o (p .0) (p .1) (λ x. bad (inr x)))) (λ k.
       next (of-reel s reel _ r (children-test s f o (p .0) (p .1) (λ x. bad (inr x)))) (λ l. end)))))))))
   decides (fill script h) =
       checks (next (plain (badScript script)) (λ a.

@@ -1,5 +1,5 @@
 -- Tests of a frame's path, on any image, each with what it means by ways.
-use mathlib.Core.Path.{_≡_, refl, sym, _∙_, ap}
+use mathlib.Core.Path.{_≡_, refl, sym, _∙_, ap, subst}
 use mathlib.Core.Bool.{true}
 use mathlib.Core.Logic.{inl, inr, _↔_}
 use mathlib.Core.Option.{some}
@@ -9,7 +9,7 @@ use native.Mathlib.Omega.{arith}
 use native.Mathlib.Decide.{ℕ-discrete}
 use borrow.Author.Tests.{eqb-true}
 use Rattle.tree.specs.Memory.{reads, isSome}
-use Rattle.tree.specs.Test.{lt, le, is, _and_, _or_, holds}
+use Rattle.tree.specs.Test.{is, _or_, holds}
 use Rattle.tree.specs.Path.{fanout}
 use Rattle.tree.specs.Fingerprint.{ruleOf}
 use Rattle.tree.specs.Slots.{Filled}
@@ -21,12 +21,13 @@ use Rattle.tree.proofs.Cases.{true-not-false, seen, nothing, just, none-some}
 use Rattle.tree.proofs.Lookup.{of-index, match-facts, find-holds}
 use Rattle.tree.proofs.Laws.{child-laws, reach-laws, path-laws, lookup-says}
 use Rattle.book.specs.State.{State, memory, shape}
-use Rattle.book.specs.Checks.{noPath}
-use Rattle.book.specs.Ways.{FullPath}
-use Rattle.book.specs.Due.{BadPath, NoRoom, Finds, NoChildren}
+use Rattle.book.specs.Checks.{noPath, noRunFor, inConflict}
+use Rattle.book.specs.Ways.{FullPath, Uses}
+use Rattle.book.specs.Due.{BadPath, NoRoom, Finds, LowestFree, Conflict, NoChildren}
 use Rattle.book.proofs.Refusals.{decided}
 use Rattle.book.proofs.Rooms.{RoomIs, room-is, room-branches}
-use Rattle.book.proofs.DueWords.{run-says}
+use Rattle.book.proofs.Conflicts.{conflict-by}
+use Rattle.book.proofs.DueWords.{word-target, named, busy-of-names, run-says, lowest-free}
 
 module _ (s : State) {slot : ℕ} (f : ℕ) (open-slot : Filled (shape s) (memory s) slot) where
   -- 4 on a path
@@ -91,29 +92,48 @@ module _ (s : State) {slot : ℕ} (f : ℕ) (open-slot : Filled (shape s) (memor
           is = match-facts (ruleOf (memory s)) (shape s) (memory s) f (x .node) (x .place) .1 (x .is .set-bit, (x .is .of-frame, x .is .printed));
         })
 
-    -- 8 in Claim
-    pub children-test : (FullPath (shape s) (memory s) slot f 31 → ⊥)
-        → let n = needs (roomOn (shape s) (memory s) (pathFrom (shape s) (memory s) slot f)) in
-        (holds (lt 0 n and le (shape s .nodes) (freeRun (shape s) (reads (s .pool)) n)) ≡ true) ↔ NoChildren s f slot
-    children-test above =
-        let n = needs (roomOn (shape s) (memory s) (some ns)) in
-        rw is-path (decided (lt 0 n and le (shape s .nodes) (freeRun (shape s) (reads (s .pool)) n))
-        (go (roomOn (shape s) (memory s) (some ns)) (room-is f ns open-slot is-path), back))
-      where
-        go : (r : Room) → RoomIs (shape s) (memory s) slot f r → (0 < needs r) × (shape s .nodes ≤ freeRun (shape s) (reads (s .pool)) (needs r))
-            → NoChildren s f slot
-        go (Clear u) c x = absurd (omega arith)
-        go (ScaleUp n size) c x = absurd (omega arith)
-        go (BranchOut parent d) c x = record { level = d; full = c .path; no-run = run-says s (fanout d) (x .0) .0 (x .1) }
+    -- past 4, in Claim
+    module _ (above : FullPath (shape s) (memory s) slot f 31 → ⊥) where
+      above-31 : (d : ℕ) → FullPath (shape s) (memory s) slot f d → d < 31
+      above-31 d x = elim (ℕ-discrete d 31) [
+        | yes q ↦ absurd (above (rw q at x))
+        | no q ↦ omega (arith, reach-laws (shape s) (memory s) .depth (x .there), child-laws .length-way d f)
+      ]
 
-        -- a node of the path above level 31 has room for children
-        deep : {d : ℕ} → FullPath (shape s) (memory s) slot f d → 0 < fanout d
-        deep {d} x = elim (ℕ-discrete d 31) [
-          | yes q ↦ absurd (above (rw q at x))
-          | no q ↦ omega (arith, child-laws .below d f (omega (arith, reach-laws (shape s) (memory s) .depth (x .there), child-laws .length-way d f)))
-        ]
+      -- 13
+      pub conflict-test : (holds (inConflict (shape s) (reads (s .pool)) (s .heads) slot (roomOn (shape s) (memory s) (pathFrom (shape s) (memory s) slot f)) f) ≡ true)
+          ↔ Conflict s f slot
+      conflict-test =
+          let b = conflict-by s {slot = slot} {f = f} (lowest-free s) above-31 ns open-slot is-path in
+          rw is-path (
+            λ e.
+                let k = b .0 e in
+                let q = word-target s (k .0) (k .1 .about) .1 in
+                record {
+                  by = busy-of-names (k .1);
+                  same = elim (k .2) [
+                    | inl p ↦ inl (ap (λ t. t .frame) (sym q) ∙ p)
+                    | inr u ↦ inr (subst (Uses (LowestFree s) (shape s) (memory s) slot f) (ap (λ t. t .node) q) u)
+                  ];
+                },
+            λ x. b .1 (x .by .head, named s (x .by .head) (x .by .low) (x .by .not-idle) (x .by .names), x .same),
+          )
 
-        back : NoChildren s f slot
-            → (0 < needs (roomOn (shape s) (memory s) (some ns)))
-            × (shape s .nodes ≤ freeRun (shape s) (reads (s .pool)) (needs (roomOn (shape s) (memory s) (some ns))))
-        back x = let l = deep (x .full) in rw (room-branches f ns open-slot is-path (x .full)) (l, run-says s (fanout (x .level)) l .1 (x .no-run))
+      -- 8
+      pub children-test : (holds (noRunFor (shape s) (reads (s .pool)) (roomOn (shape s) (memory s) (pathFrom (shape s) (memory s) slot f))) ≡ true) ↔ NoChildren s f slot
+      children-test =
+          rw is-path (decided (noRunFor (shape s) (reads (s .pool)) (roomOn (shape s) (memory s) (some ns)))
+          (go (roomOn (shape s) (memory s) (some ns)) (room-is f ns open-slot is-path), back))
+        where
+          go : (r : Room) → RoomIs (shape s) (memory s) slot f r → (0 < needs r) × (shape s .nodes ≤ freeRun (shape s) (reads (s .pool)) (needs r))
+              → NoChildren s f slot
+          go (Clear u) c x = absurd (omega arith)
+          go (ScaleUp n size) c x = absurd (omega arith)
+          go (BranchOut parent d) c x = record { level = d; full = c .path; no-run = run-says s (fanout d) (x .0) .0 (x .1) }
+
+          back : NoChildren s f slot
+              → (0 < needs (roomOn (shape s) (memory s) (some ns)))
+              × (shape s .nodes ≤ freeRun (shape s) (reads (s .pool)) (needs (roomOn (shape s) (memory s) (some ns))))
+          back x =
+              let l : 0 < fanout (x .level) = omega (arith, child-laws .below (x .level) f (above-31 (x .level) (x .full))) in
+              rw (room-branches f ns open-slot is-path (x .full)) (l, run-says s (fanout (x .level)) l .1 (x .no-run))

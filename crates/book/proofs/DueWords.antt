@@ -1,12 +1,12 @@
 -- Tests of the image, of buffers, heads, slots and runs, each with what it means by words.
-use mathlib.Core.Path.{_≡_, refl, ap}
+use mathlib.Core.Path.{_≡_, refl, sym, _∙_, ap, subst}
 use mathlib.Core.Bool.{Bool, true, not}
 use mathlib.Core.Logic.{inl, inr, _↔_, _≢_}
-use Prim.Native.Nat.{ℕ, _+_, _*_, _≤_, _<_}
+use Prim.Native.Nat.{ℕ, _≤_, _<_}
 use native.Mathlib.Omega.{arith}
 use native.Mathlib.Decide.{decLt}
 use lib.Dec.{eqb}
-use borrow.Author.Tests.{eqb-true, eqb-false, eq-eqb, not-true}
+use borrow.Author.Tests.{eqb-true, eqb-false, not-true}
 use Rattle.tree.specs.Memory.{reads}
 use Rattle.tree.specs.Test.{Test, lt, le, holds, Says}
 use Rattle.tree.specs.declared.layout.Geometry.{Geometry}
@@ -19,13 +19,15 @@ use Rattle.tree.proofs.Laws.{slot-laws, run-laws}
 use Rattle.book.specs.declared.Target.{Target}
 use Rattle.book.specs.declared.HeadState.{HeadState}
 use Rattle.book.specs.declared.HeadState.the-variants as heads
-use Rattle.book.specs.Heads.{stateOf, headAt, isIdle, isClaimed, isFilled, targetOf, names, busy}
+use Rattle.book.specs.Heads.{headCount, stateOf, headAt, isIdle, isClaimed, isFilled, targetOf, busy}
 use Rattle.book.specs.State.{State, memory, shape}
 use Rattle.book.specs.Checks.{outside}
-use Rattle.book.specs.Ways.{SlotHas, ReelAt}
-use Rattle.book.specs.Due.{RightImage, stateWord, slotWord, nodeWord, placeWord, Idle, Outside, Busy, OfReel, NoReel, OpenReel, NoEmptySlot, NoRun}
+use Rattle.book.specs.Agrees.{About, by-claim, by-fill}
+use Rattle.book.specs.Ways.{SlotHas, ReelAt, HeadNames}
+use Rattle.book.specs.Due.{RightImage, stateWord, slotWord, nodeWord, placeWord, frameWord, Idle, Outside, Busy, OfReel, NoReel, OpenReel, NoEmptySlot, NoRun, LowestFree}
 use Rattle.book.proofs.Refusals.{Denies, decided, denies, denied}
-use Rattle.book.proofs.Heads.{busy-names}
+use Rattle.book.proofs.Uses.{FoundRun}
+use Rattle.book.proofs.Conflicts.{busy-by}
 
 -- a condition that is what its test says
 pub plain : (t : Test) → (holds t ≡ true) ↔ Says t
@@ -76,7 +78,7 @@ state-is w t = elim (test (eqb w 1)) [
 
 module _ (s : State) (h : ℕ) where
   abbrev target : Target
-  target = record { slot = slotWord s h; node = nodeWord s h; place = placeWord s h; frame = reads (s .heads) (5 * h + 4) }
+  target = record { slot = slotWord s h; node = nodeWord s h; place = placeWord s h; frame = frameWord s h }
 
   head-is : StateIs (stateWord s h) target (headAt (s .heads) h)
   unfolding headAt
@@ -114,21 +116,36 @@ module _ (s : State) (h : ℕ) where
       go (claimed q) = plain (outside (shape s) target)
       go (filled q) = plain (outside (shape s) target)
 
-  names-test : (slot : ℕ) → (names slot (headAt (s .heads) h) ≡ true) ↔ ((Idle s h → ⊥) × (slotWord s h ≡ slot))
-  names-test slot = go head-is
+  -- what a head is about, by its words
+  pub word-target : {t : Target} → About t (headAt (s .heads) h) → (Idle s h → ⊥) × (t ≡ target)
+  word-target o = go head-is o
     where
-      go : {x : HeadState} → StateIs (stateWord s h) target x → (names slot x ≡ true) ↔ ((Idle s h → ⊥) × (slotWord s h ≡ slot))
-      go (idle a b) = (λ e. absurd (true-not-false e refl), λ p. absurd (p .0 (a, b)))
-      go (claimed q) = (λ e. (λ i. i .0 q, eqb-true (slotWord s h) slot e), λ p. eq-eqb (slotWord s h) slot (p .1))
-      go (filled q) = (λ e. (λ i. i .1 q, eqb-true (slotWord s h) slot e), λ p. eq-eqb (slotWord s h) slot (p .1))
+      go : {t : Target} {x : HeadState} → StateIs (stateWord s h) target x → About t x → (Idle s h → ⊥) × (t ≡ target)
+      go (idle a b) o = elim o [ ]
+      go (claimed q) by-claim = (λ i. i .0 q, refl)
+      go (filled q) by-fill = (λ i. i .1 q, refl)
+
+  pub about-words : (Idle s h → ⊥) → About target (headAt (s .heads) h)
+  about-words taken = go head-is
+    where
+      go : {x : HeadState} → StateIs (stateWord s h) target x → About target x
+      go (idle a b) = absurd (taken (a, b))
+      go (claimed q) = by-claim
+      go (filled q) = by-fill
+
+  abbrev pub named : {slot : ℕ} → h < headCount → (Idle s h → ⊥) → slotWord s h ≡ slot → HeadNames s h slot
+  named l taken q = record { low = l; target = target; about = about-words taken; of-slot = q }
+
+-- 13 in Remove and Retire
+abbrev pub busy-of-names : {s : State} {slot k : ℕ} → HeadNames s k slot → Busy s slot
+busy-of-names {s} {slot} {k} x =
+    let w = word-target s k (x .about) in
+    record { head = k; low = x .low; not-idle = w .0; names = ap (λ t. t .slot) (sym (w .1)) ∙ x .of-slot }
 
 pub busy-test : (s : State) (slot : ℕ) → (busy (s .heads) slot ≡ true) ↔ Busy s slot
 busy-test s slot = (
-  λ e.
-      let t = busy-names (s .heads) slot .0 e in
-      let n = names-test s (t .0) slot .0 (t .2) in
-      record { head = t .0; low = t .1; not-idle = n .0; names = n .1 },
-  λ b. busy-names (s .heads) slot .1 (b .head, b .low, names-test s (b .head) slot .1 (b .not-idle, b .names)),
+  λ e. busy-of-names (busy-by s slot .0 e .1),
+  λ b. busy-by s slot .1 (b .head, named s (b .head) (b .low) (b .not-idle) (b .names)),
 )
 
 -- ---- slots
@@ -181,4 +198,11 @@ pub run-says : (s : State) (k : ℕ) → 0 < k → (shape s .nodes ≤ freeRun (
 run-says s k h = let laws = run-laws (shape s) (reads (s .pool)) k in (
   λ l n r. omega (arith, laws .lowest n h r .1),
   λ none. elim (decLt (freeRun (shape s) (reads (s .pool)) k) (shape s .nodes)) [ yes l ↦ absurd (none _ (laws .found l)) | no l ↦ omega arith ],
+)
+
+-- the lowest free run is what the search of the map finds
+pub lowest-free : (s : State) (k start : ℕ) → 0 < k → LowestFree s k start ↔ FoundRun (shape s) (reads (s .pool)) k start
+lowest-free s k start h = let laws = run-laws (shape s) (reads (s .pool)) k in (
+  λ l. let z = laws .lowest start h (l .run) in (omega (arith, z .0, l .lowest _ (laws .found (z .1))), z .1),
+  λ q. subst (LowestFree s k) (q .0) (record { run = laws .found (q .1); lowest = λ b r. laws .lowest b h r .0 }),
 )

@@ -9,18 +9,18 @@ use native.Mathlib.Decide.{decLt}
 use lib.ListN.{length, getD, take, drop, replicate, length-append, length-drop, length-set, length-replicate, getD-replicate}
 use lib.ListN.{List·getD-append, List·getD-eq-default}
 use lib.Seq.{length-take-le, getD-append-add, getD-take, getD-drop, getD-set-same, getD-set-other}
-use lib.Dec.{ltb}
+use lib.Dec.{eqb, ltb}
 use borrow.Author.Tests.{ltb-true, lt-ltb, eqb-true, eq-eqb, not-true}
 use Rattle.tree.specs.Memory.{reads, first}
 use Rattle.tree.specs.Lists.{every}
-use Rattle.tree.proofs.Cases.{test, true-not-false}
+use Rattle.tree.proofs.Cases.{test, true-not-false, and-true, true-and, or-true, or-left, or-right}
 use Rattle.tree.proofs.Memory.{first-laws}
 use Rattle.tree.proofs.Laws.{pool-laws}
 use Rattle.book.specs.declared.Target.{Target}
 use Rattle.book.specs.declared.HeadState.{HeadState}
 use Rattle.book.specs.declared.HeadState.the-variants.{Idle, Claimed, Filled}
-use Rattle.book.specs.Heads.{headCount, stateOf, headAt, wordsOf, withHead, idleHeads, isIdle, isClaimed, isFilled, targetOf, names, busy}
-use Rattle.book.specs.Table.{Table, TableHead, idle, tableHead, isAbout, isBusy, withTableHead}
+use Rattle.book.specs.Heads.{headCount, stateOf, headAt, wordsOf, withHead, idleHeads, isIdle, isClaimed, isFilled, targetOf, names, anyHead, conflicts}
+use Rattle.book.specs.Table.{Table, TableHead, idle, tableHead, anyTableHead, withTableHead}
 use Rattle.book.specs.Agrees.{About, by-claim, by-fill}
 
 -- ---- words put in place of others
@@ -168,9 +168,52 @@ found-below p n =
       λ t. lt-ltb (first p n) n (omega (arith, l .least (t .0) (t .1) (t .2))),
     )
 
-pub busy-names : (ws : List ℕ) (s : ℕ) → (busy ws s ≡ true) ↔ ((h : ℕ) × (h < headCount) × (names s (headAt ws h) ≡ true))
-unfolding busy
-busy-names ws s = found-below (λ h. names s (headAt ws h)) headCount
+pub any-head : (passes : HeadState → Bool) (ws : List ℕ)
+    → (anyHead passes ws ≡ true) ↔ ((h : ℕ) × (h < headCount) × (passes (headAt ws h) ≡ true))
+unfolding anyHead
+any-head passes ws = found-below (λ h. passes (headAt ws h)) headCount
+
+-- ---- a head in a claim's way
+
+-- it is about a target with the claim's slot, and with its frame or, if the claim uses one, at its node
+pub conflicts-about : (t : Target) (uses : Bool) (x : HeadState)
+    → (conflicts t uses x ≡ true)
+    ↔ ((y : Target) × About y x × (y .slot ≡ t .slot) × ((y .frame ≡ t .frame) ⊎ ((uses ≡ true) × (y .node ≡ t .node))))
+conflicts-about t uses x = (there, back)
+  where
+    there : conflicts t uses x ≡ true
+        → (y : Target) × About y x × (y .slot ≡ t .slot) × ((y .frame ≡ t .frame) ⊎ ((uses ≡ true) × (y .node ≡ t .node)))
+    there h =
+        let b = and-true (names (t .slot) x) _ h in
+        let n = names-about (t .slot) x .0 (b .0) in
+        let q = target-about (n .1) .1 in (
+          n .0,
+          n .1,
+          n .2,
+          elim (or-true (eqb (targetOf x .frame) (t .frame)) _ (b .1)) [
+            | inl e ↦ inl (ap (λ y. y .frame) (sym q) ∙ eqb-true (targetOf x .frame) (t .frame) e)
+            | inr e ↦
+                let u = and-true uses _ e in
+                inr (u .0, ap (λ y. y .node) (sym q) ∙ eqb-true (targetOf x .node) (t .node) (u .1))
+          ],
+        )
+
+    back : (y : Target) × About y x × (y .slot ≡ t .slot) × ((y .frame ≡ t .frame) ⊎ ((uses ≡ true) × (y .node ≡ t .node)))
+        → conflicts t uses x ≡ true
+    back p =
+        let q = target-about (p .1) .1 in
+        true-and (names-about (t .slot) x .1 (p .0, p .1, p .2)) (elim (p .3) [
+          | inl e ↦ or-left _ (eq-eqb (targetOf x .frame) (t .frame) (ap (λ y. y .frame) q ∙ e))
+          | inr e ↦ or-right (eqb (targetOf x .frame) (t .frame)) (true-and (e .0) (eq-eqb (targetOf x .node) (t .node) (ap (λ y. y .node) q ∙ e .1)))
+        ])
+
+-- where none is, a head of the slot has another frame and is at another node than the one that the claim uses
+pub no-conflict : (t : Target) (uses : Bool) (ws : List ℕ) → anyHead (conflicts t uses) ws ≡ false
+    → (k : ℕ) {y : Target} → k < headCount → About y (headAt ws k) → y .slot ≡ t .slot → (y .frame ≢ t .frame) × (uses ≡ true → y .node ≢ t .node)
+no-conflict t uses ws none k {y} l o q =
+    let met : (y .frame ≡ t .frame) ⊎ ((uses ≡ true) × (y .node ≡ t .node)) → ⊥ =
+    λ e. true-not-false (any-head (conflicts t uses) ws .1 (k, l, conflicts-about t uses (headAt ws k) .1 (y, o, q, e))) none in
+    (λ e. met (inl e), λ u e. met (inr (u, e)))
 
 -- ---- the table's heads
 
@@ -208,9 +251,10 @@ module _ {A : Type 0} (p : A → Bool) (d : A) where
   at-some (x ∷ xs) zero l e = rw e
   at-some (x ∷ xs) (suc i) l e = rw (at-some xs i (omega arith) e) (and-false (not (p x)))
 
-pub is-busy : (t : Table) (reel : ℕ) → (isBusy t reel ≡ true) ↔ ((h : ℕ) × (h < length (t .heads)) × (isAbout reel (tableHead t h) ≡ true))
-unfolding isBusy
-is-busy t reel = (
-  λ h. some-at (isAbout reel) idle (t .heads) (not-true _ h),
-  λ r. rw (at-some (isAbout reel) idle (t .heads) (r .0) (r .1) (r .2)),
+pub any-table-head : (passes : TableHead → Bool) (t : Table)
+    → (anyTableHead passes t ≡ true) ↔ ((h : ℕ) × (h < length (t .heads)) × (passes (tableHead t h) ≡ true))
+unfolding anyTableHead
+any-table-head passes t = (
+  λ h. some-at passes idle (t .heads) (not-true _ h),
+  λ r. rw (at-some passes idle (t .heads) (r .0) (r .1) (r .2)),
 )

@@ -1,5 +1,5 @@
 -- Room in the book's own image: level 31 never fills, and free runs of the pool map are runs of nodes that no reel reaches.
-use mathlib.Core.Path.{_≡_, refl, sym, _∙_, ap}
+use mathlib.Core.Path.{_≡_, refl, sym, _∙_, ap, subst}
 use mathlib.Core.Bool.{true, false, not}
 use mathlib.Core.Logic.{inl, inr, _↔_}
 use mathlib.Core.Option.{some}
@@ -34,6 +34,7 @@ use Rattle.book.specs.Agrees.{ClaimsPlace, Agrees}
 use Rattle.book.specs.Ways.{UnreachedRun, LowestRun, FullPath, SlotHas, Lacks, no-node, no-run}
 use Rattle.book.proofs.Heads.{one-target}
 use Rattle.book.proofs.Rooms.{RoomIs, room-is, room-branches}
+use Rattle.book.proofs.Uses.{FoundRun}
 
 -- a head is about one target, so it claims one place
 pub one-place : {ws : List ℕ} {h n n' p q : ℕ} → ClaimsPlace ws h n p → ClaimsPlace ws h n' q → p ≡ q
@@ -122,6 +123,14 @@ module _ {s : State} {t : Table} (agrees : Agrees s t) where
     run = unreached-free k _ .1 (laws .found l);
     lowest = λ b u. laws .lowest b h (unreached-free k b .0 u) .0;
   }
+
+  pub lowest-found : (k start : ℕ) → 0 < k → LowestRun (shapeOf s) (imageOf s) k start ↔ FoundRun (shapeOf s) (reads (s .pool)) k start
+  lowest-found k start h = (
+    λ l.
+        let z = run-laws (shapeOf s) (reads (s .pool)) k .lowest start h (unreached-free k start .0 (l .run)) in
+        (omega (arith, z .0, l .lowest _ (lowest-run k h (z .1) .run)), z .1),
+    λ q. subst (LowestRun (shapeOf s) (imageOf s) k) (q .0) (lowest-run k h (q .1)),
+  )
 
   pub no-free-run : (k : ℕ) → 0 < k
       → (shapeOf s .nodes ≤ freeRun (shapeOf s) (reads (s .pool)) k) ↔ ((a : ℕ) → UnreachedRun (shapeOf s) (imageOf s) k a → ⊥)

@@ -4,7 +4,10 @@ pub mod View
 pub mod Step
 pub mod Heads
 pub mod Rooms
+pub mod Uses
 pub mod Level31
+pub mod Conflicts
+pub mod InTheWay
 pub mod Stored
 pub mod ReelLists
 pub mod Reels
@@ -62,3 +65,4 @@ pub mod DueWords
 pub mod DuePaths
 pub mod DueTrees
 pub mod Due
+pub mod AsBefore

@@ -62,7 +62,7 @@ module _ {s : State} {t : Table} {h reel f slot : ℕ} {im' pool' : List ℕ}
         low = a .low;
         idle = a .idle;
         has = rw geometry-made (record { open-slot = b; number = sym (l .still .within .reels b) ∙ a .has .number });
-        not-busy = a .not-busy;
+        other-frame = a .other-frame;
         word = a .word;
         absent = rw geometry-made (λ x. a .absent (within-frames (l .still .within) x));
       }

@@ -1,6 +1,6 @@
 -- What a book reads of its image and its heads, where it agrees with a table: what the table reads of itself.
 use mathlib.Core.Path.{_≡_, refl, sym, _∙_, ap, ap₂}
-use mathlib.Core.Bool.{true, false, cond}
+use mathlib.Core.Bool.{Bool, true, false, cond}
 use mathlib.Core.Logic.{_⊎_, inl, inr, _↔_}
 use mathlib.Core.Option.{some}
 use mathlib.Core.List.{List, [], _∷_, map, List·Memᴰ, List·Memᴰ·head, List·Memᴰ·tail, List·Memᴰ·cases-cons, List·Memᴰ·not-nil, Memᴰ·map, Memᴰ·cast}
@@ -31,14 +31,14 @@ use Rattle.tree.proofs.Laws.{child-laws, node-laws, slot-laws, path-laws, looku
 use Rattle.book.specs.declared.Target.{Target}
 use Rattle.book.specs.declared.HeadState.{HeadState}
 use Rattle.book.specs.Heads as book
-use Rattle.book.specs.Heads.{targetOf, names, busy}
+use Rattle.book.specs.Heads.{headCount, headAt, targetOf, names, anyHead, busy}
 use Rattle.book.specs.State.{State}
 use Rattle.book.specs.Table as table
-use Rattle.book.specs.Table.{Table, TableHead, Reel, geometry, framesIn, orEmpty, isPresent, framesOf, isHeld, isAbout, isBusy}
+use Rattle.book.specs.Table.{Table, TableHead, Reel, geometry, framesIn, orEmpty, isPresent, framesOf, isHeld, tableHead, anyTableHead, isAbout, isBusy}
 use Rattle.book.specs.Agrees.{EachOnce, Shows, Claims, HeadAgrees, both-idle, both-claimed, both-filled, Agrees}
 use Rattle.book.specs.Ways.{SlotHas}
 use Rattle.book.proofs.Refusals.{denied}
-use Rattle.book.proofs.Heads.{busy-names, is-busy}
+use Rattle.book.proofs.Heads.{any-head, any-table-head}
 use Rattle.book.proofs.ReelLists.{has-member}
 use Rattle.book.proofs.Showing.{present-slot}
 
@@ -257,18 +257,23 @@ module _ {image : List ℕ} {t : Table} (v : Shows image t) {x : Target} {r f : 
   )
 
 -- a head names a reel's slot exactly if the table's is about the reel
-same-names : {image : List ℕ} {t : Table} {reel slot : ℕ} {x : HeadState} {y : TableHead} → Shows image t → SlotHas (sizesOf image) (reads image) reel slot
+pub same-names : {image : List ℕ} {t : Table} {reel slot : ℕ} {x : HeadState} {y : TableHead} → Shows image t → SlotHas (sizesOf image) (reads image) reel slot
     → HeadAgrees (sizesOf image) (reads image) x y → names slot x ≡ isAbout reel y
 same-names v h both-idle = refl
 same-names v h (both-claimed c) = claim-names v c h
 same-names v h (both-filled c w) = claim-names v c h
 
+-- a test of the book's heads and one of the table's that agree head by head agree
+pub same-any : {s : State} {t : Table} → Agrees s t → (passes : HeadState → Bool) (told : TableHead → Bool)
+    → ((h : ℕ) → h < headCount → passes (headAt (s .heads) h) ≡ told (tableHead t h)) → anyHead passes (s .heads) ≡ anyTableHead told t
+same-any {s} {t} a passes told e =
+    let b = any-head passes (s .heads) in
+    let c = any-table-head told t in
+    same-test (
+      λ h. let k = b .0 h in c .1 (k .0, rw (a .table-heads) (k .1), sym (e (k .0) (k .1)) ∙ k .2),
+      λ h. let k = c .0 h in let l = rw (a .table-heads) at (k .1) in b .1 (k .0, l, e (k .0) l ∙ k .2),
+    )
+
 pub same-busy : {s : State} {t : Table} {reel slot : ℕ} → Agrees s t → SlotHas (sizesOf (s .image)) (reads (s .image)) reel slot
     → busy (s .heads) slot ≡ isBusy t reel
-same-busy {s} {t} {reel} {slot} a x =
-    let b = busy-names (s .heads) slot in
-    let c = is-busy t reel in
-    same-test (
-      λ h. let k = b .0 h in c .1 (k .0, rw (a .table-heads) (k .1), sym (same-names (a .shows) x (a .heads (k .0) (k .1))) ∙ k .2),
-      λ h. let k = c .0 h in let l = rw (a .table-heads) at (k .1) in b .1 (k .0, l, same-names (a .shows) x (a .heads (k .0) l) ∙ k .2),
-    )
+same-busy {reel = reel} {slot = slot} a x = same-any a (names slot) (isAbout reel) (λ h l. same-names (a .shows) x (a .heads h l))

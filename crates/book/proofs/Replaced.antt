@@ -120,7 +120,7 @@ module _ {g : Geometry} {s : State} {t : Table} {h : ℕ} {x : Target} (a : Agre
     -- the claims of the other heads stay
     others : (k : ℕ) → k < headCount → k ≢ h → HeadAgrees g (reads im') (headAt (s .heads) k) (tableHead t k)
     others k l e = head-on (λ b reel f z c.
-        beside-claim d o c (λ q. e (a .apart k h l low z about (inl q)))
+        beside-claim d o c (λ q. e (a .apart k h l low z about (inl (q .0))))
         (frames (b .slot) (b .frame) (λ q. e (a .apart k h l low z about (inr q))))) (a .heads k l)
 
     pub replaced : {z : TableHead} (rs : List Reel) → HeadAgrees g (reads im') y z
@@ -171,7 +171,7 @@ module _ {r : Rule} {g : Geometry} {s : State} {t : Table} {h : ℕ} {x : Target
               | inl z ↦ e' ∙ z
               | inr z ↦
                   let c = was n p (z .0) (z .1) in
-                  let k = a .apart (z .0) h (c .low) low (c .about) about (inl (c .node ∙ q .0, c .place ∙ q .1)) in
+                  let k = a .apart (z .0) h (c .low) low (c .about) about (inl (c .node ∙ q .0)) in
                   absurd (idle-nothing refl (own-about a low about heads.Idle no-target (z .0) k (z .1 .about)))
             ],
           )

@@ -18,14 +18,14 @@ use Rattle.tree.specs.Pool.{mark}
 use Rattle.tree.specs.Subtree.{children, subtree, tree, allTrees, heldPlaces}
 use Rattle.tree.specs.Check.{walkable, inPlace, isSound}
 use Rattle.tree.proofs.Cases.{test}
-use Rattle.book.specs.Heads.{stateOf, headAt, wordsOf, withHead, busy}
+use Rattle.book.specs.Heads.{stateOf, headAt, wordsOf, withHead, anyHead}
 use Rattle.book.specs.Refusals.{refusal}
 use Rattle.tree.specs.Room.{roomOn}
 use Rattle.book.specs.State.{State, Operation, format, recover, claim, commit, query, has, arguments}
 use Rattle.book.specs.Checks.{refusals}
 use Rattle.tree.specs.Recovery.{recoverStores}
 use Rattle.book.specs.Perform.{formatStores, openScript, roomScript, claimScript, fillScript, granted, leaves, clears, perform}
-use Rattle.book.specs.Table.{Table, Fed, nothing, fed, framesIn, isPresent, framesOf, isHeld, isBusy, tableRefusals, tableWork, reply, emptyTable, allIdle}
+use Rattle.book.specs.Table.{Table, Fed, nothing, fed, framesIn, isPresent, framesOf, isHeld, anyTableHead, tableRefusals, tableWork, reply, emptyTable, allIdle}
 use Rattle.book.specs.Agrees.{Agrees}
 use Rattle.book.specs.Histories.{done, replied, Follows, formatted, started, performed}
 use Rattle.book.specs.Starred as starred
@@ -53,10 +53,10 @@ zeros-fit (suc n) (suc i) = zeros-fit n i
 -- ---- histories without a crash
 
 -- an image of zeros, just before a format
-abbrev zeros : (slots nodes : ℕ) → State
+abbrev pub zeros : (slots nodes : ℕ) → State
 zeros slots nodes = record { image = replicate (64 + 2 * slots + 80 * nodes) 0; pool = []; heads = [] }
 
-format-follows : (slots nodes : ℕ) → perform (format 1 slots nodes) (zeros slots nodes) .answer ≡ 0
+pub format-follows : (slots nodes : ℕ) → perform (format 1 slots nodes) (zeros slots nodes) .answer ≡ 0
     → Follows (starred.formatted slots nodes) (emptyTable slots nodes)
 unfolding starred.formatted
 format-follows slots nodes h = started (formatted 1 slots nodes (zeros slots nodes) (zeros-fit (64 + 2 * slots + 80 * nodes)) h)
@@ -66,7 +66,7 @@ unfoldable pub tableAfter : List Operation → State → Table → Table
 tableAfter [] s t = t
 tableAfter (op ∷ ops) s t = tableAfter ops (done op s) (replied op s t .work .after)
 
-run-follows : (ops : List Operation) → Each (λ op. Words (arguments op)) ops → {s : State} {t : Table} → Follows s t
+pub run-follows : (ops : List Operation) → Each (λ op. Words (arguments op)) ops → {s : State} {t : Table} → Follows s t
     → Follows (run ops s) (tableAfter ops s t)
 unfolding run tableAfter
 run-follows [] w f = f
@@ -92,7 +92,7 @@ pub record Computed : Type 0 where
   pub all-idle : perform (recover 1) allClaimed .work .after .heads ≡ replicate 20 0
 
 pub computed : Computed
-unfolding allClaimed run tableAfter reply tableRefusals tableWork emptyTable isPresent framesIn isBusy isHeld framesOf starred.formatted range upTo keep perform granted leaves clears refusals badImage refusal geometryOf formatStores openScript roomScript claimScript fillScript apply segmented stores first marked isSet withBit byte withByte field withField bit slotOf emptySlot filled freeRun isFreeRun mark headAt stateOf wordsOf withHead busy pathFrom path wellFormed formed sizeAllowed clearSpot clearAt firstSpot roomOn find lookup foundAt matches fingerprint editionOne folded tableEntry ruleOf children subtree tree allTrees filledSlots walkable inPlace isSound heldPlaces distinct hasKey every recoverStores flatMap
+unfolding allClaimed run tableAfter reply tableRefusals tableWork emptyTable isPresent framesIn anyTableHead isHeld framesOf starred.formatted range upTo keep perform granted leaves clears refusals badImage refusal geometryOf formatStores openScript roomScript claimScript fillScript apply segmented stores first marked isSet withBit byte withByte field withField bit slotOf emptySlot filled freeRun isFreeRun mark headAt stateOf wordsOf withHead anyHead pathFrom path wellFormed formed sizeAllowed clearSpot clearAt firstSpot roomOn find lookup foundAt matches fingerprint editionOne folded tableEntry ruleOf children subtree tree allTrees filledSlots walkable inPlace isSound heldPlaces distinct hasKey every recoverStores flatMap
 computed = record {
   table = refl;
   no-fifth = refl;
@@ -113,38 +113,47 @@ pub other-geometry : OtherGeometry
 unfolding starred.formatted perform refusals badImage refusal granted leaves clears apply stores segmented formatStores range upTo geometryOf reply tableRefusals tableWork emptyTable
 other-geometry = record { history = format-follows 41 1 (format-answers .0); answered = refl; table = refl }
 
--- ---- frame 12 of reel 10, before the commit and after it
+-- ---- a frame that a commit brings, before and after
 
--- what a table says of it
-abbrev said : Table → ℕ
-said t = reply (query (has 10 12)) nothing t .work .handed .value
+module _ (reel f : ℕ) where
+  -- what a table says of it
+  abbrev said : Table → ℕ
+  said t = reply (query (has reel f)) nothing t .work .handed .value
 
--- whatever it is fed, and the same with every head idle
-said-fed : (x : Fed) (t : Table) → reply (query (has 10 12)) x t .work .handed .value ≡ said t
-unfolding reply tableRefusals
-said-fed x t = refl
+  -- whatever it is fed, and the same with every head idle
+  said-fed : (x : Fed) (t : Table) → reply (query (has reel f)) x t .work .handed .value ≡ said t
+  unfolding reply tableRefusals
+  said-fed x t = refl
 
-said-idle : (t : Table) → said (allIdle t) ≡ said t
-unfolding reply tableRefusals tableWork isPresent isHeld framesOf allIdle
-said-idle t = elim (test (eqb (refusal (tableRefusals (query (has 10 12)) nothing t)) 0)) [ inl e ↦ rw (e, said) | inr e ↦ rw (e, said) ]
+  said-idle : (t : Table) → said (allIdle t) ≡ said t
+  unfolding reply tableRefusals tableWork isPresent isHeld framesOf allIdle
+  said-idle t = elim (test (eqb (refusal (tableRefusals (query (has reel f)) nothing t)) 0)) [ inl e ↦ rw (e, said) | inr e ↦ rw (e, said) ]
 
--- a book that agrees with it says the same
-said-alike : {s : State} {t : Table} → Agrees s t → perform (query (has 10 12)) s .work .handed .value ≡ said t
-said-alike {s} {t} a = alike a (query (has 10 12)) (words-fit (10 ∷ 12 ∷ []) (omega arith)) .value ∙ said-fed (fed (perform (query (has 10 12)) s .answer)) t
+  -- a book that agrees with it says the same
+  said-alike : Words (reel ∷ f ∷ []) → {s : State} {t : Table} → Agrees s t → perform (query (has reel f)) s .work .handed .value ≡ said t
+  said-alike w {s} {t} a =
+      alike a (query (has reel f)) (words-fit (reel ∷ f ∷ []) w) .value ∙ said-fed (fed (perform (query (has reel f)) s .answer)) t
 
-module _ (kept : Demand3) (t : Table) (f : Follows allClaimed t) where
+-- a commit of head h that Has tells: 0 before, 1 after
+pub record Tells (s : State) (h reel f : ℕ) : Type 0 where
+  pub words : Words (reel ∷ f ∷ [])
+  pub head : Words (h ∷ [])
+  pub absent : perform (query (has reel f)) s .work .handed .value ≡ 0
+  pub present : perform (query (has reel f)) (done (commit 50 h) s) .work .handed .value ≡ 1
+
+module _ (kept : Demand3) {s : State} {h reel f : ℕ} (tells : Tells s h reel f) (t : Table) (follows : Follows s t) where
   abbrev then : Table
-  then = replied (commit 50 3) allClaimed t .work .after
+  then = replied (commit 50 h) s t .work .after
 
-  said-before : said t ≡ 0
-  said-before = sym (said-alike (kept allClaimed t f .agrees)) ∙ computed .absent
+  said-before : said reel f t ≡ 0
+  said-before = sym (said-alike reel f (tells .words) (kept s t follows .agrees)) ∙ tells .absent
 
-  said-after : said then ≡ 1
+  said-after : said reel f then ≡ 1
   said-after =
-      let g : Follows (done (commit 50 3) allClaimed) then = performed f (commit 50 3) (words-fit (3 ∷ []) (omega arith)) in
-      sym (said-alike (kept (done (commit 50 3) allClaimed) then g .agrees)) ∙ computed .present
+      let g : Follows (done (commit 50 h) s) then = performed follows (commit 50 h) (words-fit (h ∷ []) (tells .head)) in
+      sym (said-alike reel f (tells .words) (kept (done (commit 50 h) s) then g .agrees)) ∙ tells .present
 
-  -- no book agrees with both
+  -- no book agrees with both tables
   pub told-apart : (s' : State) → Agrees s' (allIdle t) → Agrees s' (allIdle then) → ⊥
   told-apart s' a b =
-      omega (arith, said-before, said-after, said-alike a ∙ said-idle t, said-alike b ∙ said-idle then)
+      omega (arith, said-before, said-after, said-alike reel f (tells .words) a ∙ said-idle reel f t, said-alike reel f (tells .words) b ∙ said-idle reel f then)

@@ -85,9 +85,9 @@ answered (openReel words script reel) s a b c h =
 answered (claim words script h reel f) s a b c e =
     let m = reads (s .image) in
     let p = passes _ (omega arith) e in
-    let room = p .1 .1 .1 .1 .1 .1 .1 in
+    let room = p .1 .1 .1 .1 .1 .1 in
     record {
-      script = good-claim (sized _ _ (p .0)) m a _ _ f (path-room _ m _ f (room .0 .0)) (room .0 .1) (run-inside _ (reads (s .pool)) _ (room .1 .1 .0));
+      script = good-claim (sized _ _ (p .0)) m a _ _ f (path-room _ m _ f (room .0 .0)) (room .0 .1) (run-inside _ (reads (s .pool)) _ (room .1 .1 .1 .0));
       words = refl;
       header = p .0;
     }

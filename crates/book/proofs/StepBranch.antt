@@ -36,7 +36,7 @@ use Rattle.book.proofs.Reading.{sizesOf, claim-inside}
 use Rattle.book.proofs.Claims.{SameClaim, about-claim}
 use Rattle.book.proofs.Keeps.{within-frames}
 use Rattle.book.proofs.Still.{Still, still-on}
-use Rattle.book.proofs.Claiming.{Asked, targetAt}
+use Rattle.book.proofs.Claiming.{NoneAt, Asked, targetAt}
 use Rattle.book.proofs.Making.{Makes, asked-made}
 use Rattle.book.proofs.StepClear.{Placed, placed}
 use Rattle.book.proofs.NewNodes.{newNodes}
@@ -160,10 +160,18 @@ module _ {s : State} {t : Table} {h reel f slot d start : ℕ} (a : Asked s t h 
   child-there : Reaches shape (reads linked) slot (wayOf (suc d) f) node
   child-there = rw (way-more d f) (group-there .new-way (child d f) low)
 
+  -- the child is new, and a node with a claim is reached
+  none-there : NoneAt (s .heads) node
+  none-there = record {
+    none = λ k {x = y} l o q.
+        let c = about-claim (a .agrees .heads k l) o .2 in
+        run .free (child d f) low (subst (Reached shape (reads (s .image))) q (record { slot = y .slot; way = wayOf (c .depth) _; there = c .on-path }));
+  }
+
   placed-there : Placed shape (record { image = linked; pool = markAll (s .pool) (group start d); heads = s .heads }) t h reel f slot node 0
   placed-there =
       placed (suc d) (still-linked .view .header .geometry) (asked-made a (makes (a .agrees) still-linked group-there run)) child-there
-      (omega (arith, group-there .size (child d f) low)) (rw locate-new (no-bit 0))
+      (omega (arith, group-there .size (child d f) low)) (rw locate-new (no-bit 0)) none-there
 
   pub agrees-branched : Agrees (record {
     image = last;

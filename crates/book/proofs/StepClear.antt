@@ -36,11 +36,11 @@ use Rattle.book.proofs.Claims.{SameClaim}
 use Rattle.book.proofs.Keeps.{within-same, within-frames}
 use Rattle.book.proofs.Reels.{same-reached}
 use Rattle.book.proofs.Still.{Still, same-word, claim-beside}
-use Rattle.book.proofs.Claiming.{Asked, Lands, targetAt, landed}
+use Rattle.book.proofs.Claiming.{NoneAt, Asked, Lands, targetAt, landed}
 
 module _ {s : State} {t : Table} {h reel f slot n p : ℕ} (d : ℕ) (a : Asked s t h reel f slot)
     (x : Reaches (sizesOf (s .image)) (reads (s .image)) slot (wayOf d f) n) (low : p < reads (s .image) (sizeAt (sizesOf (s .image)) n))
-    (clear : isSet (reads (s .image) (locateAt (sizesOf (s .image)) n)) p ≡ false) where
+    (clear : isSet (reads (s .image) (locateAt (sizesOf (s .image)) n)) p ≡ false) (none-there : NoneAt (s .heads) n) where
   abbrev g : Geometry
   g = sizesOf (s .image)
 
@@ -125,7 +125,7 @@ module _ {s : State} {t : Table} {h reel f slot n p : ℕ} (d : ℕ) (a : Asked 
     reached = λ k. same-reached (same .links);
     carries = carries;
     claims = claims;
-    unclaimed = λ k c. true-not-false (a .agrees .locates n p here low-64 .1 (inr (k, c))) clear;
+    unclaimed = none-there;
     locates = λ k q r b.
         let u = a .agrees .locates k q (same-reached (same .links) .1 r) b in
         let e = bits k q in
@@ -155,9 +155,9 @@ pub record Placed (g : Geometry) (s : State) (t : Table) (h reel f slot n p : �
 
 pub placed : {g : Geometry} {s : State} {t : Table} {h reel f slot n p : ℕ} (d : ℕ) → sizesOf (s .image) ≡ g → Asked s t h reel f slot
     → Reaches g (reads (s .image)) slot (wayOf d f) n → p < reads (s .image) (sizeAt g n) → isSet (reads (s .image) (locateAt g n)) p ≡ false
-    → Placed g s t h reel f slot n p
-placed {s = s} {n = n} {p = p} d e a x l c =
+    → NoneAt (s .heads) n → Placed g s t h reel f slot n p
+placed {s = s} {n = n} {p = p} d e a x l c o =
     let l' : p < reads (s .image) (sizeAt (sizesOf (s .image)) n) = rw e l in
     let c' : isSet (reads (s .image) (locateAt (sizesOf (s .image)) n)) p ≡ false = rw e c in
     let x' = rw (← e) at x in
-    rw (← e) (record { still = still-clear d a x' l' c'; ways = ways-clear d a x' l' c'; agrees = agrees-clear d a x' l' c' })
+    rw (← e) (record { still = still-clear d a x' l' c' o; ways = ways-clear d a x' l' c' o; agrees = agrees-clear d a x' l' c' o })

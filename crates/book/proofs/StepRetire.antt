@@ -23,7 +23,7 @@ use Rattle.tree.proofs.Words.{beside-nodes}
 use Rattle.tree.proofs.Laws.{slot-laws, tree-laws, change-laws, pool-laws}
 use Rattle.tree.proofs.Memory.{apply-single}
 use Rattle.book.specs.declared.Target.{Target}
-use Rattle.book.specs.Heads.{headCount, headAt, busy}
+use Rattle.book.specs.Heads.{headCount, headAt, names, busy}
 use Rattle.book.specs.State.{State, retire, arguments}
 use Rattle.book.specs.Checks.{refusals}
 use Rattle.tree.specs.Subtree.{nodesOf}
@@ -40,7 +40,7 @@ use Rattle.book.proofs.Reels.{frames-to}
 use Rattle.book.proofs.Views.{view-retired}
 use Rattle.book.proofs.Showing.{shows-view, view-shows}
 use Rattle.book.proofs.Crashed.{through-each}
-use Rattle.book.proofs.Heads.{names-about, busy-names}
+use Rattle.book.proofs.Heads.{names-about, any-head}
 use Rattle.book.proofs.Reading.{sizesOf, claim-inside}
 use Rattle.book.proofs.Keeps.{keeps-of, keeps-itself, step-of}
 use Rattle.book.proofs.Claims.{SameClaim, untouched, head-on, locates-on, agrees-of}
@@ -121,7 +121,7 @@ module _ {s : State} {t : Table} (a : Agrees s t) (slot : ℕ) (b : Filled (size
   keeps-cleared = keeps-of v header (record { reels = λ {s = s'} x y. reel-kept s'; held = λ x. inl (change .holds .0 x .0) })
 
   other-slot : {x : Target} (h : ℕ) → h < headCount → About x (headAt (s .heads) h) → x .slot ≢ slot
-  other-slot {x} h l o q = true-not-false (busy-names (s .heads) slot .1 (h, l, names-about slot _ .1 (x, o, q))) idle
+  other-slot {x} h l o q = true-not-false (any-head (names slot) (s .heads) .1 (h, l, names-about slot _ .1 (x, o, q))) idle
 
   same-claim : (h : ℕ) → h < headCount → (x : Target) (reel f : ℕ) → About x (headAt (s .heads) h)
       → Claims g m x reel f → SameClaim g m (reads cleared) x

@@ -33,14 +33,14 @@ use Rattle.book.proofs.Claims.{SameClaim}
 use Rattle.book.proofs.Keeps.{within-same}
 use Rattle.book.proofs.Reels.{same-reached}
 use Rattle.book.proofs.Still.{Still, still-on, same-word, claim-beside}
-use Rattle.book.proofs.Claiming.{Asked, targetAt}
+use Rattle.book.proofs.Claiming.{NoneAt, Asked, targetAt}
 use Rattle.book.proofs.Making.{Makes, asked-made}
 use Rattle.book.proofs.StepClear.{Placed, placed}
 use Rattle.book.proofs.SameNodes.{Nodes, nodes-itself, nodes-back, nodes-through, doubles-on, quiet-set}
 
 module _ {s : State} {t : Table} {h reel f slot n : ℕ} (a : Asked s t h reel f slot) (x : Reaches (sizesOf (s .image)) (reads (s .image)) slot [] n)
     (ends : reads (s .image) (nextAt (sizesOf (s .image)) n) ≡ 0) (some : 0 < reads (s .image) (sizeAt (sizesOf (s .image)) n))
-    (small : reads (s .image) (sizeAt (sizesOf (s .image)) n) < 64) where
+    (small : reads (s .image) (sizeAt (sizesOf (s .image)) n) < 64) (none-there : NoneAt (s .heads) n) where
   abbrev g : Geometry
   g = sizesOf (s .image)
 
@@ -97,7 +97,7 @@ module _ {s : State} {t : Table} {h reel f slot n : ℕ} (a : Asked s t h reel f
   placed-there : Placed g (record { image = im'; pool = s .pool; heads = s .heads }) t h reel f slot n size
   placed-there =
       placed 0 (makes .still .view .header .geometry) (asked-made a makes) (rw (root-way f) (same-laws same .reaches .0 x)) (omega (arith, stored .new))
-      (rw (← locate-same) (bit-laws .none-above (m (locateAt g n)) size size (formed .locate) (omega arith)))
+      (rw (← locate-same) (bit-laws .none-above (m (locateAt g n)) size size (formed .locate) (omega arith))) none-there
 
   abbrev last : List ℕ
   last = set im' (locateAt g n) (withBit (m (locateAt g n)) size)

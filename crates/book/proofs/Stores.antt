@@ -30,8 +30,8 @@ use Rattle.book.specs.declared.Target.{Target}
 use Rattle.book.specs.declared.HeadState.the-variants as heads
 use Rattle.book.specs.Heads.{headCount, headAt, wordsOf, withHead, targetOf}
 use Rattle.book.specs.State.{State, Operation, claim, fill, commit, abandon, remove, retire, query, has, memory, shape}
-use Rattle.book.specs.Checks.{refusals}
-use Rattle.book.specs.Perform.{placeIn, claimScript, roomScript, fillScript, removeScript, foundSpot, granted, perform}
+use Rattle.book.specs.Checks.{placeIn, refusals}
+use Rattle.book.specs.Perform.{claimScript, roomScript, fillScript, removeScript, foundSpot, granted, perform}
 use Rattle.book.specs.Ways.{Matches}
 use Rattle.book.specs.Stores.{BitOn, BitOff, Recorded, noTarget, FirstMatch, FillStores, CommitStores, AbandonStores, RemoveStores, RetireStores, HasSays, yes, no, ClaimStores, at-clear-place, at-scale-up, at-branch-out, ClaimWrites}
 use Rattle.book.proofs.Refusals.{passes}
@@ -300,7 +300,7 @@ claims words script h reel f s l e =
     let p = passes (refusals op s) (omega arith) (sym (answer-is op s) ∙ e) in
     let reel-there = reel-slot s reel (p .1 .1 .1 .1 .1 .0) in
     let open-slot = reel-there .has .open-slot in
-    let path = some-path (ruleOf (memory s)) shape-of (memory s) slot f (not-false _ (p .1 .1 .1 .1 .1 .1 .1 .0 .0)) in
+    let path = some-path (ruleOf (memory s)) shape-of (memory s) slot f (not-false _ (p .1 .1 .1 .1 .1 .1 .0 .0)) in
     let room = roomOn shape-of (memory s) (pathFrom shape-of (memory s) slot f) in
     let is : RoomIs shape-of (memory s) slot f room = rw (path .1) (room-is f (path .0) open-slot (path .1)) in
     let w = work-granted op s e in
@@ -310,6 +310,6 @@ claims words script h reel f s l e =
       of-reel = reel-there;
       node = place .node;
       place = place .place;
-      stores = subst (λ x. ClaimStores op s slot f x (place .node) (place .place)) (sym (ap (λ x. x .script) w)) (by-room s op slot f room is (p .1 .1 .1 .1 .1 .1 .1 .0 .1) (p .1 .1 .1 .1 .1 .1 .1 .1 .1 .0));
+      stores = subst (λ x. ClaimStores op s slot f x (place .node) (place .place)) (sym (ap (λ x. x .script) w)) (by-room s op slot f room is (p .1 .1 .1 .1 .1 .1 .0 .1) (p .1 .1 .1 .1 .1 .1 .1 .1 .1 .0));
       head = rw w (record-claimed (s .heads) h (inside s l (p .1 .1 .1 .0)) (record { slot = slot; node = place .node; place = place .place; frame = f }));
     }

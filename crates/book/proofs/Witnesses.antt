@@ -162,7 +162,7 @@ module _ (kept : Demand3) where
     no-fifth = computed .no-fifth;
     answered = computed .answered;
     cut = commit-cut allClaimed fourOpen four-follows 50 3 (omega arith) (computed .answered);
-    told-apart = told-apart kept;
+    told-apart = told-apart kept (record { words = omega arith; head = omega arith; absent = computed .absent; present = computed .present });
     recovers = computed .recovers;
     all-old = computed .all-old;
     all-new = computed .all-new;

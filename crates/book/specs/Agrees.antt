@@ -97,9 +97,9 @@ pub record Agrees (s : State) (t : Table) : Type 0 where
   pub head-words : length (s .heads) ≡ 5 * headCount
   pub table-heads : length (t .heads) ≡ headCount
   pub heads : (h : ℕ) → h < headCount → HeadAgrees (shape s) (memory s) (headAt (s .heads) h) (tableHead t h)
-  -- no two heads at one place, nor with one frame of a slot
+  -- no two heads at one node, nor with one frame of a slot
   pub apart : (h h' : ℕ) {a b : Target} → h < headCount → h' < headCount → About a (headAt (s .heads) h) → About b (headAt (s .heads) h')
-      → ((a .node ≡ b .node) × (a .place ≡ b .place)) ⊎ ((a .slot ≡ b .slot) × (a .frame ≡ b .frame)) → h ≡ h'
+      → (a .node ≡ b .node) ⊎ ((a .slot ≡ b .slot) × (a .frame ≡ b .frame)) → h ≡ h'
   -- locate has the places held and those claimed
   pub locates : (n p : ℕ) → Reached (shape s) (memory s) n → p < 64
       → (isSet (memory s (locateAt (shape s) n)) p ≡ true)

@@ -2,19 +2,23 @@
 use mathlib.Core.Bool.{false, not}
 use mathlib.Core.Option.{Option}
 use mathlib.Core.List.{List, [], _∷_}
-use Prim.Native.Nat.{ℕ}
+use Prim.Native.Nat.{ℕ, _+_}
 use lib.ListN.{length}
 use Rattle.tree.specs.Memory.{Memory, reads, isSome}
-use Rattle.tree.specs.Test.{Test, lt, le, ne, is, _and_, _or_}
+use Rattle.tree.specs.Test.{Test, lt, le, ne, is, _and_, _or_, holds}
 use Rattle.tree.specs.declared.layout.Geometry.{Geometry}
 use Rattle.tree.specs.Layout.{badImage, mapWords, editionAt, geometryOf}
 use Rattle.tree.specs.Fingerprint.{ruleOf}
 use Rattle.tree.specs.Slots.{slotOf, emptySlot}
-use Rattle.tree.specs.Lookup.{pathFrom, find, freeRun}
+use Rattle.tree.specs.Path.{child}
+use Rattle.tree.specs.declared.path.Spot.{Spot}
+use Rattle.tree.specs.declared.path.Room.{Room}
+use Rattle.tree.specs.declared.path.Room.the-variants.{Clear, ScaleUp, BranchOut}
+use Rattle.tree.specs.Lookup.{spot, pathFrom, find, freeRun}
 use Rattle.tree.specs.Subtree.{listing}
 use Rattle.tree.specs.Check.{isSoundTree, isSound}
 use Rattle.book.specs.declared.Target.{Target}
-use Rattle.book.specs.Heads.{headCount, headAt, isIdle, isClaimed, isFilled, targetOf, busy}
+use Rattle.book.specs.Heads.{headCount, headAt, isIdle, isClaimed, isFilled, targetOf, anyHead, busy, conflicts}
 use Rattle.book.specs.Refusals.{Refusal, _gives_}
 use Rattle.tree.specs.Room.{roomOn, needs, atLevel31}
 use Rattle.book.specs.State.{State, Operation, format, recover, openReel, claim, fill, commit, abandon, remove, retire, query, Query, has, list}
@@ -39,6 +43,25 @@ outside g t = le (g .nodes) (t .node) or le 64 (t .place)
 -- 4 on a frame's path: a node of it is malformed
 abbrev pub noPath : Option (List ℕ) → Test
 noPath ns = is (not (isSome ns))
+
+-- the place that a claim takes; start is the new group's first node
+abbrev pub placeIn : Room → (start f : ℕ) → Spot
+placeIn (Clear t) start f = t
+placeIn (ScaleUp n size) start f = spot n size
+placeIn (BranchOut parent d) start f = spot (start + child d f) 0
+
+-- what the claim's head is about then
+abbrev pub targetIn : (slot : ℕ) → Room → (start f : ℕ) → Target
+targetIn slot r start f = record { slot = slot; node = placeIn r start f .node; place = placeIn r start f .place; frame = f }
+
+-- 8: the room takes nodes, and no run of them is free
+abbrev pub noRunFor : Geometry → (map : Memory) → Room → Test
+noRunFor g map r = lt 0 (needs r) and le (g .nodes) (freeRun g map (needs r))
+
+-- 13 in Claim: another head conflicts with it (its own is idle by 12); a claim that finds no run uses no node
+abbrev pub inConflict : Geometry → (map : Memory) → (heads : List ℕ) → (slot : ℕ) → Room → (f : ℕ) → Test
+inConflict g map heads slot r f =
+    is (anyHead (conflicts (targetIn slot r (freeRun g map (needs r)) f) (not (holds (noRunFor g map r)))) heads)
 
 -- the orders that only read: what they borrow, and their tests after 1, 2 and 3
 abbrev pub queryBuffers : Query → Geometry → Test
@@ -68,14 +91,15 @@ refusals op s =
       | claim map script h reel f ↦
           let slot = slotOf g m reel in
           let ns = pathFrom g m slot f in
+          let r = roomOn g m ns in
           checked (s .image) (badMap g map or badScript script)
           ((le headCount h gives 11)
           ∷ (is (not (isIdle (head h))) gives 12)
           ∷ (le (g .slots) slot gives 5)
-          ∷ (is (busy (s .heads) slot) gives 13)
-          ∷ (noPath ns or is (atLevel31 (roomOn g m ns)) gives 4)
+          ∷ (noPath ns or is (atLevel31 r) gives 4)
           ∷ (is (isSome (find (ruleOf m) g m slot f)) gives 9)
-          ∷ (lt 0 (needs (roomOn g m ns)) and le (g .nodes) (freeRun g (reads (s .pool)) (needs (roomOn g m ns))) gives 8)
+          ∷ (inConflict g (reads (s .pool)) (s .heads) slot r f gives 13)
+          ∷ (noRunFor g (reads (s .pool)) r gives 8)
           ∷ [])
       | fill script h ↦
           checked (s .image) (badScript script)

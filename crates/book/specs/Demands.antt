@@ -14,12 +14,13 @@ use Rattle.tree.specs.Reach.{Holds}
 use Rattle.book.specs.declared.Target.{Target}
 use Rattle.book.specs.declared.HeadState.the-variants.{Claimed, Filled}
 use Rattle.book.specs.Heads.{headCount, headAt}
+use Rattle.book.specs.Refusals.{comesTo}
 use Rattle.book.specs.State.{State, Operation, format, recover, openReel, claim, fill, commit, abandon, remove, retire, query, Query, has, list, arguments, nothingHanded}
 use Rattle.book.specs.Perform.{perform}
 use Rattle.book.specs.CarryOut.{carry, carried}
-use Rattle.book.specs.Table.{Table, noRun, reply, allIdle}
+use Rattle.book.specs.Table.{Table, nothing, tableRefusals, allIdle}
 use Rattle.book.specs.Agrees.{EachOnce, About, Agrees}
-use Rattle.book.specs.Ways.{Takes, SlotHas, Lacks}
+use Rattle.book.specs.Ways.{Takes, SlotHas, Lacks, InTheWay}
 use Rattle.book.specs.Histories.{done, replied, Interrupted, Attempts, Recovered, Next, Follows}
 
 -- ---- 1: over any state, an operation is answered or refused; a refusal hands out nothing and leaves everything
@@ -33,7 +34,7 @@ abbrev pub numbers : Operation → List ℕ
 numbers (format words slots nodes) = 1 ∷ 3 ∷ []
 numbers (recover words) = 1 ∷ 2 ∷ 3 ∷ 4 ∷ []
 numbers (openReel words script reel) = 1 ∷ 2 ∷ 3 ∷ 6 ∷ 7 ∷ 8 ∷ []
-numbers (claim words script h reel f) = 1 ∷ 2 ∷ 3 ∷ 11 ∷ 12 ∷ 5 ∷ 13 ∷ 4 ∷ 9 ∷ 8 ∷ []
+numbers (claim words script h reel f) = 1 ∷ 2 ∷ 3 ∷ 11 ∷ 12 ∷ 5 ∷ 4 ∷ 9 ∷ 13 ∷ 8 ∷ []
 numbers (fill script h) = 1 ∷ 2 ∷ 3 ∷ 11 ∷ 12 ∷ 4 ∷ []
 numbers (commit script h) = 1 ∷ 2 ∷ 3 ∷ 11 ∷ 12 ∷ 4 ∷ []
 numbers (abandon script h) = 1 ∷ 2 ∷ 3 ∷ 11 ∷ 12 ∷ 4 ∷ []
@@ -80,8 +81,10 @@ pub record Alike (op : Operation) (s : State) (t : Table) : Type 0 where
   pub not-edition : perform op s .answer ≢ 2
   pub not-malformed : perform op s .answer ≢ 4
   pub format-alone : perform op s .answer ≡ 1 → IsFormat op
-  -- an 8 comes exactly where the operation comes to it and lacks the nodes that it needs
-  pub no-run : reply op noRun t .answer ≡ 8 → (perform op s .answer ≡ 8) ↔ Lacks s op
+  -- where the table comes to an 8, it comes exactly if the operation lacks the nodes that it needs
+  pub no-run : comesTo 8 (tableRefusals op nothing t) ≡ true → (perform op s .answer ≡ 8) ↔ Lacks s op
+  -- where it comes to a 13, that comes exactly if a head is in the operation's way
+  pub busy : comesTo 13 (tableRefusals op nothing t) ≡ true → (perform op s .answer ≡ 13) ↔ InTheWay s op
 
 pub record Demand2 : Type 0 where
   -- a format is answered over any memory, map and heads where numbers and lengths are right, so that histories start

@@ -20,7 +20,7 @@ use Rattle.tree.specs.Laws.{Malformed, FreeRun}
 use Rattle.book.specs.Heads.{headCount}
 use Rattle.book.specs.State.{State, Operation, format, recover, openReel, claim, fill, commit, abandon, remove, retire, query, has, list, memory, shape}
 use Rattle.book.specs.Perform.{perform}
-use Rattle.book.specs.Ways.{FullPath, SlotHas, ReelAt, Matches}
+use Rattle.book.specs.Ways.{FullPath, SlotHas, ReelAt, Matches, Uses}
 
 -- a number, and when it is due
 pub record Due : Type 1 where
@@ -62,7 +62,7 @@ header s ds = (1 when (RightImage (length (s .image)) (shape s) → ⊥)) ∷ (2
 -- ---- heads, by their words
 
 module _ (s : State) where
-  -- a record's words: state, slot, node, place
+  -- a record's words: state, slot, node, place, frame
   abbrev pub stateWord : (head : ℕ) → ℕ
   stateWord h = reads (s .heads) (5 * h)
 
@@ -74,6 +74,9 @@ module _ (s : State) where
 
   abbrev pub placeWord : (head : ℕ) → ℕ
   placeWord h = reads (s .heads) (5 * h + 3)
+
+  abbrev pub frameWord : (head : ℕ) → ℕ
+  frameWord h = reads (s .heads) (5 * h + 4)
 
   -- 1 is claimed, 2 is filled, any other state word is read as idle
   abbrev pub Idle : ℕ → Type 0
@@ -144,6 +147,17 @@ module _ (s : State) where
   abbrev pub NoRun : ℕ → Type 0
   NoRun k = (n : ℕ) → FreeRun (shape s) (reads (s .pool)) k n → ⊥
 
+  -- the lowest run of k adjacent nodes that are free in the map
+  pub record LowestFree (k a : ℕ) : Type 0 where
+    pub run : FreeRun (shape s) (reads (s .pool)) k a
+    pub lowest : (b : ℕ) → FreeRun (shape s) (reads (s .pool)) k b → a ≤ b
+
+  -- 13 in Claim: a head that is not idle names the slot, and with it the same frame or the very node that this claim would use;
+  -- it is another one, since by 12 the claim's own is idle
+  pub record Conflict (f slot : ℕ) : Type 0 where
+    pub by : Busy slot
+    pub same : (frameWord (by .head) ≡ f) ⊎ Uses LowestFree (shape s) (memory s) slot f (nodeWord (by .head))
+
   -- 8 in Claim: the path is full to its end, at size 64, and there is no run for the children
   pub record NoChildren (f slot : ℕ) : Type 0 where
     pub level : ℕ
@@ -169,9 +183,9 @@ due (claim map script h reel f) s =
     ∷ (11 when (headCount ≤ h))
     ∷ (12 when (Idle s h → ⊥))
     ∷ (5 when NoReel s reel)
-    ∷ (13 when OfReel s reel (Busy s))
     ∷ (4 when OfReel s reel (NoRoom s f))
     ∷ (9 when OfReel s reel (Finds s f))
+    ∷ (13 when OfReel s reel (Conflict s f))
     ∷ (8 when OfReel s reel (NoChildren s f))
     ∷ [])
 due (fill script h) s =

@@ -1,5 +1,5 @@
 -- Head records as the driver keeps them: five words each, state (0 idle, 1 claimed, 2 filled), slot, node, place, frame.
-use mathlib.Core.Bool.{Bool, true, false, cond}
+use mathlib.Core.Bool.{Bool, true, false, cond, _&&_, _||_}
 use mathlib.Core.List.{List, [], _∷_, _++_}
 use Prim.Native.Nat.{ℕ, _+_, _*_}
 use lib.ListN.{take, drop, replicate}
@@ -64,6 +64,14 @@ names s Idle = false
 names s (Claimed t) = eqb (t .slot) s
 names s (Filled t) = eqb (t .slot) s
 
+-- some head passes a test
+unfoldable pub anyHead : (HeadState → Bool) → List ℕ → Bool
+anyHead passes ws = ltb (first (λ h. passes (headAt ws h)) headCount) headCount
+
 -- busy: some head that is not idle names the slot
-unfoldable pub busy : List ℕ → ℕ → Bool
-busy ws s = ltb (first (λ h. names s (headAt ws h)) headCount) headCount
+abbrev pub busy : List ℕ → ℕ → Bool
+busy ws s = anyHead (names s) ws
+
+-- a conflict with a claim: a head that is not idle names its slot, and with it the same frame or, if the claim uses one, the very node
+abbrev pub conflicts : (claim : Target) (uses : Bool) → HeadState → Bool
+conflicts t uses x = names (t .slot) x && (eqb (targetOf x .frame) (t .frame) || (uses && eqb (targetOf x .node) (t .node)))

@@ -18,7 +18,7 @@ carriedOut w = record { image = apply (w .after .image) (segmented (w .script));
 abbrev pub done : Operation → State → State
 done op s = carriedOut (perform op s .work)
 
--- the table's reply, fed whether the book's answer is 8
+-- the table's reply, fed whether the book's answer is 8 or 13
 abbrev pub replied : Operation → State → Table → Reply
 replied op s t = reply op (fed (perform op s .answer)) t
 

@@ -15,3 +15,4 @@ pub mod Starred
 pub mod Witnesses
 pub mod Fixed
 pub mod Due
+pub mod AsBefore

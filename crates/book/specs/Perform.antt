@@ -8,7 +8,7 @@ use Rattle.tree.specs.Memory.{Memory, reads, withBit, withoutBit, withByte, Sto
 use Rattle.tree.specs.declared.layout.Geometry.{Geometry}
 use Rattle.tree.specs.Layout.{mapWords, reelAt, rootAt, nextAt, locateAt, setAt, levelAt, sizeAt, fingerprintsAt, frameAt, geometryOf}
 use Rattle.tree.specs.Lists.{range, upTo}
-use Rattle.tree.specs.Path.{fanout, child}
+use Rattle.tree.specs.Path.{fanout}
 use Rattle.tree.specs.Fingerprint.{Rule, fingerprint, ruleOf}
 use Rattle.tree.specs.Slots.{slotOf, emptySlot}
 use Rattle.tree.specs.declared.path.Spot.{Spot}
@@ -25,7 +25,7 @@ use Rattle.tree.specs.declared.path.Room.{Room}
 use Rattle.tree.specs.declared.path.Room.the-variants.{Clear, ScaleUp, BranchOut}
 use Rattle.tree.specs.Room.{roomOn, needs}
 use Rattle.book.specs.State.{State, Operation, format, recover, openReel, claim, fill, commit, abandon, remove, retire, query, Query, has, list, Handed, handing, handingFrames, nothingHanded, Work, leaving, Outcome}
-use Rattle.book.specs.Checks.{refusals}
+use Rattle.book.specs.Checks.{placeIn, targetIn, refusals}
 
 -- ---- what is written
 
@@ -46,12 +46,6 @@ openScript g slot n reel = (newNode g n 0 16 ++ ((reelAt slot, reel) ∷ [])) �
 -- the nodes of a new group of children
 abbrev pub group : (start depth : ℕ) → List ℕ
 group start d = range start (fanout d)
-
--- the place that a claim takes; start is the new group's first node
-abbrev pub placeIn : Room → (start f : ℕ) → Spot
-placeIn (Clear t) start f = t
-placeIn (ScaleUp n size) start f = spot n size
-placeIn (BranchOut parent d) start f = spot (start + child d f) 0
 
 -- the scale-up or branch-out that comes before the locate store
 unfoldable pub roomScript : Geometry → Room → (start : ℕ) → List (List Store)
@@ -140,11 +134,10 @@ granted op s =
           let slot = slotOf g m reel in
           let r = roomOn g m (pathFrom g m slot f) in
           let start = freeRun g (reads (s .pool)) (needs r) in
-          let t = placeIn r start f in
           writing (claimScript g m r start f) (record {
             image = s .image;
             pool = markAll (s .pool) (taken r start);
-            heads = withHead (s .heads) h (Claimed (record { slot = slot; node = t .node; place = t .place; frame = f }));
+            heads = withHead (s .heads) h (Claimed (targetIn slot r start f));
           })
       | fill script h ↦
           writing (fillScript (ruleOf m) g m (target h)) (putHead s h (Filled (target h)))

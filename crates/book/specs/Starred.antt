@@ -1,4 +1,4 @@
--- The starred cases of the paper, in one table: what is computed beside what it should be.
+-- The starred cases of the paper, and those of two heads on a reel, in one table: what is computed beside what it should be.
 use mathlib.Core.Path.{_≡_}
 use mathlib.Core.Bool.{true}
 use mathlib.Core.List.{List, [], _∷_, _++_, flatMap}
@@ -26,10 +26,14 @@ unfoldable pub formatted : (slots nodes : ℕ) → State
 formatted slots nodes =
     done (format 1 slots nodes) (record { image = replicate (64 + 2 * slots + 80 * nodes) 0; pool = []; heads = [] })
 
--- a frame of a reel claimed by head 0, and then filled and committed
-abbrev pub claims : (reel f : ℕ) → Operation
-claims reel f = claim 1 50 0 reel f
+-- a frame of a reel claimed, by head h and by head 0
+abbrev pub claimsBy : (h reel f : ℕ) → Operation
+claimsBy h reel f = claim 1 50 h reel f
 
+abbrev pub claims : (reel f : ℕ) → Operation
+claims reel f = claimsBy 0 reel f
+
+-- claimed by head 0, and then filled and committed
 unfoldable pub keeps : ℕ → ℕ → List Operation
 keeps reel f = claims reel f ∷ fill 50 0 ∷ commit 50 0 ∷ []
 
@@ -55,9 +59,16 @@ rootSize s = memory s (sizeAt (shape s) 0)
 abbrev pub firstChild : State → ℕ
 firstChild s = memory s (nextAt (shape s) 0) - 1
 
--- the book once frame k, the next one, is claimed
+-- the book once frame k, the next one, is claimed; and what it then answers to a claim of frame f by head 1
 abbrev pub next : (n k : ℕ) → State
 next n k = done (claims 7 k) (withFrames n k)
+
+abbrev pub second : (n k f : ℕ) → ℕ
+second n k f = perform (claimsBy 1 7 f) (next n k) .answer
+
+-- frames 0 to 63, then 64 and 65 claimed by heads 0 and 1: what a claim of frame f by head 2 is answered
+abbrev pub third : (f : ℕ) → ℕ
+third f = perform (claimsBy 2 7 f) (done (claimsBy 1 7 65) (next 3 64)) .answer
 
 unfoldable pub starred : List (ℕ × ℕ)
 starred =
@@ -74,6 +85,14 @@ starred =
     ∷ (perform (claims 7 64) (withFrames 1 64) .answer, 8)
     -- N = 4, reels 7, 8, 9, 10 opened, 7 and 9 retired: a branch-out of reel 8 gets refusal 8, with two nodes free
     ∷ (perform (claims 8 64) withGaps .answer, 8) ∷ (reads (withGaps .pool) 0, 2 ^ 1 + 2 ^ 3)
+    -- frames 0 to 63, N = 3, 64 claimed: 65 by another head is answered; then 66, at the very node of 64, gets 13, and so does 64
+    ∷ (second 3 64 65, 0) ∷ (third 66, 13) ∷ (third 64, 13)
+    -- frames 0 to 62, 63 claimed: 64 by another head is answered, the full parent is not its node; with N = 1 it gets 8
+    ∷ (second 3 63 64, 0) ∷ (second 1 63 64, 8)
+    -- there 63, the same frame, gets 13, though it would use another node; and with N = 1, where it finds no run and uses none
+    ∷ (second 3 63 63, 13) ∷ (second 1 63 63, 13)
+    -- frames 0 to 14, 15 claimed: 16 would scale up the root, the very node, and gets 13; 3, held there, gets 9 before it
+    ∷ (second 1 15 16, 13) ∷ (second 1 15 3, 9)
     ∷ []
 
 -- every row is as it should be

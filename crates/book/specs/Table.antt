@@ -1,6 +1,6 @@
 -- The plain table: reels, each with a set of frames, and what each head is about. It is fed the arguments, the lengths, and
--- of the book's answer whether it is 8.
-use mathlib.Core.Bool.{Bool, true, false, cond, not}
+-- of the book's answer whether it is 8 or 13.
+use mathlib.Core.Bool.{Bool, true, false, cond, not, _&&_}
 use mathlib.Core.Option.{Option, none, some}
 use mathlib.Core.List.{List, [], _∷_, map}
 use Prim.Native.Nat.{ℕ}
@@ -33,16 +33,22 @@ pub record Table : Type 0 where
   pub reels : List Reel
   pub heads : List TableHead
 
--- what the table is fed of the book's answer: that it found no run of nodes, or nothing
+-- what the table is fed of the book's answer: that it found no run of nodes, or a 13, which Claim takes for the node; else nothing
 pub data Fed : Type 0 where
-  nothing noRun : Fed
+  nothing noRun sameNode : Fed
 
 abbrev pub fed : ℕ → Fed
-fed answer = cond (eqb answer 8) noRun nothing
+fed answer = cond (eqb answer 8) noRun (cond (eqb answer 13) sameNode nothing)
 
 abbrev pub isNoRun : Fed → Bool
 isNoRun nothing = false
 isNoRun noRun = true
+isNoRun sameNode = false
+
+abbrev pub isSameNode : Fed → Bool
+isSameNode nothing = false
+isSameNode noRun = false
+isSameNode sameNode = true
 
 -- ---- reading the table
 
@@ -96,14 +102,23 @@ frameOf idle = 0
 frameOf (claimed reel f) = f
 frameOf (filled reel f) = f
 
--- some head that is not idle is about the reel
+-- a head that is not idle is about the reel
 abbrev pub isAbout : ℕ → TableHead → Bool
 isAbout reel idle = false
 isAbout reel (claimed r f) = eqb r reel
 isAbout reel (filled r f) = eqb r reel
 
-unfoldable pub isBusy : Table → ℕ → Bool
-isBusy t reel = not (every (λ x. not (isAbout reel x)) (t .heads))
+-- some head passes a test
+unfoldable pub anyTableHead : (TableHead → Bool) → Table → Bool
+anyTableHead passes t = not (every (λ x. not (passes x)) (t .heads))
+
+-- busy: some head is about the reel
+abbrev pub isBusy : Table → ℕ → Bool
+isBusy t reel = anyTableHead (isAbout reel) t
+
+-- and with it about the frame
+abbrev pub isTaken : Table → (reel frame : ℕ) → Bool
+isTaken t reel f = anyTableHead (λ x. isAbout reel x && eqb (frameOf x) f) t
 
 -- ---- its refusals: 2 and 4 never come, and 1 only from Format
 
@@ -132,8 +147,8 @@ tableRefusals op fed t =
           ∷ (le headCount h gives 11)
           ∷ (is (not (isIdle (head h))) gives 12)
           ∷ (is (not (isPresent t reel)) gives 5)
-          ∷ (is (isBusy t reel) gives 13)
           ∷ (is (isHeld t reel f) gives 9)
+          ∷ (is (isTaken t reel f) or is (isSameNode fed) gives 13)
           ∷ (is (isNoRun fed) gives 8)
           ∷ []
       | fill script h ↦ (badScript script gives 3) ∷ (le headCount h gives 11) ∷ (is (not (isClaimed (head h))) gives 12) ∷ []

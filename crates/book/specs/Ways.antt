@@ -1,7 +1,7 @@
 -- What the demands say of paths and nodes, by ways alone and not by the book's own searches.
 use mathlib.Core.Path.{_≡_}
 use mathlib.Core.Bool.{true, false}
-use mathlib.Core.Logic.{_⊎_}
+use mathlib.Core.Logic.{_⊎_, _≢_}
 use mathlib.Core.List.{[]}
 use Prim.Native.Nat.{ℕ, suc, _+_, _*_, _≤_, _<_}
 use Rattle.tree.specs.Memory.{Memory, isSet}
@@ -12,8 +12,10 @@ use Rattle.tree.specs.Fingerprint.{Rule, fingerprint}
 use Rattle.tree.specs.Node.{held, frame, storedFingerprint}
 use Rattle.tree.specs.Slots.{Filled}
 use Rattle.tree.specs.Reach.{Reaches}
-use Rattle.book.specs.State.{State, Operation, openReel, claim, memory, shape}
-use Rattle.book.specs.Agrees.{Reached}
+use Rattle.book.specs.declared.Target.{Target}
+use Rattle.book.specs.Heads.{headCount, headAt}
+use Rattle.book.specs.State.{State, Operation, openReel, claim, remove, retire, memory, shape}
+use Rattle.book.specs.Agrees.{Reached, About}
 
 module _ (g : Geometry) (m : Memory) where
   -- k adjacent nodes from a on, inside the pool, that no reel reaches
@@ -92,3 +94,38 @@ pub data Lacks (s : State) : Operation → Type 0 where
   no-run : {words script h reel f slot d : ℕ} → SlotHas (shape s) (memory s) reel slot
       → FullPath (shape s) (memory s) slot f d
       → ((a : ℕ) → UnreachedRun (shape s) (memory s) (fanout d) a → ⊥) → Lacks s (claim words script h reel f)
+
+-- the node that a claim would use, given which run of k nodes is the lowest free one; a claim that finds no run uses none. In
+-- histories no head is at a new child: there a branch-out conflicts by the frame alone
+pub data Uses (Lowest : (k start : ℕ) → Type 0) (g : Geometry) (m : Memory) (slot f : ℕ) : ℕ → Type 0 where
+  -- the first node from the root with a clear place
+  at-clear : {d n p : ℕ} → Reaches g m slot (wayOf d f) n → FullAbove g m slot f d → p < m (sizeAt g n)
+      → isSet (m (locateAt g n)) p ≡ false → Uses Lowest g m slot f n
+  -- none, and the root alone below size 64: the root
+  at-root : {n : ℕ} → Reaches g m slot [] n → m (nextAt g n) ≡ 0 → m (sizeAt g n) < 64 → Full g m n → Uses Lowest g m slot f n
+  -- none, and the last node has size 64: the frame's child in the new group, and not the full node above it
+  at-child : {d start : ℕ} → FullPath g m slot f d → Lowest (fanout d) start → Uses Lowest g m slot f (start + child d f)
+
+-- in histories, where the nodes that no reel reaches are the free ones
+abbrev pub UsesOf : State → (slot f node : ℕ) → Type 0
+UsesOf s slot f n = Uses (LowestRun (shape s) (memory s)) (shape s) (memory s) slot f n
+
+-- head k is not idle and names a slot
+pub record HeadNames (s : State) (k slot : ℕ) : Type 0 where
+  pub low : k < headCount
+  pub target : Target
+  pub about : About target (headAt (s .heads) k)
+  pub of-slot : target .slot ≡ slot
+
+-- 13: a head is in the operation's way
+pub data InTheWay (s : State) : Operation → Type 0 where
+  -- in Claim another one that names the reel's slot, and with it the same frame, or the very node that the claim would use
+  same-frame : {words script h reel f slot k : ℕ} → SlotHas (shape s) (memory s) reel slot → k ≢ h → (x : HeadNames s k slot)
+      → x .target .frame ≡ f → InTheWay s (claim words script h reel f)
+  same-node : {words script h reel f slot k : ℕ} → SlotHas (shape s) (memory s) reel slot → k ≢ h → (x : HeadNames s k slot)
+      → UsesOf s slot f (x .target .node) → InTheWay s (claim words script h reel f)
+  -- in Remove and Retire any that names it
+  of-remove : {script reel f slot k : ℕ} → SlotHas (shape s) (memory s) reel slot → HeadNames s k slot
+      → InTheWay s (remove script reel f)
+  of-retire : {words scratch script reel slot k : ℕ} → SlotHas (shape s) (memory s) reel slot → HeadNames s k slot
+      → InTheWay s (retire words scratch script reel)

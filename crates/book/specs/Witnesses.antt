@@ -8,13 +8,14 @@ use lib.ListN.{length, set, replicate}
 use Rattle.tree.specs.Memory.{reads, segmented, passed, Fit}
 use Rattle.tree.specs.Layout.{reelAt, locateAt}
 use Rattle.tree.specs.Slots.{emptySlot}
-use Rattle.book.specs.Heads.{headCount}
+use Rattle.book.specs.declared.HeadState.the-variants.{Claimed, Filled}
+use Rattle.book.specs.Heads.{headCount, headAt}
 use Rattle.book.specs.State.{State, Operation, format, recover, openReel, claim, fill, commit, arguments, memory, shape}
 use Rattle.book.specs.Perform.{perform}
 use Rattle.book.specs.Table.{Table, Reel, claimed, filled, emptyTable, allIdle}
 use Rattle.book.specs.Agrees.{Agrees}
 use Rattle.book.specs.Histories.{replied, Interrupted, Attempts, Recovered, Follows}
-use Rattle.book.specs.Starred.{run, formatted}
+use Rattle.book.specs.Starred.{run, formatted, withFrames}
 
 -- ---- a crash in Commit
 
@@ -74,6 +75,26 @@ pub record FourClaims : Type 0 where
   pub all-new : locateWords (perform (recover 1) allClaimed .work .after) ≡ 0 ∷ 0 ∷ 0 ∷ 0 ∷ []
   pub all-idle : perform (recover 1) allClaimed .work .after .heads ≡ replicate 20 0
 
+-- ---- a crash with two claims in one tree
+
+-- reel 7 holds frames 0 to 63, all in its root; heads 0 and 1 claim frames 64 and 65, in children 0 and 1, and head 0 fills its
+-- place
+unfoldable pub twoInTree : State
+twoInTree = run (claim 1 50 0 7 64 ∷ claim 1 50 1 7 65 ∷ fill 50 0 ∷ []) (withFrames 3 64)
+
+pub record TwoInTree : Type 0 where
+  pub history : (t : Table) × Follows twoInTree t
+  -- two heads name slot 0, at nodes of their own
+  pub head-0 : headAt (twoInTree .heads) 0 ≡ Filled (record { slot = 0; node = 1; place = 0; frame = 64 })
+  pub head-1 : headAt (twoInTree .heads) 1 ≡ Claimed (record { slot = 0; node = 2; place = 0; frame = 65 })
+  -- a third finds head 0 at its node
+  pub third : perform (claim 1 50 2 7 66) twoInTree .answer ≡ 13
+  -- the commit of head 0 may be cut before and after
+  pub answered : perform (commit 50 0) twoInTree .answer ≡ 0
+  pub cut : (t : Table) → Follows twoInTree t → CommitCut twoInTree t 50 0
+  pub told-apart : (t : Table) → Follows twoInTree t → (s' : State)
+      → Agrees s' (allIdle t) → Agrees s' (allIdle (replied (commit 50 0) twoInTree t .work .after)) → ⊥
+
 -- ---- a crash in Recover
 
 -- from an image that a crash, and recoveries after it that did not end, have left: a recovery that ends, and a history from there on
@@ -94,7 +115,7 @@ pub record OtherGeometry : Type 0 where
   -- and the history goes on with the table of that geometry
   pub table : replied (format 1 1 2) (formatted 41 1) (emptyTable 41 1) .work .after ≡ emptyTable 1 2
 
--- ---- all of them
+-- ---- all of them but TwoInTree, whose 64 inserts are computed in the crate `starred`
 
 pub record Witnesses : Type 0 where
   -- an answered commit may be cut before and after, in every history

@@ -1,5 +1,5 @@
 -- Claim: the room for its frame, and how each way through the code ends.
-use mathlib.Core.Path.{_≡_, refl, sym, _∙_, ap}
+use mathlib.Core.Path.{_≡_, refl, sym}
 use mathlib.Core.Bool.{Bool, true, false, cond, not}
 use mathlib.Core.Logic.{inl, inr, ⊎-elim}
 use mathlib.Core.Option.{Option, none, some}
@@ -12,12 +12,12 @@ use lib.ListN.{length}
 use lib.Dec.{ltb}
 use borrow.Author.Tests.{eqb-false}
 use borrow.Rule.Slice.PartMut.{midOf, putMid}
-use Rattle.tree.specs.Memory.{Memory, Store, isSome, withBit, segmented, written}
+use Rattle.tree.specs.Memory.{Memory, isSome, withBit, segmented, written}
 use Rattle.tree.specs.Test.{is, _or_, holds}
 use Rattle.tree.specs.declared.layout.Geometry.{Geometry}
 use Rattle.tree.specs.Layout.{nextAt, locateAt, sizeAt}
 use Rattle.tree.specs.Lists.{range}
-use Rattle.tree.specs.Path.{fanout, child}
+use Rattle.tree.specs.Path.{fanout}
 use Rattle.tree.specs.declared.path.Spot.{Spot}
 use Rattle.tree.specs.declared.path.Room.{Room}
 use Rattle.tree.specs.declared.path.Room.the-variants.{Clear, ScaleUp, BranchOut}
@@ -27,20 +27,20 @@ use Rattle.tree.specs.Room.{roomOn, needs, atLevel31}
 use Rattle.tree.specs.Pool.{markAll}
 use Rattle.tree.proofs.Cases.{test}
 use Rattle.tree.proofs.Laws.{child-laws}
+use Rattle.tree.proofs.Memory.{segment-laws}
 use Rattle.paths.specs.declared.descent.Placement.{Placement}
 use Rattle.paths.specs.declared.descent.Placement.the-variants.{Malformed, Full, Held, Free}
 use Rattle.paths.specs.Answers.{onPath, placementOn, placementFrom}
 use Rattle.book.specs.declared.HeadState.{HeadState}
 use Rattle.book.specs.declared.HeadState.the-variants.{Idle, Claimed, Filled}
 use Rattle.book.specs.Heads.{isIdle}
-use Rattle.book.specs.Checks.{noPath}
-use Rattle.book.specs.Perform.{placeIn, roomScript, claimScript, taken}
+use Rattle.book.specs.Checks.{noPath, placeIn}
+use Rattle.book.specs.Perform.{roomScript, locateThen}
 use Rattle.book.proofs.HeadState.{the-type}
 use Rattle.book.proofs.Refusals.{denies}
 use Rattle.book.proofs.Inside.{RoomInside, path-room, fanout-few}
-use Rattle.operations.specs.declared.answer.HeadAnswer.{HeadAnswer}
-use Rattle.operations.specs.declared.answer.HeadAnswer.the-variants.{Done}
 use Rattle.operations.proofs.ScriptWords.{words-of}
+use Rattle.claims.specs.Rooms.{depthOf, InPool, RoomMade, Taken}
 use Rattle.rooms.proofs.ClaimingScripts.{branched, branched-words, located-words, located-written}
 
 -- a state that the code did not take apart as idle
@@ -73,14 +73,6 @@ by-tests true held r = refl
 by-tests false true r = (refl, refl)
 by-tests false false r = (refl, refl, refl)
 
--- the numbers of a branch-out with its run
-pub record BranchFits (g : Geometry) (parent d start f : ℕ) : Type 0 where
-  pub parent-inside : parent < g .nodes
-  pub low : d < 31
-  pub few : fanout d ≤ 4
-  pub run : start + fanout d ≤ g .nodes
-  pub own-child : child d f < fanout d
-
 module _ (g : Geometry) (m : Memory) (s f : ℕ) where
   -- 4 and 9
   abbrev pub pathBad : Bool
@@ -106,70 +98,67 @@ module _ (g : Geometry) (m : Memory) (s f : ℕ) where
       rw (p .2) (path-room g m s f (d .0), d .1)
 
   module _ {room : Room} (e : Free room ≡ placementFrom g m s f) where
-    pub clear-fits : (t : Spot) → room ≡ Clear t → (t .node < g .nodes) × (t .place < 64)
-    clear-fits t q = let p = rw q at (room-fits room e .0) in (p .node, p .place)
+    pub in-pool : (start : ℕ) → start + needs room ≤ g .nodes → InPool g room start
+    in-pool start l = go room (room-fits room e) l
+      where
+        go : (r : Room) → RoomInside g m r × (atLevel31 r ≡ false) → start + needs r ≤ g .nodes → InPool g r start
+        go (Clear t) p l = tt
+        go (ScaleUp n size) p l = (p .0 .0, p .0 .1)
+        go (BranchOut parent d) p l = (p .0 .0, omega (arith, p .0 .1, eqb-false d 31 (p .1)), l)
 
-    pub scale-fits : (n size : ℕ) → room ≡ ScaleUp n size → (n < g .nodes) × (size < 64)
-    scale-fits n size q = rw q at (room-fits room e .0)
-
-    pub branch-fits : (parent d start : ℕ) → room ≡ BranchOut parent d → start + needs room ≤ g .nodes → BranchFits g parent d start f
-    branch-fits parent d start q l =
-        let p = rw q at (room-fits room e) in
-        let low : d < 31 = omega (arith, eqb-false d 31 (p .1)) in
-        record { parent-inside = p .0 .0; low = low; few = fanout-few d low .1; run = rw q at l; own-child = child-laws .below d f low }
+    -- a branch-out's last node is above level 31
+    pub deep-room : depthOf room < 31
+    deep-room = go room (room-fits room e)
+      where
+        go : (r : Room) → RoomInside g m r × (atLevel31 r ≡ false) → depthOf r < 31
+        go (Clear t) p = omega arith
+        go (ScaleUp n size) p = omega arith
+        go (BranchOut parent d) p = omega (arith, p .0 .1, eqb-false d 31 (p .1))
 
     -- a branch-out takes nodes
     pub takes-nodes : (parent d : ℕ) → room ≡ BranchOut parent d → 0 < fanout d
     takes-nodes parent d q = let p = rw q at (room-fits room e) in fanout-few d (omega (arith, eqb-false d 31 (p .1))) .0
 
+    -- the place that it takes is inside
+    pub place-fits : (start : ℕ) → start + needs room ≤ g .nodes → (placeIn room start f .node < g .nodes) × (placeIn room start f .place < 64)
+    place-fits start l = go room (room-fits room e) l
+      where
+        go : (r : Room) → RoomInside g m r × (atLevel31 r ≡ false) → start + needs r ≤ g .nodes
+            → (placeIn r start f .node < g .nodes) × (placeIn r start f .place < 64)
+        go (Clear t) p l = (p .0 .node, p .0 .place)
+        go (ScaleUp n size) p l = (p .0 .0, p .0 .1)
+        go (BranchOut parent d) p l = (omega (arith, child-laws .below d f (omega (arith, p .0 .1, eqb-false d 31 (p .1)))), omega arith)
+
 -- ---- the room taken
 
-module _ (g : Geometry) (m : Memory) (slot f start : ℕ) where
-  abbrev pub targetIn : Room → HeadState
-  targetIn r = Claimed (record { slot = slot; node = placeIn r start f .node; place = placeIn r start f .place; frame = f })
+-- the room made, and the locate store written to the rest of the script
+pub room-taken : (g : Geometry) (m : Memory) (r : Room) (start : ℕ) (t : Spot) (pool script : List ℕ) (words locate : ℕ) (pool' xs ys : List ℕ)
+    → RoomMade g r start pool pool' script xs words → locate ≡ locateThen g m r (t .node)
+    → ys ≡ written (segmented (((locateAt g (t .node), withBit locate (t .place)) ∷ []) ∷ [])) (midOf words (length xs - words) xs)
+    → Taken g m r start t pool pool' script (putMid words (length xs - words) xs ys) (words + 4)
+room-taken g m r start t pool script words locate pool' xs ys made l v =
+    let i = locateAt g (t .node) in
+    let word = withBit (locateThen g m r (t .node)) (t .place) in
+    let long = sym (made .0) in (
+      sym (located-words (roomScript g r start) i word words long),
+      made .2,
+      located-written (roomScript g r start) i word words long script xs ys (made .3) (rw l at v),
+    )
 
-  -- the answer, the pool map and the script
-  abbrev pub Taken : Room → (pool pool' script script' : List ℕ) → HeadAnswer → Type 0
-  Taken r pool pool' script script' x =
-      (x ≡ Done (2 * length (segmented (claimScript g m r start f))) (targetIn r))
-      × (pool' ≡ markAll pool (taken r start))
-      × (script' ≡ written (segmented (claimScript g m r start f)) script)
+-- ---- the room made, case by case
 
-  module _ (r : Room) (pool script : List ℕ) (x : HeadAnswer) where
-    pub clear-taken : (t : Spot) (locate : ℕ) (script' : List ℕ) → r ≡ Clear t
-        → x ≡ Done 4 (Claimed (record { slot = slot; node = t .node; place = t .place; frame = f })) → locate ≡ m (locateAt g (t .node))
-        → script' ≡ written (segmented (((locateAt g (t .node), withBit locate (t .place)) ∷ []) ∷ [])) script
-        → Taken r pool pool script script' x
-    unfolding claimScript roomScript markAll
-    clear-taken t locate script' q e l w = rw q (e ∙ ap (λ n. Done n (targetIn (Clear t))) (words-of (((locateAt g (t .node), _) ∷ []) ∷ [])), refl, rw l at w)
+pub clear-made : (g : Geometry) (t : Spot) (start : ℕ) (pool script : List ℕ) → RoomMade g (Clear t) start pool pool script script 0
+unfolding roomScript markAll
+clear-made g t start pool script = (words-of [], omega arith, refl, sym (segment-laws .none-written script))
 
-    -- in the other two, the room made, and the locate store written to the rest of the script
-    pub scale-taken : (n size locate : ℕ) (xs ys : List ℕ) → r ≡ ScaleUp n size
-        → x ≡ Done 8 (Claimed (record { slot = slot; node = n; place = size; frame = f })) → locate ≡ m (locateAt g n)
-        → xs ≡ written (segmented (((sizeAt g n, 2 * size) ∷ []) ∷ [])) script
-        → ys ≡ written (segmented (((locateAt g n, withBit locate size) ∷ []) ∷ [])) (midOf 4 (length xs - 4) xs)
-        → Taken r pool pool script (putMid 4 (length xs - 4) xs ys) x
-    unfolding claimScript roomScript markAll
-    scale-taken n size locate xs ys q e l w v =
-        let room : List (List Store) = ((sizeAt g n, 2 * size) ∷ []) ∷ [] in
-        let long = sym (words-of room) in
-        let i = locateAt g n in
-        let word = withBit (m i) size in
-        rw q (rw (located-words room i word 4 long) e, refl, located-written room i word 4 long script xs ys w (rw l at v))
+pub scale-made : (g : Geometry) (n size start : ℕ) (pool script script' : List ℕ) → script' ≡ written (segmented (((sizeAt g n, 2 * size) ∷ []) ∷ [])) script
+    → RoomMade g (ScaleUp n size) start pool pool script script' 4
+unfolding roomScript markAll
+scale-made g n size start pool script script' w = (words-of (((sizeAt g n, 2 * size) ∷ []) ∷ []), omega arith, refl, w)
 
-    pub branch-taken : (pool' : List ℕ) (parent d k c : ℕ) (xs ys : List ℕ) → r ≡ BranchOut parent d → k ≡ fanout d → c ≡ child d f
-        → x ≡ Done (10 * k + 6 + 4) (Claimed (record { slot = slot; node = start + c; place = 0; frame = f }))
-        → pool' ≡ markAll pool (range start k)
-        → xs ≡ written (segmented (branched g (suc d) start (fanout d) (nextAt g parent) (start + 1))) script
-        → ys ≡ written (segmented (((locateAt g (start + c), withBit 0 0) ∷ []) ∷ [])) (midOf (10 * k + 6) (length xs - (10 * k + 6)) xs)
-        → Taken r pool pool' script (putMid (10 * k + 6) (length xs - (10 * k + 6)) xs ys) x
-    unfolding claimScript roomScript
-    branch-taken pool' parent d k c xs ys q k-is c-is e p w v =
-        let room = branched g (suc d) start k (nextAt g parent) (start + 1) in
-        let long = branched-words g (suc d) start k (nextAt g parent) (start + 1) in
-        let i = locateAt g (start + c) in
-        rw (q, ← c-is, ← k-is) (
-          rw (located-words room i (withBit 0 0) (10 * k + 6) long) e,
-          p,
-          located-written room i (withBit 0 0) (10 * k + 6) long script xs ys (rw (← k-is) at w) v,
-        )
+pub branch-made : (g : Geometry) (parent d start k : ℕ) (pool pool' script script' : List ℕ) → k ≡ fanout d → k ≤ 4 → pool' ≡ markAll pool (range start k)
+    → script' ≡ written (segmented (branched g (suc d) start (fanout d) (nextAt g parent) (start + 1))) script
+    → RoomMade g (BranchOut parent d) start pool pool' script script' (10 * k + 6)
+unfolding roomScript
+branch-made g parent d start k pool pool' script script' e few p w =
+    (rw e (sym (branched-words g (suc d) start (fanout d) (nextAt g parent) (start + 1))), omega arith, rw e at p, w)

@@ -9,6 +9,7 @@ ghost use Rattle.tree.specs.Memory.{reads, segmented, written};
 ghost use Rattle.tree.specs.Test.{le, is};
 ghost use Rattle.tree.specs.Layout.{Sized, mapWords};
 ghost use Rattle.tree.specs.Lookup.{freeRun};
+ghost use Rattle.tree.specs.declared.path.Room.the-variants.{BranchOut};
 ghost use Rattle.tree.specs.Room.{needs};
 ghost use Rattle.tree.specs.Pool.{markAll};
 ghost use Rattle.paths.specs.Answers.{placementFrom};
@@ -16,12 +17,15 @@ ghost use Rattle.paths.specs.declared.descent.Placement.the-variants.{Free};
 ghost use Rattle.book.specs.declared.HeadState.the-variants.{Claimed};
 ghost use Rattle.book.specs.Heads.{headCount, isIdle};
 ghost use Rattle.book.specs.Refusals.{refusal, _gives_};
-ghost use Rattle.book.specs.Perform.{placeIn, claimScript, taken};
+ghost use Rattle.book.specs.Checks.{targetIn};
+ghost use Rattle.book.specs.Perform.{locateThen, claimScript, taken};
 ghost use Rattle.book.specs.State.{claim};
 ghost use Rattle.operations.specs.declared.answer.HeadAnswer.the-variants.{Done};
-ghost use Rattle.operations.specs.HeadLists.{headsIn, stateIn, busyIn, headAnswerOf, headCountOf, headsAfter};
+ghost use Rattle.operations.specs.HeadLists.{headsIn, stateIn, headAnswerOf, headCountOf, headsAfter};
 ghost use Rattle.operations.specs.Ends.{buffers, state, ended, ends};
 ghost use Rattle.claims.specs.Admissions.{admissionNumber};
+ghost use Rattle.claims.specs.Rooms.{depthOf, RoomFits, RoomMade, Taken};
+use crate::conflicts::has_conflict;
 use book::HEADS;
 use book::Head;
 use book::HeadState;
@@ -32,7 +36,6 @@ use operations::answer::Refusal;
 use operations::checks::Buffer;
 use operations::checks::Verdict;
 use operations::checks::checks;
-use operations::heads::is_busy;
 use operations::heads::state_in;
 use paths::descent::Placement;
 use paths::descent::room_for;
@@ -55,12 +58,12 @@ pub enum Admission {
     Refused(Refusal),
 }
 
-// 11 and 12 for the head, 5 and 13 for the reel's slot, in this sequence.
+// 11 and 12 for the head, 5 for the reel's slot, in this sequence.
 fn admit(heads: [Head; HEADS], head: u64, g: Geometry, slot: usize) -> Admission
     ensures { λ r. ⌜
         admissionNumber r
         ≡ refusal ((le headCount head gives 11) ∷ (is (not (isIdle (stateIn heads head))) gives 12) ∷
-        (le (g .slots) slot gives 5) ∷ (is (busyIn heads slot) gives 13) ∷ [])
+        (le (g .slots) slot gives 5) ∷ [])
         ⌝ }
 {
     if HEADS as u64 <= head {
@@ -71,9 +74,6 @@ fn admit(heads: [Head; HEADS], head: u64, g: Geometry, slot: usize) -> Admission
     };
     if g.slots <= slot {
         return Admission::Refused(Refusal::NoReel);
-    }
-    if is_busy(heads, slot) {
-        return Admission::Refused(Refusal::Busy);
     }
     Admission::Admitted
 }
@@ -102,76 +102,122 @@ fn run_for(pool: &[u64], g: Geometry, room: Room) -> usize
     0
 }
 
-// Done: so many words of script, and the head has claimed the place.
-fn claimed(words: usize, slot: usize, t: Spot, frame: u64) -> HeadAnswer
-    ensures { λ r. ⌜ r ≡ Done words (Claimed (record { slot = slot; node = t .node; place = t .place; frame = frame })) ⌝ }
+// What the claim's head would be about with the room taken, its new nodes from `start` on where it takes any.
+fn target_in(slot: usize, room: Room, start: usize, frame: u64) -> Target
+    requires { ⌜ (start ≤ 65536) × (depthOf room < 31) ⌝ }
+    ensures { λ r. ⌜ r ≡ targetIn slot room start frame ⌝ }
 {
-    HeadAnswer::Done(
-        words as u64,
-        HeadState::Claimed(Target {
+    match room {
+        Room::Clear(t) => Target {
             slot: slot as u64,
             node: t.node as u64,
             place: t.place as u64,
             frame,
-        }),
-    )
+        },
+        Room::ScaleUp { node, size } => Target {
+            slot: slot as u64,
+            node: node as u64,
+            place: size,
+            frame,
+        },
+        Room::BranchOut { parent: _, depth } => Target {
+            slot: slot as u64,
+            node: (start + child(depth, frame) as usize) as u64,
+            place: 0,
+            frame,
+        },
+    }
 }
 
-// Takes the room that was found, with a free run from `start` on where it takes nodes. The script after a scale-up or
-// branch-out is lent on to the writer of the locate store; in a node made anew the locate word is 0 by then.
+// Makes, links and marks the children of a full node. Answers how many words of script that took.
+fn branch_out(
+    pool: &mut [u64],
+    script: &mut [u64],
+    g: Geometry,
+    parent: usize,
+    depth: u64,
+    start: usize,
+) -> usize
+    requires { ⌜
+        RoomFits g (BranchOut parent depth) start
+        × (length (now pool) ≡ mapWords g)
+        × (50 ≤ length (now script))
+        ⌝ }
+    ensures { λ r. ⌜
+        RoomMade g (BranchOut parent depth) start (now (pool .entry)) (now (pool .exit)) (now (script .entry))
+        (now (script .exit)) r
+        ⌝ }
+{
+    let count = fanout(depth);
+    put_branch_out(script, g, parent, depth, start, count);
+    mark_run(pool, start, count);
+    10 * count + 6
+}
+
+// Makes the room that was found, with its new nodes from `start` on where it takes any.
+fn make_room(pool: &mut [u64], script: &mut [u64], g: Geometry, room: Room, start: usize) -> usize
+    requires { ⌜ RoomFits g room start × (length (now pool) ≡ mapWords g) × (50 ≤ length (now script)) ⌝ }
+    ensures { λ r. ⌜
+        RoomMade g room start (now (pool .entry)) (now (pool .exit)) (now (script .entry)) (now (script .exit)) r
+        ⌝ }
+{
+    match room {
+        Room::Clear(_) => 0,
+        Room::ScaleUp { node, size } => {
+            put_scale_up(script, g, node, size);
+            4
+        }
+        Room::BranchOut { parent, depth } => branch_out(pool, script, g, parent, depth, start),
+    }
+}
+
+// The locate word of the place that a claim takes, as it is with the room made: 0 in a node made anew.
+fn locate_then(image: &[u64], g: Geometry, room: Room, node: usize) -> u64
+    requires { ⌜ Sized (now image) g × (node < g .nodes) ⌝ }
+    ensures { λ r. ⌜ r ≡ locateThen g (reads (now (image .entry))) room node ⌝ }
+{
+    match room {
+        Room::Clear(_) => word_of(image, g, node, LOCATE),
+        Room::ScaleUp { node: _, size: _ } => word_of(image, g, node, LOCATE),
+        Room::BranchOut {
+            parent: _,
+            depth: _,
+        } => 0,
+    }
+}
+
+// Makes the room that was found and puts the place on: the rest of the script is lent on to the writer of the locate store.
+// Answers how many words of script that took.
 fn take_room(
     image: &[u64],
     pool: &mut [u64],
     script: &mut [u64],
     g: Geometry,
-    slot: usize,
     room: Room,
     start: usize,
-    frame: u64,
-) -> HeadAnswer
+    t: Spot,
+) -> usize
     requires { ⌜
         Sized (now image) g
-        × (Free room ≡ placementFrom g (reads (now image)) slot frame)
+        × RoomFits g room start
+        × (t .node < g .nodes)
+        × (t .place < 64)
         × (length (now pool) ≡ mapWords g)
         × (50 ≤ length (now script))
-        × (start + needs room ≤ g .nodes)
         ⌝ }
     ensures { λ r. ⌜
-        (r
-        ≡ Done (2 * length (segmented (claimScript g (reads (now (image .entry))) room start frame))) (Claimed (record {
-          slot = slot;
-          node = placeIn room start frame .node;
-          place = placeIn room start frame .place;
-          frame = frame;
-        })))
-        × (now (pool .exit) ≡ markAll (now (pool .entry)) (taken room start))
-        × (now (script .exit)
-        ≡ written (segmented (claimScript g (reads (now (image .entry))) room start frame)) (now (script .entry)))
+        Taken g (reads (now (image .entry))) room start t (now (pool .entry)) (now (pool .exit)) (now (script .entry))
+        (now (script .exit)) r
         ⌝ }
 {
-    match room {
-        Room::Clear(t) => {
-            put_locate(script, g, t, word_of(image, g, t.node, LOCATE));
-            claimed(4, slot, t, frame)
-        }
-        Room::ScaleUp { node, size } => {
-            let place = size as usize;
-            let t = Spot { node, place };
-            put_scale_up(script, g, node, size);
-            put_locate(&mut script[4..], g, t, word_of(image, g, node, LOCATE));
-            claimed(8, slot, t, frame)
-        }
-        Room::BranchOut { parent, depth } => {
-            let count = fanout(depth);
-            let node = start + child(depth, frame) as usize;
-            let t = Spot { node, place: 0 };
-            let words = 10 * count + 6;
-            put_branch_out(script, g, parent, depth, start, count);
-            put_locate(&mut script[words..], g, t, 0);
-            mark_run(pool, start, count);
-            claimed(words + 4, slot, t, frame)
-        }
-    }
+    let words = make_room(pool, script, g, room, start);
+    put_locate(
+        &mut script[words..],
+        g,
+        t,
+        locate_then(image, g, room, t.node),
+    );
+    words + 4
 }
 
 // Claim a place for a frame: the first clear one on its path, or one of a node scaled up or made anew.
@@ -213,8 +259,17 @@ pub fn claim(
         Placement::Free(room) => room,
     };
     let start = run_for(pool, g, room);
+    let target = target_in(slot, room, start, frame);
+    if has_conflict(heads, target, start < g.nodes) {
+        return HeadAnswer::Refused(Refusal::Busy);
+    }
     if g.nodes <= start {
         return HeadAnswer::Refused(Refusal::NoRun);
     }
-    take_room(image, pool, script, g, slot, room, start, frame)
+    let t = Spot {
+        node: target.node as usize,
+        place: target.place as usize,
+    };
+    let words = take_room(image, pool, script, g, room, start, t);
+    HeadAnswer::Done(words as u64, HeadState::Claimed(target))
 }

@@ -1,6 +1,6 @@
 -- The array of heads and the driver's words that it was read from.
 use mathlib.Core.Path.{_≡_, refl, sym, _∙_, ap}
-use mathlib.Core.Bool.{true, false}
+use mathlib.Core.Bool.{Bool, true, false}
 use mathlib.Core.List.{List, map}
 use Prim.Native.Nat.{ℕ, zero, suc, _+_, _≤_, _<_}
 use native.Mathlib.Omega.{arith}
@@ -15,9 +15,9 @@ use Rattle.tree.specs.Lists.{range, upTo}
 use Rattle.book.specs.declared.HeadState.{HeadState}
 use Rattle.book.specs.declared.HeadState.the-variants.{Idle}
 use Rattle.book.specs.declared.Head.{Head}
-use Rattle.book.specs.Heads.{headCount, headAt, names, busy}
+use Rattle.book.specs.Heads.{headCount, headAt, anyHead}
 use Rattle.book.proofs.Heads.{found-below}
-use Rattle.operations.specs.HeadLists.{headOf, headsIn, stateIn, busyIn}
+use Rattle.operations.specs.HeadLists.{headOf, headsIn, stateIn, anyIn}
 
 -- ---- the array, record by record
 
@@ -64,21 +64,21 @@ pub no-head : (ws : List ℕ) (h : ℕ) → headCount ≤ h → Idle ≡ stateIn
 unfolding stateIn
 no-head ws h l = sym (ap (λ (x : Head). x .state) (List·getD-eq-default (headsIn ws) (headOf Idle) (rw records-count l)))
 
-pub busy-read : (ws : List ℕ) (heads : List Head) (s : ℕ) → headsIn ws ≡ heads → busyIn heads s ≡ busy ws s
-unfolding busyIn busy
-busy-read ws heads s e =
+pub any-read : (passes : HeadState → Bool) (ws : List ℕ) (heads : List Head) → headsIn ws ≡ heads → anyIn passes heads ≡ anyHead passes ws
+unfolding anyIn anyHead
+any-read passes ws heads e =
     ap (λ x. ltb x headCount)
-    (first-laws (λ h. names s (stateIn heads h)) headCount .equal-tests (λ h. names s (headAt ws h)) (λ h l.
-    ap (names s) (state-read ws heads h e l)))
+    (first-laws (λ h. passes (stateIn heads h)) headCount .equal-tests (λ h. passes (headAt ws h)) (λ h l.
+    ap passes (state-read ws heads h e l)))
 
--- ---- the loop over the heads
+-- ---- a loop over the heads
 
-pub busy-at : (heads : List Head) (s h : ℕ) → h < headCount → names s (stateIn heads h) ≡ true → true ≡ busyIn heads s
-unfolding busyIn
-busy-at heads s h l e = sym (found-below (λ k. names s (stateIn heads k)) headCount .1 (h, l, e))
+pub any-at : (passes : HeadState → Bool) (heads : List Head) (h : ℕ) → h < headCount → passes (stateIn heads h) ≡ true → true ≡ anyIn passes heads
+unfolding anyIn
+any-at passes heads h l e = sym (found-below (λ k. passes (stateIn heads k)) headCount .1 (h, l, e))
 
-pub busy-nowhere : (heads : List Head) (s : ℕ) → NoneBelow (λ h. names s (stateIn heads h)) headCount → false ≡ busyIn heads s
-unfolding busyIn
-busy-nowhere heads s none =
-    let all = first-laws (λ h. names s (stateIn heads h)) headCount .stops headCount (omega arith) none (λ l. absurd (omega arith)) in
+pub any-nowhere : (passes : HeadState → Bool) (heads : List Head) → NoneBelow (λ h. passes (stateIn heads h)) headCount → false ≡ anyIn passes heads
+unfolding anyIn
+any-nowhere passes heads none =
+    let all = first-laws (λ h. passes (stateIn heads h)) headCount .stops headCount (omega arith) none (λ l. absurd (omega arith)) in
     sym (rw (← all) (le-ltb headCount headCount (omega arith)))

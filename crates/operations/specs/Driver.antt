@@ -92,8 +92,8 @@ pub record Stands (s : State) (t : Table) : Type 0 where
   pub agrees : Agrees s t
   -- whatever it calls next, it is told what the table replies
   pub goes-on : (op : Operation) (b : Buffers) (e : Ends) → Fits op s → (c : Called op s b e) → GoesOn op s t e (afterCall c)
-  -- book and table answer every operation alike, an 8 exactly where nodes lack; frames sit where the tree's rule puts them; and nodes come
-  -- and go by that rule
+  -- book and table answer every operation alike, an 8 exactly where nodes lack, a 13 exactly where a head is in the way; frames
+  -- sit where the tree's rule puts them; and nodes come and go by that rule
   pub alike : (op : Operation) → Fit (arguments op) → Alike op s t
   pub places : Places s
   pub growing : Growing s

@@ -26,9 +26,13 @@ headsIn ws = map (λ h. headOf (headAt ws h)) (upTo headCount)
 unfoldable pub stateIn : List Head → ℕ → HeadState
 stateIn heads h = getD heads h (headOf Idle) .state
 
+-- some head passes a test
+unfoldable pub anyIn : (HeadState → Bool) → List Head → Bool
+anyIn passes heads = ltb (first (λ h. passes (stateIn heads h)) headCount) headCount
+
 -- busy: some head that is not idle names the slot
-unfoldable pub busyIn : List Head → ℕ → Bool
-busyIn heads s = ltb (first (λ h. names s (stateIn heads h)) headCount) headCount
+abbrev pub busyIn : List Head → ℕ → Bool
+busyIn heads s = anyIn (names s) heads
 
 abbrev pub headAnswerOf : HeadAnswer → ℕ
 headAnswerOf (head-answer.Done n x) = 0

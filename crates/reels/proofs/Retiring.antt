@@ -15,7 +15,7 @@ use Rattle.tree.specs.Subtree.{tree, nodesOf, listed}
 use Rattle.tree.specs.Check.{isSoundTree}
 use Rattle.tree.specs.Pool.{unmarkAll, clearMap}
 use Rattle.book.specs.declared.Head.{Head}
-use Rattle.book.specs.Heads.{busy}
+use Rattle.book.specs.Heads.{names, busy}
 use Rattle.book.specs.Refusals.{Refusal, _gives_}
 use Rattle.book.specs.State.{Operation, State, retire, scratchAfter}
 use Rattle.book.specs.Checks.{refusals}
@@ -25,7 +25,7 @@ use Rattle.operations.specs.HeadLists.{headsIn, busyIn}
 use Rattle.operations.specs.Ends.{Buffers, buffers, state, ended, found, ends}
 use Rattle.operations.proofs.ScriptWords.{words-of, fenced-written}
 use Rattle.operations.proofs.Passed.{same-checks}
-use Rattle.operations.proofs.HeadRecords.{busy-read}
+use Rattle.operations.proofs.HeadRecords.{any-read}
 use Rattle.operations.proofs.Tested.{OnReel, SlotRead, rest-bad, rest-done}
 
 module _ (im pool ws scratch script : List ℕ) (reel : ℕ) where
@@ -49,7 +49,7 @@ module _ (im pool ws scratch script : List ℕ) (reel : ℕ) where
   module _ {g : Geometry} {slot : ℕ} (p : SlotRead im (some pool) (some scratch) (some script) reel g slot) (inside : slot < g .slots)
       (heads : List Head) (read : headsIn ws ≡ heads) where
     busy-is : (b : Bool) → busyIn heads slot ≡ b → busy ws slot ≡ b
-    busy-is b e = sym (busy-read ws heads slot read) ∙ e
+    busy-is b e = sym (any-read (names slot) ws heads read) ∙ e
 
     pub slot-busy : busyIn heads slot ≡ true → ended 13 0 start (buffers (clearMap (length scratch)) script []) ≡ ends op start borrowed
     slot-busy e = rest-bad on-retire borrowed p inside 13 (refused-here _ _ (busy-is true e)) (omega arith)

@@ -12,7 +12,7 @@ use Rattle.tree.specs.Lookup.{firstSpot, path, pathFrom, clearAt, clearSpot, ma
 use Rattle.tree.specs.Subtree.{children, subtree, tree}
 use Rattle.tree.specs.Check.{walkable, isSoundTree}
 use Rattle.tree.specs.Pool.{mark, unmark, markAll, unmarkAll}
-use Rattle.book.specs.Heads.{stateOf, headAt, wordsOf, withHead, busy}
+use Rattle.book.specs.Heads.{stateOf, headAt, wordsOf, withHead, anyHead}
 use Rattle.book.specs.Refusals.{refusal}
 use Rattle.tree.specs.Room.{lastOf, fullRoom, roomOn}
 use Rattle.book.specs.Checks.{refusals}
@@ -21,5 +21,5 @@ use Rattle.book.specs.Perform.{formatStores, openScript, roomScript, claimScrip
 use Rattle.book.specs.Starred.{run, formatted, keeps, withFrames, withGaps, starred, Starred}
 
 pub every-starred : Starred
-unfolding starred run formatted keeps withFrames withGaps flatMap upTo range keep every hasKey distinct perform granted leaves clears refusals badImage refusal geometryOf formatStores openScript roomScript claimScript fillScript nodesOf apply segmented stores first marked isSet withBit withoutBit byte withByte field withField bit slotOf emptySlot filled freeRun isFreeRun mark unmark markAll unmarkAll headAt stateOf wordsOf withHead busy pathFrom path wellFormed formed sizeAllowed clearSpot clearAt firstSpot roomOn fullRoom lastOf find lookup foundAt matches children subtree tree walkable isSoundTree fingerprint editionOne folded tableEntry ruleOf child fanout
+unfolding starred run formatted keeps withFrames withGaps flatMap upTo range keep every hasKey distinct perform granted leaves clears refusals badImage refusal geometryOf formatStores openScript roomScript claimScript fillScript nodesOf apply segmented stores first marked isSet withBit withoutBit byte withByte field withField bit slotOf emptySlot filled freeRun isFreeRun mark unmark markAll unmarkAll headAt stateOf wordsOf withHead anyHead pathFrom path wellFormed formed sizeAllowed clearSpot clearAt firstSpot roomOn fullRoom lastOf find lookup foundAt matches children subtree tree walkable isSoundTree fingerprint editionOne folded tableEntry ruleOf child fanout
 every-starred = refl

@@ -1,1 +1,1 @@
-// The starred cases of the paper: no code, one theorem about the definitions of `book`.
+// No code: the starred cases of the paper, and a crash with two claims in one tree; both compute books of 64 frames.

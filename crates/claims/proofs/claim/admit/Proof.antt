@@ -32,23 +32,11 @@ returns-3 c =
 
 returns-4 : tie.Need-returns-4
 returns-4 c =
-    let there = c .before .before in
-    let past = there .before .before .before .before .before in
+    let past = c .before .before .before .before .before in
     let a = past .before .args in
     sym (refused-later _ _ (lt-leb headCount (a .head) (past .if1 .left))
-    ∙ refused-later _ _ (idle (there .before))
-    ∙ refused-later _ _ (lt-leb (a .g .slots) (a .slot) (there .if2 .left))
-    ∙ refused-here _ _ (sym (c .before .is-busy .ensures) ∙ c .if3 .taken))
-
-returns-5 : tie.Need-returns-5
-returns-5 c =
-    let there = c .before .before in
-    let past = there .before .before .before .before .before in
-    let a = past .before .args in
-    sym (refused-later _ _ (lt-leb headCount (a .head) (past .if1 .left))
-    ∙ refused-later _ _ (idle (there .before))
-    ∙ refused-later _ _ (lt-leb (a .g .slots) (a .slot) (there .if2 .left))
-    ∙ refused-later _ _ (sym (c .before .is-busy .ensures) ∙ c .if3 .left)
+    ∙ refused-later _ _ (idle (c .before))
+    ∙ refused-later _ _ (lt-leb (a .g .slots) (a .slot) (c .if2 .left))
     ∙ passed-all _ tt)
 
 pub admit-spec : {M : Type 1} → statement M
@@ -60,6 +48,4 @@ admit-spec =
     (λ c. search needs)
     returns-2
     returns-3
-    (λ c κs. search needs)
-    returns-4
-    returns-5)
+    returns-4)

@@ -4,11 +4,14 @@ use Prim.Native.Nat.{ℕ, _<_}
 use Rattle.tree.specs.Memory.{reads as readsWords}
 use Rattle.tree.specs.Slots.{Filled}
 use Rattle.tree.proofs.Laws.{slot-laws}
+use Rattle.paths.specs.declared.descent.Placement.the-variants.{Free}
+use Rattle.paths.specs.Answers.{placementFrom}
 use Rattle.operations.specs.Answers.{numberOf}
 use Rattle.operations.specs.HeadLists.{headsIn}
 use Rattle.operations.proofs.Passed.{number-some, OpenChecked, open-checked}
 use Rattle.claims.specs.Admissions.{admissionNumber}
-use Rattle.claims.proofs.ClaimingEndings.{HeadPassed, slot-below, run-fits, claim-early, head-refused, head-passed, path-malformed, path-full, frame-held, no-run, claimed}
+use Rattle.claims.proofs.Claiming.{deep-room, in-pool, place-fits}
+use Rattle.claims.proofs.ClaimingEndings.{HeadPassed, slot-below, run-fits, start-within, claim-early, head-refused, head-passed, path-malformed, path-full, frame-held, has-conflict, no-run, claimed}
 use borrow.Author.Needs.{needs}
 use Rattle.claims.proofs.claim.claim.Statement.{statement}
 use Rattle.claims.proofs.claim.claim.Tie as tie
@@ -82,37 +85,74 @@ returns-5 c ws e =
 run-for-requires : tie.Need-run-for-requires
 run-for-requires c κs = let p = fine (c .before .before .before .before .before .before .before .before .before) in search needs
 
+-- the room was found on the frame's path
+free : (c : tie.After-run-for)
+    → let known = c .before .before .before in
+    let walked = known .before .before in
+    let read = walked .before .before .before .before .before in
+    let a = read .before .before .before .before .before .before .before .args in
+    Free (known .room .given .0 .0) ≡ placementFrom (read .before .g .given .0 .0) (readsWords (a .image .now)) (walked .before .before .before .before .slot-of .result) (a .frame)
+free c = let known = c .before .before .before in sym (known .room .given .1) ∙ known .before .before .room-for .ensures
+
+target-in-requires : tie.Need-target-in-requires
+target-in-requires c κs =
+    let known = c .before .before .before in
+    let read = known .before .before .before .before .before .before .before in
+    let a = read .before .before .before .before .before .before .before .args in
+    let p = fine read in
+    let l = start-within (read .before .g .given .0 .0) (a .pool .now) (known .room .given .0 .0) _ (c .run-for .ensures) in
+    let d = deep-room _ _ _ _ (free c) in
+    search needs
+
 returns-6 : tie.Need-returns-6
 returns-6 c ws e =
-    let run = c .before .before in
+    let met = c .before in
+    let run = met .before .before .before in
     let known = run .before .before .before in
     let walked = known .before .before in
-    no-run _ _ _ _ _ _ _ (past (walked .before) ws e) (walked .room-for .ensures) _ (known .room .given .1) _ (run .run-for .ensures) (c .if1 .taken)
+    has-conflict _ _ _ _ _ _ _ (past (walked .before) ws e) (walked .room-for .ensures) _ (known .room .given .1) _ (run .run-for .ensures)
+    _ e _ (met .before .before .target-in .ensures) _ (met .has-conflict .ensures) (c .if1 .taken)
+
+returns-7 : tie.Need-returns-7
+returns-7 c ws e =
+    let met = c .before .before .before in
+    let run = met .before .before .before in
+    let known = run .before .before .before in
+    let walked = known .before .before in
+    no-run _ _ _ _ _ _ _ (past (walked .before) ws e) (walked .room-for .ensures) _ (known .room .given .1) _ (run .run-for .ensures)
+    _ e _ (met .before .before .target-in .ensures) _ (met .has-conflict .ensures) (c .before .before .if1 .left) (c .if2 .taken)
 
 take-room-requires : tie.Need-take-room-requires
 take-room-requires c κs =
     let left = c .before .before in
-    let run = left .before .before in
+    let met = left .before .before .before in
+    let run = met .before .before .before in
     let known = run .before .before .before in
-    let walked = known .before .before in
-    let read = walked .before .before .before .before .before in
+    let read = known .before .before .before .before .before .before .before in
     let a = read .before .before .before .before .before .before .before .args in
-    let p = fine read in (
-      p .sized,
-      sym (known .room .given .1) ∙ walked .room-for .ensures,
+    let p = fine read in
+    let s = p .sized in
+    let fits = run-fits (read .before .g .given .0 .0) (a .pool .now) (known .room .given .0 .0) _ (run .run-for .ensures) (left .if2 .left) in
+    let place = place-fits _ _ _ _ (free run) _ fits in
+    let target = met .before .before .target-in .ensures in (
+      s,
+      (search needs, search needs, in-pool _ _ _ _ (free run) _ fits),
+      rw target (place .0),
+      rw target (place .1),
       p .map-words,
       p .script-words,
-      run-fits (read .before .g .given .0 .0) (a .pool .now) (known .room .given .0 .0) _ (run .run-for .ensures) (left .if1 .left),
     )
 
-returns-7 : tie.Need-returns-7
-returns-7 c ws e =
+returns-8 : tie.Need-returns-8
+returns-8 c ws e =
     let took = c .before .before .before .before in
     let left = took .before .before .before in
-    let run = left .before .before in
+    let met = left .before .before .before in
+    let run = met .before .before .before in
     let known = run .before .before .before in
     let walked = known .before .before in
-    claimed _ _ _ _ _ _ _ (past (walked .before) ws e) (walked .room-for .ensures) _ (known .room .given .1) _ (run .run-for .ensures) (left .if1 .left)
+    claimed _ _ _ _ _ _ _ (past (walked .before) ws e) (walked .room-for .ensures) _ (known .room .given .1) _ (run .run-for .ensures)
+    _ e _ (met .before .before .target-in .ensures) _ (met .has-conflict .ensures) (left .before .before .if1 .left) (left .if2 .left)
     (took .take-room .last .1 .0) (took .take-room .last .1 .1 .0) (took .take-room .result) (took .take-room .ensures)
 
 pub claim-spec : {M : Type 1} → statement M
@@ -137,9 +177,13 @@ claim-spec =
     returns-5
     (λ c. search needs)
     run-for-requires
+    target-in-requires
+    (λ c κs. search needs)
     (λ c. search needs)
     returns-6
+    (λ c. search needs)
+    returns-7
     take-room-requires
     (λ c. search needs)
     (λ c. search needs)
-    returns-7)
+    returns-8)

@@ -3,12 +3,12 @@ use mathlib.Core.Option.{none, some}
 use mathlib.Core.List.{List, []}
 use Prim.Native.Nat.{ℕ}
 use native.Mathlib.Omega.{arith}
-use Rattle.book.specs.Heads.{busy}
+use Rattle.book.specs.Heads.{names, busy}
 use Rattle.operations.specs.HeadLists.{headsIn}
 use Rattle.operations.specs.Ends.{buffers, state}
 use Rattle.operations.proofs.Passed.{Checked, all-checked}
 use Rattle.operations.proofs.Tested.{SlotRead, filled-slot, check-bad, no-reel}
-use Rattle.operations.proofs.HeadRecords.{busy-read}
+use Rattle.operations.proofs.HeadRecords.{any-read}
 use Rattle.lookups.proofs.FrameLookups.{Looked, found-inside, on-remove, remove-busy, remove-malformed, remove-absent, removed}
 use borrow.Author.Needs.{needs}
 use Rattle.lookups.proofs.frames.remove.Statement.{statement}
@@ -43,7 +43,7 @@ busy-told : (c : tie.After-is-busy) (ws : List ℕ)
     → let seen = c .before .before .before in
     let a = seen .before .before .before .before .before .before .before .args in
     headsIn ws ≡ a .heads → busy ws (seen .slot-of .result) ≡ c .is-busy .result
-busy-told c ws e = sym (c .is-busy .ensures ∙ busy-read ws _ _ e)
+busy-told c ws e = sym (c .is-busy .ensures ∙ any-read (names _) ws _ e)
 
 returns : tie.Need-returns
 returns c pool ws e =

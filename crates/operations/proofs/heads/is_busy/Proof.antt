@@ -4,7 +4,7 @@ use native.Mathlib.Omega.{arith}
 use Rattle.tree.specs.Memory.{NoneBelow}
 use Rattle.book.specs.Heads.{headCount, names}
 use Rattle.operations.specs.HeadLists.{stateIn}
-use Rattle.operations.proofs.HeadRecords.{busy-at, busy-nowhere}
+use Rattle.operations.proofs.HeadRecords.{any-at, any-nowhere}
 use borrow.Author.Count.{below-more, below-none}
 use borrow.Author.Needs.{needs}
 use Rattle.operations.proofs.heads.is_busy.Statement.{statement}
@@ -27,7 +27,7 @@ returns-2 c =
     let l = c .before .loop in
     let a = c .before .before .args in
     let all : l .h ≡ headCount = omega (arith, l .inv .0, c .loop-test .left) in
-    busy-nowhere (a .heads) (a .slot) (subst (NoneBelow (λ (k : ℕ). names (a .slot) (stateIn (a .heads) k))) all (l .inv .1))
+    any-nowhere (names (a .slot)) (a .heads) (subst (NoneBelow (λ (k : ℕ). names (a .slot) (stateIn (a .heads) k))) all (l .inv .1))
 
 pub is-busy-spec : {M : Type 1} → statement M
 is-busy-spec =
@@ -39,7 +39,7 @@ is-busy-spec =
     (λ c κs. search needs)
     (λ c κs. search needs)
     (λ c. let in-loop = c .before .before .before in
-    busy-at _ _ (in-loop .before .loop .h) (in-loop .loop-test .taken)
+    any-at (names _) _ (in-loop .before .loop .h) (in-loop .loop-test .taken)
     (sym (tested (c .before)) ∙ c .if1 .taken))
     (λ c. search needs)
     (λ c. search needs)

@@ -70,7 +70,7 @@ void *book_open(const struct column *column, const char *path) {
 size_t book_claim(struct book *b, const struct op *op) {
     uint64_t used;
     expect_done("claim", reelbook_claim(b->medium.words, b->image_words, b->map, b->map_words, b->heads, b->script,
-                                        REELBOOK_SCRIPT_WORDS, 0, op->reel, op->frame, &used));
+                                        REELBOOK_SCRIPT_WORDS, 0, op->reel, op->frame, &used, &b->left));
     return (size_t)used;
 }
 

@@ -15,6 +15,7 @@ struct book {
     uint64_t *list;
     uint64_t heads[REELBOOK_HEADS_WORDS];
     uint64_t script[REELBOOK_SCRIPT_WORDS];
+    uint64_t left; /* places left in the node of the last claim */
 };
 
 void *book_open(const struct column *column, const char *path);

@@ -1,7 +1,7 @@
 /* The reel book written by hand in C: the same image, the same walk with the same checks of a node, the same stores and barriers,
  * and nothing between them: no scripts, no answers, no heads, no buffers that a caller lends. Insert is claim, fill and commit in
- * one. What a plain program would do is done so: a list copies place by place, and recovery looks every frame up from its
- * root, which is how the paper says what a sound image is. */
+ * one, and tells the places left as Claim does. What a plain program would do is done so: a list copies place by place, and
+ * recovery looks every frame up from its root, which is how the paper says what a sound image is. */
 #include "book.h"
 
 #include <stdlib.h>
@@ -21,6 +21,7 @@ struct hand {
     struct book *book; /* its image, map, scratch map and list; the library formats it, opens the reels, and is then left out */
     struct slot *slots;
     struct node *nodes;
+    uint64_t left; /* places left in the node of the last insert */
 };
 
 struct place {
@@ -176,6 +177,7 @@ static void insert_one(struct hand *h, const struct op *op) {
     struct node *n = to.node;
     uint64_t bit = (uint64_t)1 << to.place, shift = 8 * (to.place % 8), *prints = &n->prints[to.place / 8];
     store(h, &n->locate, n->locate | bit);
+    h->left = n->size - (uint64_t)__builtin_popcountll(n->locate);
     barrier(h);
     store(h, &n->frames[to.place], op->frame);
     barrier(h);

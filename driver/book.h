@@ -20,6 +20,7 @@ struct book {
     uint64_t *map, *scratch;
     uint64_t heads[REELBOOK_HEADS_WORDS];
     uint64_t script[REELBOOK_SCRIPT_WORDS], used;
+    uint64_t left;       /* clear places left in the node of the last claim; 0 if it was refused */
     int writable;        /* the file itself is mapped */
     int unclean;         /* it was not closed cleanly */
     int failed;          /* a barrier failed: what is lasting is not known */

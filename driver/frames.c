@@ -100,10 +100,15 @@ void progress_show(struct progress *p, uint64_t frames) {
             frames == 1 ? "" : "s", p->rewritten ? "" : "\n");
 }
 
-void progress_end(struct progress *p, uint64_t frames) {
-    double taken = clock_seconds() - p->start;
+void progress_interrupt(struct progress *p) {
     if (p->shown && p->rewritten)
         fputc('\n', stderr);
+    p->shown = 0;
+}
+
+void progress_end(struct progress *p, uint64_t frames) {
+    double taken = clock_seconds() - p->start;
+    progress_interrupt(p);
     if (p->rate)
         say("%" PRIu64 " frame%s in %.3f s, %.0f a second", frames, frames == 1 ? "" : "s", taken,
             taken > 0 ? (double)frames / taken : 0);

@@ -32,6 +32,10 @@ struct progress {
 
 void progress_begin(struct progress *p, int wanted, int rate);
 void progress_show(struct progress *p, uint64_t frames);
+
+/* Before another line on standard error: it does not go on the one that is rewritten. */
+void progress_interrupt(struct progress *p);
+
 void progress_end(struct progress *p, uint64_t frames);
 
 #endif

@@ -29,7 +29,7 @@ uint64_t book_open_reel(struct book *b, uint64_t reel) {
 }
 
 uint64_t book_add(struct book *b, uint64_t reel, uint64_t frame) {
-    uint64_t answer = carry(b, reelbook_claim(IMAGE, MAP, b->heads, SCRIPT, HEAD, reel, frame, &b->used));
+    uint64_t answer = carry(b, reelbook_claim(IMAGE, MAP, b->heads, SCRIPT, HEAD, reel, frame, &b->used, &b->left));
     if (answer == REELBOOK_DONE)
         answer = carry(b, reelbook_fill(IMAGE, b->heads, SCRIPT, HEAD, &b->used));
     if (answer == REELBOOK_DONE)

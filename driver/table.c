@@ -11,9 +11,9 @@
 
 enum { ANY = 1 << 30 };
 
-static const char stream[] =
-    "A stream of frames is not atomic: each frame is done, and lasting, by itself. Where one is refused or is no number, and at\n"
-    "an interrupt, the frames before it stay done and are counted; after a power failure they are there too.";
+#define STREAM \
+    "A stream of frames is not atomic: each frame is done, and lasting, by itself. Where one is refused or is no number, and\n" \
+    "at an interrupt, the frames before it stay done and are counted; after a power failure they are there too."
 
 static const struct command commands[] = {
     {.name = "format",
@@ -38,7 +38,9 @@ static const struct command commands[] = {
      .least = 2,
      .most = ANY,
      .options = BIT(OPTION_SKIP_HELD) | BIT(OPTION_PROGRESS) | BIT(OPTION_RATE) | CRASHES,
-     .more = stream,
+     .more = STREAM "\n\n"
+                    "The first frame that fills its node is told on standard error, once in a run: no clear place is left in\n"
+                    "that node, and the next frame there takes a larger node or one below it, new if need be. It is no error.",
      .run = run_add},
     {.name = "remove",
      .operands = "FILE REEL FRAME..",
@@ -46,7 +48,7 @@ static const struct command commands[] = {
      .least = 3,
      .most = ANY,
      .options = BIT(OPTION_PROGRESS) | BIT(OPTION_RATE) | CRASHES,
-     .more = stream,
+     .more = STREAM,
      .run = run_remove},
     {.name = "has",
      .operands = "FILE REEL FRAME",

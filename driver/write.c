@@ -48,6 +48,7 @@ int run_retire(const struct arguments *a) {
 struct job {
     uint64_t (*operation)(struct book *, uint64_t, uint64_t);
     const char *done_name; /* "added" */
+    int warns;             /* of a full node, the first time */
     uint64_t reel, done, held;
 };
 
@@ -60,6 +61,17 @@ static const char *summary(const struct job *j) {
     return text;
 }
 
+/* Once in a run: where many frames are added, nodes fill one after the other. */
+static void warn_if_full(const struct book *b, struct job *j, uint64_t frame, struct progress *p) {
+    if (!j->warns || b->left > 0)
+        return;
+    j->warns = 0;
+    progress_interrupt(p);
+    say("reel %" PRIu64 ": frame %" PRIu64 " fills its node: no clear place is left in it, and the next frame there takes a"
+        " larger node or one below it, new if need be",
+        j->reel, frame);
+}
+
 /* Goes on to the first frame that is refused, and answers with that refusal. */
 static uint64_t do_frames(struct book *b, const struct arguments *a, struct job *j, struct frames *f) {
     struct progress p;
@@ -69,6 +81,7 @@ static uint64_t do_frames(struct book *b, const struct arguments *a, struct job 
         answer = j->operation(b, j->reel, f->frame);
         if (answer == REELBOOK_DONE) {
             j->done++;
+            warn_if_full(b, j, f->frame, &p);
         } else if (answer == REELBOOK_FRAME_HELD && a->values[OPTION_SKIP_HELD]) {
             j->held++;
             answer = REELBOOK_DONE;
@@ -116,7 +129,7 @@ static int on_frames(const struct arguments *a, struct job j) {
 }
 
 int run_add(const struct arguments *a) {
-    return on_frames(a, (struct job){.operation = book_add, .done_name = "added"});
+    return on_frames(a, (struct job){.operation = book_add, .done_name = "added", .warns = 1});
 }
 
 int run_remove(const struct arguments *a) {

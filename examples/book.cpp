@@ -27,12 +27,14 @@ public:
         carry_out(reelbook_open(image.data(), image.size(), map.data(), map.size(), script.data(), script.size(), reel, &used));
     }
 
-    // A claim is refused or not; what follows an answered one is not refused.
-    void add(uint64_t reel, uint64_t frame) {
+    // A claim is refused or not; what follows an answered one is not refused. Hands back the places left in the frame's node.
+    uint64_t add(uint64_t reel, uint64_t frame) {
+        uint64_t left = 0;
         carry_out(reelbook_claim(image.data(), image.size(), map.data(), map.size(), heads.data(), script.data(), script.size(),
-                                 0, reel, frame, &used));
+                                 0, reel, frame, &used, &left));
         carry_out(reelbook_fill(image.data(), image.size(), heads.data(), script.data(), script.size(), 0, &used));
         carry_out(reelbook_commit(image.data(), image.size(), heads.data(), script.data(), script.size(), 0, &used));
+        return left;
     }
 
     Words frames(uint64_t reel) {
@@ -63,11 +65,13 @@ private:
 int main() {
     Book book(4, 16);
     book.open(7);
+    uint64_t left = 0;
     for (unsigned frame : {12u, 5u, 900u})
-        book.add(7, frame);
+        left = book.add(7, frame);
     std::printf("reel 7:");
     for (uint64_t frame : book.frames(7))
         std::printf(" %" PRIu64, frame);
+    std::printf("; places left: %" PRIu64, left);
     try {
         book.add(7, 5);
     } catch (const Refused &refused) {

@@ -11,12 +11,12 @@ SLICE = [ctypes.POINTER(ctypes.c_uint64), ctypes.c_size_t]
 ARRAY = COUNT = [ctypes.POINTER(ctypes.c_uint64)]
 NUMBER = [ctypes.c_uint64]
 
-library = ctypes.CDLL("libreelbook.so.2")
+library = ctypes.CDLL("libreelbook.so.3")
 for name, arguments in {
     "format": 2 * SLICE + ARRAY + 2 * NUMBER,
     "recover": 2 * SLICE + ARRAY,
     "open": 3 * SLICE + NUMBER + COUNT,
-    "claim": 2 * SLICE + ARRAY + SLICE + 3 * NUMBER + COUNT,
+    "claim": 2 * SLICE + ARRAY + SLICE + 3 * NUMBER + 2 * COUNT,
     "fill": SLICE + ARRAY + SLICE + NUMBER + COUNT,
     "commit": SLICE + ARRAY + SLICE + NUMBER + COUNT,
     "list": 3 * SLICE + NUMBER + COUNT,
@@ -34,11 +34,12 @@ def words(count, contents=()):
 
 
 class Book:
-    """In ordinary memory. lasting is the image at the last barrier; power, if not None, suffices for so many entries."""
+    """In ordinary memory. lasting is the image at the last barrier; power, if not None, suffices for so many entries; left is
+    how many clear places the node of the last frame has left."""
 
     def __init__(self, reels=4, nodes=16):
         self.image, self.map, self.heads = words(64 + 2 * reels + 80 * nodes), words((nodes + 63) // 64), words(HEADS_WORDS)
-        self.script, self.used, self.power = words(SCRIPT_WORDS), ctypes.c_uint64(), None
+        self.script, self.used, self.left, self.power = words(SCRIPT_WORDS), ctypes.c_uint64(), ctypes.c_uint64(), None
         self.call("format", self.image, self.map, self.heads, reels, nodes)
         self.lasting = list(self.image)
 
@@ -51,8 +52,8 @@ class Book:
         if answer != 0:
             raise ValueError(f"{operation}: refused {answer}")
 
-    def operate(self, operation, *arguments):
-        self.call(operation, *arguments, ctypes.byref(self.used))
+    def operate(self, operation, *arguments, more=()):
+        self.call(operation, *arguments, ctypes.byref(self.used), *more)
         for at in range(0, self.used.value, 2):
             if self.power is not None:
                 if self.power == 0:
@@ -68,7 +69,7 @@ class Book:
         self.operate("open", self.image, self.map, self.script, reel)
 
     def add(self, reel, frame):
-        self.operate("claim", self.image, self.map, self.heads, self.script, 0, reel, frame)
+        self.operate("claim", self.image, self.map, self.heads, self.script, 0, reel, frame, more=[ctypes.byref(self.left)])
         self.operate("fill", self.image, self.heads, self.script, 0)
         self.operate("commit", self.image, self.heads, self.script, 0)
 
@@ -105,7 +106,7 @@ def main():
     book.open(7)
     for frame in 12, 5, 2**64 - 1:
         book.add(7, frame)
-    print("reel 7:", *book.list(7))
+    print("reel 7:", *book.list(7), "places left:", book.left.value)
     for kept in True, False:
         held = [frames_after_failure(entries, kept) for entries in range(9)]
         assert all(frames in ([12], [12, 13]) for frames in held)

@@ -1,7 +1,10 @@
+#include <inttypes.h>
 #include <stdio.h>
 #include <stdlib.h>
 
 #include <reelbook.h>
+
+enum { FEW = 2 }; /* places left in a node: the time to warn */
 
 struct book {
     uint64_t *image, *map;
@@ -33,14 +36,17 @@ static uint64_t open_reel(struct book *b, uint64_t reel) {
                                       &b->used));
 }
 
-/* The frame is held when this answers 0. Between the three calls other heads may be at work, in this reel too. */
+/* The frame is held when this answers 0. Between the three calls other heads may be at work, in this reel too. Warns before the
+ * frame's node is full: each time that a frame brings it to so few places left. */
 static uint64_t add(struct book *b, uint64_t reel, uint64_t frame) {
-    uint64_t answer = carry_out(b, reelbook_claim(b->image, b->image_words, b->map, b->map_words, b->heads, b->script,
-                                                  REELBOOK_SCRIPT_WORDS, 0, reel, frame, &b->used));
+    uint64_t left, answer = carry_out(b, reelbook_claim(b->image, b->image_words, b->map, b->map_words, b->heads, b->script,
+                                                        REELBOOK_SCRIPT_WORDS, 0, reel, frame, &b->used, &left));
     if (answer == REELBOOK_DONE)
         answer = carry_out(b, reelbook_fill(b->image, b->image_words, b->heads, b->script, REELBOOK_SCRIPT_WORDS, 0, &b->used));
     if (answer == REELBOOK_DONE)
         answer = carry_out(b, reelbook_commit(b->image, b->image_words, b->heads, b->script, REELBOOK_SCRIPT_WORDS, 0, &b->used));
+    if (answer == REELBOOK_DONE && left == FEW)
+        printf("frame %" PRIu64 ": %d places left in its node\n", frame, FEW);
     return answer;
 }
 
@@ -61,8 +67,8 @@ int main(void) {
     barrier(); /* over the whole image; if power fails before it, format again */
     if (answer == REELBOOK_DONE)
         answer = open_reel(&b, 7);
-    if (answer == REELBOOK_DONE)
-        answer = add(&b, 7, 12);
+    for (uint64_t frame = 1; answer == REELBOOK_DONE && frame <= 16; frame++)
+        answer = add(&b, 7, frame);
     if (answer == REELBOOK_DONE)
         answer = recover(&b);
     if (answer == REELBOOK_DONE)

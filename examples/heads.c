@@ -11,7 +11,7 @@ enum {
     MAP_WORDS = (NODES + 63) / 64
 };
 static uint64_t image[IMAGE_WORDS], map[MAP_WORDS], heads[REELBOOK_HEADS_WORDS], script[REELBOOK_SCRIPT_WORDS], used;
-static unsigned waits;
+static unsigned waits, filled; /* how often head 1 had to wait; how often a claim left its node full */
 
 /* In ordinary memory, without barriers. docs/DRIVER.md has what a driver does. */
 static uint64_t carry_out(uint64_t answer) {
@@ -19,8 +19,10 @@ static uint64_t carry_out(uint64_t answer) {
 }
 
 static uint64_t claim(uint64_t head, uint64_t reel, uint64_t frame) {
-    return carry_out(reelbook_claim(image, IMAGE_WORDS, map, MAP_WORDS, heads, script, REELBOOK_SCRIPT_WORDS, head, reel, frame,
-                                    &used));
+    uint64_t left, answer = reelbook_claim(image, IMAGE_WORDS, map, MAP_WORDS, heads, script, REELBOOK_SCRIPT_WORDS, head, reel,
+                                           frame, &used, &left);
+    filled += answer == REELBOOK_DONE && left == 0;
+    return carry_out(answer);
 }
 
 static uint64_t finish(uint64_t head) {
@@ -52,7 +54,8 @@ int main(void) {
         answer = carry_out(reelbook_open(image, IMAGE_WORDS, map, MAP_WORDS, script, REELBOOK_SCRIPT_WORDS, 7, &used));
     for (; answer == REELBOOK_DONE && frame < 200; frame += 2)
         answer = add_both(7, frame, frame + 1);
-    printf("%" PRIu64 " frames: %s; head 1 had to wait %u times\n", frame, reelbook_answer_text(answer), waits);
+    printf("%" PRIu64 " frames: %s; head 1 had to wait %u times, a node was full %u times\n", frame, reelbook_answer_text(answer),
+           waits, filled);
     answer = add_both(7, 500, 500);
     printf("the same frame twice: %s (%" PRIu64 ")\n", reelbook_answer_text(answer), answer);
     return 0;

@@ -1,10 +1,10 @@
 /* The reel book: sets of 64-bit frames per reel, in a suffix bit tree in persistent memory.
  *
  * Every function takes its arguments as words. A slice is a pointer and a length in words; with length 0 the pointer may be NULL.
- * No buffer may overlap another, and nobody else writes image, map or heads meanwhile. A function answers REELBOOK_DONE or the
- * number of its refusal: its refusals are tried in the sequence given with it, the first that applies is the answer, the count
- * handed back is then 0, and nothing lent has changed except as said. Contents and lengths may be anything: no call is out of
- * bounds or without end.
+ * No buffer, nor the place of a number handed back, may overlap another, and no such place is NULL. Nobody else writes image,
+ * map or heads meanwhile. A function answers REELBOOK_DONE or the number of its refusal: its refusals are tried in the sequence
+ * given with it, the first that applies is the answer, every count handed back is then 0, and nothing lent has changed except as
+ * said. Contents and lengths may be anything: no call is out of bounds or without end.
  *
  * A function with a script stores nothing to the image. It writes entries of two words to the script's start and their number of
  * words to *used; the caller carries them out in their sequence before the next call: a store (word index, value) is one aligned
@@ -26,10 +26,10 @@
 
 /* The version of this header, and of the library beside which it is installed. With another major number the interface is
  * another: a program has to be compiled anew, and the shared object has another name. */
-#define REELBOOK_VERSION_MAJOR 2
-#define REELBOOK_VERSION_MINOR 1
+#define REELBOOK_VERSION_MAJOR 3
+#define REELBOOK_VERSION_MINOR 0
 #define REELBOOK_VERSION_PATCH 0
-#define REELBOOK_VERSION "2.1.0"
+#define REELBOOK_VERSION "3.0.0"
 
 #ifdef __cplusplus
 extern "C" {
@@ -143,10 +143,11 @@ uint64_t reelbook_open(const uint64_t *image, size_t image_words, uint64_t *map,
  * claim open in this reel, with the same frame, or at the very node in which this claim would take its place: not at a full node
  * that would get children, and at none if there are no free nodes for these. Other heads may be at work in the reel. The head is
  * claimed; new nodes are marked in the map. The frame is not held before its commit, and a claim that a power failure cuts short
- * leaves no frame. */
+ * leaves no frame. *left is how many clear places the node of this place has left: its size, after any scale-up, minus the ones
+ * of its locate word with this place taken. At 0 the node is full, and the next frame there takes a larger node or one below. */
 uint64_t reelbook_claim(const uint64_t *image, size_t image_words, uint64_t *map, size_t map_words,
                         uint64_t heads[REELBOOK_HEADS_WORDS], uint64_t *script, size_t script_words, uint64_t head, uint64_t reel,
-                        uint64_t frame, uint64_t *used);
+                        uint64_t frame, uint64_t *used, uint64_t *left);
 
 /* Writes the frame to the claimed place. Refusals 1, 2, 3, 11, 12 unless the head is claimed, 4. The head is filled. */
 uint64_t reelbook_fill(const uint64_t *image, size_t image_words, uint64_t heads[REELBOOK_HEADS_WORDS], uint64_t *script,

@@ -81,8 +81,24 @@ uint64_t book_open(struct book *b, uint64_t reel) {
     return carried_out(b, reelbook_open(IMAGE, MAP, SCRIPT, reel, fresh(&b->used)));
 }
 
+static uint64_t ones(uint64_t word) {
+    uint64_t count = 0;
+    for (; word != 0; word &= word - 1) {
+        count++;
+    }
+    return count;
+}
+
+/* The places left are those of the claimed node, by its words as they are now that the script is carried out. */
 uint64_t book_claim(struct book *b, uint64_t head, uint64_t reel, uint64_t frame) {
-    return carried_out(b, reelbook_claim(IMAGE, MAP, b->heads, SCRIPT, head, reel, frame, fresh(&b->used)));
+    uint64_t node, answer = reelbook_claim(IMAGE, MAP, b->heads, SCRIPT, head, reel, frame, fresh(&b->used), fresh(&b->left));
+    if (carried_out(b, answer) != REELBOOK_DONE) {
+        equal(b->left, 0, "places left after a refusal");
+        return answer;
+    }
+    node = head_word(b, head, REELBOOK_HEAD_NODE_AT);
+    equal(b->left + ones(node_word(b, node, REELBOOK_NODE_LOCATE)), node_word(b, node, REELBOOK_NODE_SIZE), "places left");
+    return answer;
 }
 
 uint64_t book_fill(struct book *b, uint64_t head) {

@@ -13,7 +13,7 @@ struct book {
     uint64_t heads[REELBOOK_HEADS_WORDS];
     uint64_t script[REELBOOK_SCRIPT_WORDS];
     uint64_t list[LIST_WORDS];
-    uint64_t used, count;
+    uint64_t used, left, count;
 };
 
 /* Checks, of which those that fail print a line. */

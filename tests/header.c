@@ -139,6 +139,49 @@ static void check_script(void) {
     book_free(&b);
 }
 
+/* A root of 16, 32 and 64 places, then a child; and a place that was given back between others. */
+static void check_left(void) {
+    static const uint64_t sizes[] = {16, 32, 64};
+    struct book b;
+    uint64_t frame = 0, i;
+    book_format(&b, REELS, NODES);
+    equal(book_open(&b, 7), REELBOOK_DONE, "open");
+    for (i = 0; i < 3; i++) {
+        for (; frame < sizes[i]; frame++) {
+            book_add(&b, 7, frame, 1, 1);
+            equal(b.left, sizes[i] - 1 - frame, "places left in the root");
+        }
+    }
+    book_add(&b, 7, 64, 1, 1);
+    equal(b.left, 63, "places left after a branch-out");
+    equal(book_remove(&b, 7, 5), REELBOOK_DONE, "remove");
+    equal(book_remove(&b, 7, 9), REELBOOK_DONE, "remove");
+    book_add(&b, 7, 66, 1, 1);
+    equal(b.left, 1, "places left below one that is held");
+    book_add(&b, 7, 68, 1, 1);
+    equal(b.left, 0, "no place left");
+    book_free(&b);
+}
+
+static void check_refusals_of_left(void) {
+    struct book b;
+    make_tree(&b);
+    equal(book_claim(&b, 0, 7, 1), REELBOOK_FRAME_HELD, "claim of a held frame");
+    equal(book_claim(&b, 0, 10, 1), REELBOOK_NO_REEL, "claim in no reel");
+    equal(book_claim(&b, REELBOOK_HEADS, 7, 100), REELBOOK_BAD_HEAD, "claim by no head");
+    b.map_words++;
+    equal(book_claim(&b, 0, 7, 100), REELBOOK_BAD_BUFFER, "claim with a map one word long");
+    b.map_words--;
+    b.image[REELBOOK_EDITION_AT]++;
+    equal(book_claim(&b, 0, 7, 100), REELBOOK_BAD_EDITION, "claim in another edition");
+    b.image[REELBOOK_EDITION_AT]--;
+    b.image_words--;
+    equal(book_claim(&b, 0, 7, 100), REELBOOK_BAD_IMAGE, "claim with an image one word short");
+    b.image_words++;
+    equal(book_claim(&b, 0, 7, 100), REELBOOK_DONE, "claim");
+    book_free(&b);
+}
+
 static void check_refusals_of_open(void) {
     struct book b;
     book_format(&b, REELS, NODES);
@@ -211,8 +254,8 @@ static void check_refusals_of_images(void) {
 
 static void check_version(void) {
     char version[64];
-    equal(REELBOOK_VERSION_MAJOR, 2, "REELBOOK_VERSION_MAJOR");
-    equal(REELBOOK_VERSION_MINOR, 1, "REELBOOK_VERSION_MINOR");
+    equal(REELBOOK_VERSION_MAJOR, 3, "REELBOOK_VERSION_MAJOR");
+    equal(REELBOOK_VERSION_MINOR, 0, "REELBOOK_VERSION_MINOR");
     equal(REELBOOK_VERSION_PATCH, 0, "REELBOOK_VERSION_PATCH");
     snprintf(version, sizeof version, "%d.%d.%d", REELBOOK_VERSION_MAJOR, REELBOOK_VERSION_MINOR, REELBOOK_VERSION_PATCH);
     same_text(REELBOOK_VERSION, version, "REELBOOK_VERSION");
@@ -243,6 +286,8 @@ int main(void) {
     check_records();
     check_tree_words();
     check_script();
+    check_left();
+    check_refusals_of_left();
     check_refusals_of_open();
     check_refusals_of_heads();
     check_refusals_of_frames();

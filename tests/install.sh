@@ -125,13 +125,14 @@ program() { # PAGE NUMBER: of those in C
 try_examples() {
     prints first.c 'format: done
 open: done, 18 words of script' "$cc"
-    prints driver.c 'answer 0, held' "$cc"
-    prints heads.c '200 frames: done; head 1 had to wait 32 times
+    prints driver.c 'frame 14: 2 places left in its node
+answer 0, held' "$cc"
+    prints heads.c '200 frames: done; head 1 had to wait 32 times, a node was full 5 times
 the same frame twice: held already (9)' "$cc"
-    prints book.cpp 'reel 7: 12 5 900
+    prints book.cpp 'reel 7: 12 5 900; places left: 13
 frame 5: held already (9)' "$cxx"
     cp examples/book.py "$work"
-    same 'examples/book.py' "$(cd "$work" && with_shared python3 book.py)" 'reel 7: 12 5 18446744073709551615
+    same 'examples/book.py' "$(cd "$work" && with_shared python3 book.py)" 'reel 7: 12 5 18446744073709551615 places left: 13
 power lost, stores kept: frame 13 is held after entry 7 of 8
 power lost, stores lost: frame 13 is held after entry 8 of 8'
     checks=$((checks + 1))

@@ -75,7 +75,7 @@ static void make_deep(void) {
 CALL(format, IMAGE, MAP, b->heads, 1, NODES)
 CALL(recover, IMAGE, MAP, b->heads)
 CALL(open, IMAGE, MAP, SCRIPT, 7, &b->used)
-CALL(claim, IMAGE, MAP, b->heads, SCRIPT, 0, 7, 8 * 256, &b->used)
+CALL(claim, IMAGE, MAP, b->heads, SCRIPT, 0, 7, 8 * 256, &b->used, &b->left)
 CALL(fill, IMAGE, b->heads, SCRIPT, 0, &b->used)
 CALL(commit, IMAGE, b->heads, SCRIPT, 0, &b->used)
 CALL(abandon, IMAGE, b->heads, SCRIPT, 0, &b->used)

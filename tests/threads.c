@@ -11,7 +11,7 @@ enum { IMAGE_WORDS = REELBOOK_HEADER_WORDS + REELBOOK_SLOT_WORDS * REELS + REELB
 
 struct book {
     uint64_t image[IMAGE_WORDS], map[MAP_WORDS], scratch[MAP_WORDS], heads[REELBOOK_HEADS_WORDS], list[64 * NODES];
-    uint64_t script[REELBOOK_SCRIPT_WORDS], used, count;
+    uint64_t script[REELBOOK_SCRIPT_WORDS], used, left, count;
     uint64_t seed, refused; /* and how many calls were */
 };
 
@@ -30,7 +30,7 @@ static void carry_out(struct book *b, uint64_t answer) {
 /* A frame comes to a reel, another goes; some of these calls are refused. */
 static void change(struct book *b, uint64_t random) {
     uint64_t head = (random >> 60) % REELBOOK_HEADS, reel = random >> 57 & 7, frame = random >> 40 & 4095;
-    carry_out(b, reelbook_claim(IMAGE, MAP, b->heads, SCRIPT, head, reel, frame, &b->used));
+    carry_out(b, reelbook_claim(IMAGE, MAP, b->heads, SCRIPT, head, reel, frame, &b->used, &b->left));
     carry_out(b, reelbook_fill(IMAGE, b->heads, SCRIPT, head, &b->used));
     carry_out(b, reelbook_commit(IMAGE, b->heads, SCRIPT, head, &b->used));
     carry_out(b, reelbook_remove(IMAGE, b->heads, SCRIPT, reel, random >> 20 & 4095, &b->used));

@@ -28,7 +28,7 @@ places   32, 6 used, 6 located' stat book
     does '' retire book 0
     seq 100 260 >frames
     input=frames
-    does '161 frames added' add book 7
+    warns 7 109 '161 frames added' add book 7
     input=/dev/null
     run stat book --by-reel
     holds test "$(sed -n '$s/  */ /gp' out)" = ' 7 0 0 167 3 1 192 167'
@@ -54,10 +54,58 @@ try_help() {
     done
     for number in 0 1 2 3 4; do holds grep -q "^  $number  " all; done
     holds test "$(grep -c '^  reelbook ' all)" = "$(echo $names help --version | wc -w)"
-    does 'reelbook 2.1.0' --version
+    does 'reelbook 3.0.0' --version
     misused 'a command is missing; reelbook --help tells them'
     misused 'burn: no such command; reelbook --help tells them' burn book
     misused 'burn: no such command; reelbook --help tells them' help burn
+}
+
+# Frames from FIRST to LAST for reel 7 of the book `filled`; with a frame FILLING, the one that is told.
+adds() { # FIRST LAST [FILLING]
+    count="$(($2 - $1 + 1)) frame$([ "$1" = "$2" ] || echo s) added"
+    if [ $# = 3 ]; then
+        warns 7 "$3" "$count" add filled 7 $(seq "$1" "$2")
+    else
+        does "$count" add filled 7 $(seq "$1" "$2")
+    fi
+}
+
+# No warning, or one for each node that fills; for the place at a node's end, and not for its last clear one; for a frame that is
+# claimed and not committed, refused or passed over; on standard output; with another exit status; by load or remove.
+try_full() {
+    does '' format filled --reels 1 --nodes 3
+    does '' open filled 7
+    adds 0 14
+    adds 15 15 15 # a root of 16 places
+    adds 16 30
+    does '0 frames added, 2 held already' add filled 7 15 30 --skip-held
+    adds 31 62 31 # of 32
+    for entries in 2 7 8; do # power fails after the claim, in the commit, with its end
+        cp filled cut
+        run add cut 7 63 --crash-after $entries --seed 1
+        expect 0 '' "add: crashed after $entries entries, seed 1"
+    done
+    adds 63 63 63 # of 64
+    adds 64 64    # a branch-out
+    does '2 frames removed' remove filled 7 5 9
+    adds 66 66
+    run add filled 7 68 70 7
+    expect 2 '' "add: reel 7: frame 68 $full
+reelbook: add: reel 7: frame 7: held already (9); 2 frames added before it"
+    does '' format filled --reels 1 --nodes 1 --force
+    does '' open filled 7
+    adds 0 15 15
+    does '' retire filled 7
+    does '' open filled 7
+    adds 0 39 15 # and 31 is not told
+    adds 40 63 63
+    run add filled 7 64
+    expect 2 '' 'add: reel 7: frame 64: not enough adjacent free nodes (8); 0 frames added before it'
+    "$tool" dump filled -o dump
+    does '1 reel, 64 frames loaded' load cut dump --force
+    for name in add remove; do "$tool" help $name; done >out
+    holds test "$(grep -c 'fills its node' out)" = 1
+    rm filled cut dump
 }
 
 try_refusals() {

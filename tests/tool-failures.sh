@@ -179,7 +179,11 @@ stock() { # REEL KIND: frames up to where a root becomes larger or branches out
     case $2 in 0) last=14 ;; 1) last=30 ;; *) last=62 ;; esac
     seq 0 $last >frames
     input=frames
-    does "$((last + 1)) frames added" add book "$1"
+    if [ $last = 14 ]; then
+        does '15 frames added' add book "$1"
+    else
+        warns "$1" 15 "$((last + 1)) frames added" add book "$1"
+    fi
     input=/dev/null
     { cat model && sed "s/^/$1 /" frames; } | sort >stocked
     mv stocked model
@@ -213,6 +217,10 @@ round() { # KIND REEL PART SEED RECOVERIES FRAME..
     run "$kind" book $reel "$@" --crash-after "$entries" --seed "$chance"
     failing=$command
     case $entries in 1) word=entry ;; *) word=entries ;; esac
+    if [ "$kind" = add ] && grep -q " $full\$" err; then # of a frame before the one that the power failed in
+        sed 1d err >rest
+        mv rest err
+    fi
     expect 0 '' "$kind: crashed after $entries $word, seed $chance"
     failures=$((failures + 1))
     run check book

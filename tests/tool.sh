@@ -65,6 +65,16 @@ ends_with() { # STATUS ERR COMMAND..: and the book stays as it was, byte for byt
     cmp -s book kept || fail "$command: the book has changed"
 }
 
+# What add says of a frame that fills its node.
+full="fills its node: no clear place is left in it, and the next frame there takes a larger node or one below it, new if need be"
+
+warns() { # REEL FRAME OUT COMMAND..: add, which is done, and says so once
+    wanted_warning="add: reel $1: frame $2 $full" wanted=$3
+    shift 3
+    run "$@"
+    expect 0 "$wanted" "$wanted_warning"
+}
+
 refuses() { ends_with 2 "$@"; } # by the book
 misused() { ends_with 3 "$@"; } # a command line or an input that is none
 unable() { ends_with 4 "$@"; }  # a file or the system
@@ -93,8 +103,8 @@ range="a number from 0 to $most in decimal without leading zeros"
 for part in commands pictures dumps files damage failures barriers; do . "$here/tool-$part.sh"; done
 
 echo "tool: seed $seed, $rounds rounds"
-for part in commands pictures help refusals arguments numbers forms dumps files streams reading locks waiting recovery damage \
-    mixtures power_failures barriers; do
+for part in commands pictures help full refusals arguments numbers forms dumps files streams reading locks waiting recovery \
+    damage mixtures power_failures barriers; do
     "try_$part"
 done
 echo "$checks checks, $failures power failures, $cuts recoveries cut short, $chains pairs of barriers; all as they should be"

@@ -1,4 +1,4 @@
-//! Single calls over any contents and lengths, compared with the model: answer, count, and every word of every buffer.
+//! Single calls over any contents and lengths, compared with the model: answer, counts, and every word of every buffer.
 use crate::coverage::Coverage;
 use crate::damage::{descent, some_slot, Damage};
 use crate::lending::Lending;
@@ -6,6 +6,7 @@ use crate::model::buffer::Buffer;
 use crate::model::call::{Call, Function, Lent};
 use crate::model::fault::Fault;
 use crate::model::image::*;
+use crate::model::left::Claimed;
 use crate::model::node::*;
 use crate::model::operations;
 use crate::model::script::{self, SCRIPT_WORDS};
@@ -68,14 +69,17 @@ impl Case {
         let outcome = operations::perform(&call, &mut self.expected, Fault::None);
         let found = self.subject.perform(&call, &mut self.found, self.random.word());
         coverage.call(call.function, outcome.ending);
-        let expected = (outcome.ending.answer, outcome.count);
-        if expected != found || self.expected != self.found {
-            return Err(report::difference(&call, &heads, (expected, &self.expected), (found, &self.found)));
+        if outcome.handed != found || self.expected != self.found {
+            return Err(report::difference(&call, &heads, (outcome.handed, &self.expected), (found, &self.found)));
+        }
+        if call.function == Function::Claim && found.answer == 0 {
+            let head = Head::read(&self.found.heads, call.head);
+            coverage.left(head.place, &Claimed::of(head.node, &self.found, found.count));
         }
         if kept {
             std::mem::swap(&mut self.lent, &mut self.found);
             if !matches!(call.function, Function::Has | Function::List) {
-                script::carry_out(&mut self.lent.image, &script::read(&self.lent.script[..found.1 as usize]));
+                script::carry_out(&mut self.lent.image, &script::read(&self.lent.script[..found.count as usize]));
             }
         }
         Ok(())
@@ -153,7 +157,7 @@ impl Case {
         let any = self.random.below(300);
         self.expected.clone_from(&self.found);
         self.expected.list.resize((64 * self.nodes) as usize, || 0);
-        let count = operations::perform(call, &mut self.expected, Fault::None).count;
+        let count = operations::perform(call, &mut self.expected, Fault::None).handed.count;
         let length = self.random.pick(&[any, count, count.saturating_sub(1), 0, count + 1]) as usize;
         let random = &mut self.random;
         self.found.list.resize(length, || random.word());

@@ -1,7 +1,7 @@
 //! The specification's own cases, with its numbers, so that library and model do not merely agree with each other.
 use crate::crash::Crash;
 use crate::model::buffer::Buffer;
-use crate::model::call::{Call, Function, Function::*, Lent};
+use crate::model::call::{Call, Function, Function::*, Handed, Lent};
 use crate::model::image::*;
 use crate::model::node::{FINGERPRINTS, LOCATE, SET, SIZE_AT};
 use crate::model::script::{self, Entry, BARRIER, SCRIPT_WORDS};
@@ -18,6 +18,8 @@ type Claimed = (u64, u64, u64);
 struct Book {
     subject: Subject,
     lent: Lent,
+    /// The places left that the last call handed back.
+    left: u64,
 }
 
 impl Book {
@@ -31,7 +33,7 @@ impl Book {
             scratch: junk(map_words(nodes)),
             list: junk(1024),
         };
-        let mut book = Book { subject, lent };
+        let mut book = Book { subject, lent, left: 0 };
         let format = Call { function: Format, slots, nodes, head: 0, reel: 0, frame: 0 };
         book.subject.perform(&format, &mut book.lent, JUNK);
         book
@@ -54,7 +56,8 @@ impl Book {
     /// Answer, count, and the entries handed out, which are not carried out.
     fn hold(&mut self, head: u64, function: Function, reel: u64, frame: u64) -> (u64, u64, Vec<Entry>) {
         let call = Call { function, slots: 0, nodes: 0, head, reel, frame };
-        let (answer, count) = self.subject.perform(&call, &mut self.lent, JUNK);
+        let Handed { answer, count, left } = self.subject.perform(&call, &mut self.lent, JUNK);
+        self.left = left;
         let scripted = answer == 0 && !matches!(function, Has | List | Recover);
         let used = if scripted { (count as usize).min(SCRIPT_WORDS) } else { 0 };
         (answer, count, script::read(&self.lent.script[..used]))
@@ -205,6 +208,38 @@ fn below_a_claim(subject: Subject) -> bool {
     answers == (vec![0, 13, 0], vec![0, 8, 13]) && Head::read(&large.lent.heads, 1).node == 1
 }
 
+/// The places left after a claim in reel 7 by head 0, which is given back.
+fn left_after(book: &mut Book, frame: u64) -> u64 {
+    book.claims(&[(0, frame)]);
+    let left = book.left;
+    book.call(Abandon, 0, 0);
+    left
+}
+
+/// Frames 0 to 64: the root of 16, 32 and 64 places has one less with each, then a child has 63. Places given back are left
+/// again, wherever they are.
+fn places_left(subject: Subject) -> bool {
+    let mut book = reel_7(subject, 1, 3, 0);
+    let mut falls = |frame: u64, size: u64| left_after(&mut book, frame) == size - 1 - frame && book.add(7, frame).0 == 0;
+    let falling = [0..16, 16..32, 32..64].iter().all(|frames| frames.clone().all(|frame| falls(frame, frames.end)));
+    let child = left_after(&mut book, 64);
+    for frame in [3, 40] {
+        book.call(Remove, 7, frame);
+    }
+    let between = left_after(&mut book, 64);
+    book.add(7, 64);
+    falling && (child, between, left_after(&mut book, 65)) == (63, 1, 0)
+}
+
+/// A refused claim hands back 0, whatever was there.
+fn no_places_left(subject: Subject) -> bool {
+    let mut book = reel_7(subject, 2, 2, 63);
+    book.call(Open, 8, 0);
+    let mut claimed = |(head, reel, frame): (u64, u64, u64)| (book.call_with(head, Claim, reel, frame).0, book.left);
+    let claims = [(0, 7, 63), (4, 7, 64), (0, 8, 1), (1, 9, 64), (1, 7, 2), (1, 7, 63), (1, 7, 64), (1, 8, 1), (2, 8, 2)];
+    claims.map(|claim| claimed(claim)) == [(0, 0), (11, 0), (12, 0), (5, 0), (9, 0), (13, 0), (8, 0), (0, 15), (13, 0)]
+}
+
 /// Two claims in reel 7 and two elsewhere: every crash in a branch-out below a claim, in a fill, in a commit, in an abandon.
 fn crashes_with_two_in_one_reel(subject: Subject) -> bool {
     let mut book = reel_7(subject, 3, 5, 63);
@@ -263,6 +298,8 @@ pub fn check(name: &str, subject: Subject) -> bool {
         ("several heads at the root", heads_at_the_root(subject)),
         ("a branch-out below a claim", below_a_claim(subject)),
         ("crashes with two claims in one reel", crashes_with_two_in_one_reel(subject)),
+        ("places left", places_left(subject)),
+        ("no places left of a refused claim", no_places_left(subject)),
         ("case A", case_a(subject)),
     ];
     for (case, _) in results.iter().filter(|(_, right)| !right) {

@@ -1,8 +1,10 @@
 //! What the fuzzing has reached: each way in which a function can end, each answer in a history, each moment of a script for a
-//! crash, a crash of each function that stores with a claim of every head open, and with several in one tree.
+//! crash, a crash of each function that stores with a claim of every head open, and with several in one tree; what claims leave
+//! of their nodes.
 use crate::model::call::{Call, Function, Function::*};
 use crate::model::ending::*;
 use crate::model::image::HEADS;
+use crate::model::left::Claimed;
 use crate::model::node::LAST_LEVEL;
 use crate::model::table::Table;
 use std::collections::BTreeMap;
@@ -44,6 +46,8 @@ pub struct Coverage {
     branched: BTreeMap<usize, u64>,
     /// Why claims of histories were refused or answered where other heads were at work in the reel.
     beside: BTreeMap<&'static str, u64>,
+    /// Which places claims left, by the node's size.
+    lefts: BTreeMap<(u64, &'static str), u64>,
     deepest: u64,
     mixtures: u64,
     undone: u64,
@@ -133,6 +137,16 @@ const NODE_TAKEN: &str = "13 for the node";
 const NO_NODES: &str = "8 beside another head";
 const ANSWERED: &str = "answered beside another head";
 
+const NONE_AT_LAST: &str = "no place, at the last one";
+const NONE_BELOW: &str = "no place, at one below the last";
+const ALL_ABOVE: &str = "all places above its own";
+const SOME_ABOVE: &str = "some places above its own";
+const NOT_AS_SET: &str = "a locate word that has other places than the set word";
+
+/// What claims leave: on single images, in nodes of each size; in histories all but the last, since no two heads are at a node.
+const LEFTS: [&str; 5] = [NONE_AT_LAST, NONE_BELOW, ALL_ABOVE, SOME_ABOVE, NOT_AS_SET];
+const SIZES: [u64; 3] = [16, 32, 64];
+
 impl Coverage {
     /// A single call.
     pub fn call(&mut self, function: Function, ending: Ending) {
@@ -155,6 +169,22 @@ impl Coverage {
             _ => return,
         };
         *self.beside.entry(key).or_default() += 1;
+    }
+
+    /// An answered claim, by its place and its node.
+    pub fn left(&mut self, place: u64, claimed: &Claimed) {
+        let above = claimed.size.wrapping_sub(1 + place);
+        let kind = match claimed.left() {
+            0 if above == 0 => NONE_AT_LAST,
+            0 => NONE_BELOW,
+            left if left == above => ALL_ABOVE,
+            _ => SOME_ABOVE,
+        };
+        *self.lefts.entry((claimed.size, kind)).or_default() += 1;
+        // Where it is the set word and the place just taken, one bit differs.
+        if (claimed.locate ^ claimed.set).count_ones() != 1 {
+            *self.lefts.entry((claimed.size, NOT_AS_SET)).or_default() += 1;
+        }
     }
 
     /// A history, and the highest level in it.
@@ -225,7 +255,10 @@ impl Coverage {
     pub fn calls_missed(&self) -> Vec<String> {
         let all: Vec<_> = Function::ALL.iter().flat_map(|&f| endings(f).into_iter().map(move |ending| (f, ending))).collect();
         let name = |key: &(Function, Ending)| format!("{} {} {}", key.0.name(), key.1.answer, key.1.shape);
-        missed(&all, &self.endings, name)
+        let mut lines = missed(&all, &self.endings, name);
+        let all: Vec<_> = SIZES.iter().flat_map(|&size| LEFTS.iter().map(move |&kind| (size, kind))).collect();
+        lines.extend(missed(&all, &self.lefts, |key| format!("claim in a node of size {} that leaves {}", key.0, key.1)));
+        lines
     }
 
     /// The same for histories: answers, moments of scripts, crashes with all claims open.
@@ -245,6 +278,8 @@ impl Coverage {
         lines.extend(missed(&BRANCH_OUTS, &self.branched, branched));
         let beside = |key: &&str| format!("claim of a history, {}", key);
         lines.extend(missed(&[FRAME_TAKEN, NODE_TAKEN, NO_NODES, ANSWERED], &self.beside, beside));
+        let lefts: BTreeMap<&str, u64> = self.lefts.iter().map(|(key, &count)| (key.1, count)).collect();
+        lines.extend(missed(&LEFTS[..4], &lefts, |kind| format!("claim of a history that leaves {}", kind)));
         if self.deepest < LAST_LEVEL {
             lines.push(format!("never reached: level {} in a history", LAST_LEVEL));
         }

@@ -9,7 +9,7 @@ use crate::subject::Subject;
 const BASE: u64 = 2;
 
 /// Cases in which a fault has to be found: ten times as many as any of them needs.
-const MOST_CALLS: u64 = 20_000;
+const MOST_CALLS: u64 = 30_000;
 const MOST_HISTORIES: u64 = 1000;
 
 /// After how many cases there is a difference, if there is one.

@@ -2,9 +2,10 @@
 //! time the book as a whole.
 use crate::coverage::{Claims, Coverage};
 use crate::model::buffer::Buffer;
-use crate::model::call::{Call, Function, Lent};
+use crate::model::call::{Call, Function, Handed, Lent};
 use crate::model::claim::node_used;
 use crate::model::image::*;
+use crate::model::left::Claimed;
 use crate::model::script::{self, Entry, BARRIER, SCRIPT_WORDS};
 use crate::model::table::{Lengths, Reply, Table, Value};
 use crate::plan::Plan;
@@ -28,7 +29,7 @@ pub fn case(seed: u64, subject: Subject, coverage: &mut Coverage) -> Result<(), 
     let (slots, nodes) = (plan.slots, plan.nodes);
     let mut lent = unformatted(&mut random, slots, nodes);
     let format = Call { function: Function::Format, slots, nodes, head: 0, reel: 0, frame: 0 };
-    let (answer, _) = subject.perform(&format, &mut lent, 0);
+    let answer = subject.perform(&format, &mut lent, 0).answer;
     if answer != 0 {
         return Err(format!("first {}: answer {}", describe(&format), answer));
     }
@@ -97,41 +98,58 @@ impl History<'_> {
     fn perform(&mut self, call: &mut Call) -> Result<(u64, Vec<Entry>), String> {
         let own = self.lend(call);
         let due = self.due(call);
-        let (answer, count) = self.subject.perform(call, &mut self.lent, self.random.word());
-        let reply = self.table.perform(call, &Lengths::of(&self.lent), answer);
-        self.coverage.answer(call.function, answer);
+        let handed = self.subject.perform(call, &mut self.lent, self.random.word());
+        let reply = self.table.perform(call, &Lengths::of(&self.lent), handed.answer);
+        self.coverage.answer(call.function, handed.answer);
         if let Some((name, _)) = self.lent.named().iter().find(|(_, buffer)| !buffer.guards_hold()) {
             return Err(format!("words outside the {} are written", name));
         }
-        self.compare(answer, count, &reply)?;
-        if call.function == Function::Claim && matches!(answer, 0 | 8 | 13) {
-            self.coverage.claim(answer, &self.table, call);
-            if answer != due {
-                return Err(format!("by heads and nodes {} is due, the book answers {}", due, answer));
-            }
+        self.compare(handed.answer, handed.count, &reply)?;
+        if call.function == Function::Claim {
+            self.compare_claim(call, &handed, due)?;
         }
-        let entries = if reply == Ok(Value::None) { script::read(&self.lent.script[..count as usize]) } else { Vec::new() };
+        let scripted = reply == Ok(Value::None);
+        let entries = if scripted { script::read(&self.lent.script[..handed.count as usize]) } else { Vec::new() };
         if let Some((which, buffer)) = own {
             *self.buffer(which) = buffer;
         }
-        Ok((answer, entries))
+        Ok((handed.answer, entries))
     }
 
     /// What is due to a claim that comes as far, where the table takes the book's word: 13 if another head has the frame, or is
-    /// at the node that this claim would use; else 8 if it uses none. In a history no two reels share a node.
-    fn due(&self, call: &Call) -> u64 {
+    /// at the node that this claim would use; else 8 if it uses none; else 0. In a history no two reels share a node. With it
+    /// that node.
+    fn due(&self, call: &Call) -> (u64, Option<u64>) {
         if call.function != Function::Claim {
-            return 0;
+            return (0, None);
         }
         let node = node_used(call, &self.lent);
         let is_there = |head: Head| head.state != State::Idle && Some(head.node) == node;
-        if self.table.claimed(call.reel, call.frame) || (0..HEADS).any(|head| is_there(Head::read(&self.lent.heads, head))) {
-            13
-        } else if node.is_none() {
-            8
-        } else {
-            0
+        let busy = (0..HEADS).any(|head| is_there(Head::read(&self.lent.heads, head)));
+        match node {
+            _ if busy || self.table.claimed(call.reel, call.frame) => (13, node),
+            None => (8, node),
+            Some(_) => (0, node),
         }
+    }
+
+    /// Of a claim, what the table does not know: the answer where that turns on nodes, and the places left in its node.
+    fn compare_claim(&mut self, call: &Call, handed: &Handed, due: (u64, Option<u64>)) -> Result<(), String> {
+        if matches!(handed.answer, 0 | 8 | 13) {
+            self.coverage.claim(handed.answer, &self.table, call);
+            if handed.answer != due.0 {
+                return Err(format!("by heads and nodes {} is due, the book answers {}", due.0, handed.answer));
+            }
+        }
+        let claimed = due.1.filter(|_| handed.answer == 0).map(|node| Claimed::of(node, &self.lent, handed.count));
+        let left = claimed.as_ref().map_or(0, Claimed::left);
+        if handed.left != left {
+            return Err(format!("places left: {} by the node's words, {} by the book", left, handed.left));
+        }
+        if let Some(claimed) = claimed {
+            self.coverage.left(Head::read(&self.lent.heads, call.head).place, &claimed);
+        }
+        Ok(())
     }
 
     fn buffer(&mut self, which: Which) -> &mut Buffer {

@@ -14,7 +14,7 @@ extern "C" {
     ) -> u64;
     fn reelbook_claim(
         image: Read, words: usize, map: Words, map_words: usize, heads: Words, script: Words, room: usize, head: u64, reel: u64,
-        frame: u64, used: Words,
+        frame: u64, used: Words, left: Words,
     ) -> u64;
     fn reelbook_fill(image: Read, words: usize, heads: Words, script: Words, room: usize, head: u64, used: Words) -> u64;
     fn reelbook_commit(image: Read, words: usize, heads: Words, script: Words, room: usize, head: u64, used: Words) -> u64;
@@ -37,8 +37,8 @@ fn slice(buffer: &mut Buffer) -> (Words, usize) {
     (buffer.as_mut_ptr(), buffer.len())
 }
 
-/// The answer. The count handed back, where there is one, is written to `count`.
-pub fn perform(call: &Call, lent: &mut Lent, count: &mut u64) -> u64 {
+/// The answer. What is handed back besides, where there is such, is written to `count` and `left`.
+pub fn perform(call: &Call, lent: &mut Lent, count: &mut u64, left: &mut u64) -> u64 {
     let (image, words) = slice(&mut lent.image);
     let (map, map_words) = slice(&mut lent.map);
     let (script, room) = slice(&mut lent.script);
@@ -52,7 +52,7 @@ pub fn perform(call: &Call, lent: &mut Lent, count: &mut u64) -> u64 {
             Function::Format => reelbook_format(image, words, map, map_words, heads, slots, nodes),
             Function::Recover => reelbook_recover(image, words, map, map_words, heads),
             Function::Open => reelbook_open(image, words, map, map_words, script, room, reel, count),
-            Function::Claim => reelbook_claim(image, words, map, map_words, heads, script, room, head, reel, frame, count),
+            Function::Claim => reelbook_claim(image, words, map, map_words, heads, script, room, head, reel, frame, count, left),
             Function::Fill => reelbook_fill(image, words, heads, script, room, head, count),
             Function::Commit => reelbook_commit(image, words, heads, script, room, head, count),
             Function::Abandon => reelbook_abandon(image, words, heads, script, room, head, count),

@@ -174,7 +174,7 @@ impl History<'_> {
             lost.iter_mut().for_each(|word| *word = self.random.word());
         }
         let call = Call { function: Function::Recover, slots: 0, nodes: 0, head: 0, reel: 0, frame: 0 };
-        match self.subject.perform(&call, &mut self.lent, 0).0 {
+        match self.subject.perform(&call, &mut self.lent, 0).answer {
             0 => Ok(()),
             answer => Err(format!("recovery answers {}", answer)),
         }

@@ -1,5 +1,5 @@
 //! What a difference looks like in print.
-use crate::model::call::{Call, Function, Lent};
+use crate::model::call::{Call, Function, Handed, Lent};
 use crate::model::image::*;
 use crate::model::table::Reels;
 
@@ -33,14 +33,15 @@ fn part(image: &[u64], index: usize) -> String {
     }
 }
 
-/// The call, what it was lent, and where answer, count and buffers are not as expected.
-pub fn difference(call: &Call, heads: &[u64], expected: ((u64, u64), &Lent), found: ((u64, u64), &Lent)) -> String {
+/// The call, what it was lent, and where what it handed back and the buffers are not as expected.
+pub fn difference(call: &Call, heads: &[u64], expected: (Handed, &Lent), found: (Handed, &Lent)) -> String {
     let mut lines = vec![describe(call)];
     let lengths = found.1.named().map(|(name, buffer)| format!("{} {}", name, buffer.len()));
     let header = found.1.image.iter().take(3).collect::<Vec<_>>();
     lines.push(format!("words: {}; image begins {:?}; heads were {:x?}", lengths.join(", "), header, heads));
-    lines.push(format!("expected answer {}, count {}", expected.0 .0, expected.0 .1));
-    lines.push(format!("found answer {}, count {}", found.0 .0, found.0 .1));
+    for (what, Handed { answer, count, left }) in [("expected", expected.0), ("found", found.0)] {
+        lines.push(format!("{} answer {}, count {}, places left {}", what, answer, count, left));
+    }
     for ((name, a), (_, b)) in expected.1.named().into_iter().zip(found.1.named()) {
         if !b.guards_hold() {
             lines.push(format!("{}: words outside are written", name));

@@ -1,11 +1,8 @@
 //! Deliberate faults in the library's place: after its call the answer, the count or one word of what it was lent is another, to
 //! see that the comparison looks there.
-use crate::model::call::{Call, Function, Function::*, Lent};
+use crate::model::call::{Call, Function, Function::*, Handed, Lent};
 use crate::model::image::*;
 use crate::model::node::{LOCATE, NEXT, SET};
-
-/// The answer and the count handed back.
-type Handed = (u64, u64);
 
 type Change = fn(&Call, &mut Lent, &mut Handed);
 
@@ -22,10 +19,10 @@ const fn after(function: Function, answer: u64, text: &'static str, change: Chan
 }
 
 /// Found by single calls, where every word is compared with the model's.
-pub static OF_CALLS: [Spoil; 21] = [
-    after(Retire, 13, "retire answers 5 for 13", |_, _, handed| handed.0 = 5),
-    after(List, 14, "list hands back a count with 14", |_, _, handed| handed.1 = 1),
-    after(Commit, 0, "commit hands back two words more", |_, _, handed| handed.1 += 2),
+pub static OF_CALLS: [Spoil; 26] = [
+    after(Retire, 13, "retire answers 5 for 13", |_, _, handed| handed.answer = 5),
+    after(List, 14, "list hands back a count with 14", |_, _, handed| handed.count = 1),
+    after(Commit, 0, "commit hands back two words more", |_, _, handed| handed.count += 2),
     after(Abandon, 0, "abandon's barrier has a value", |_, lent, _| lent.script[3] = 1),
     after(Fill, 0, "fill writes behind its script", |_, lent, _| lent.script[8] ^= 1),
     after(Open, 6, "open writes a script with 6", |_, lent, _| lent.script[49] ^= 1),
@@ -34,6 +31,11 @@ pub static OF_CALLS: [Spoil; 21] = [
     after(Claim, 0, "claim writes another head's record", |call, lent, _| record(lent, (call.head + 1) % HEADS)[4] ^= 1),
     after(Claim, 13, "claim marks the last node with 13", |_, lent, _| mark_last(lent)),
     after(Claim, 13, "claim's head is claimed with 13", |call, lent, _| record(lent, call.head)[0] = 1),
+    after(Claim, 0, "claim hands back a place left less", |_, _, handed| handed.left = handed.left.saturating_sub(1)),
+    after(Claim, 0, "claim hands back its two counts the other way round", |_, _, handed| swap_counts(handed)),
+    after(Claim, 1, "claim hands back places left with 1", |_, _, handed| handed.left = 1),
+    after(Claim, 3, "claim hands back places left with 3", |_, _, handed| handed.left = 1),
+    after(Claim, 13, "claim hands back places left with 13", |_, _, handed| handed.left = 1),
     after(Commit, 0, "commit leaves the frame in the record", |call, lent, _| record(lent, call.head)[4] = 1),
     after(Recover, 0, "recover stores to a frame", |_, lent, _| last_word(lent)),
     after(Recover, 4, "recover stores with 4", |_, lent, _| last_word(lent)),
@@ -41,24 +43,27 @@ pub static OF_CALLS: [Spoil; 21] = [
     after(Has, 0, "has stores to the image", |_, lent, _| last_word(lent)),
     after(Retire, 0, "retire leaves a bit in the scratch map", |_, lent, _| lent.scratch[0] = 1),
     after(List, 3, "list clears the scratch map with 3", |_, lent, _| lent.scratch.fill(0)),
-    after(List, 0, "list gives another frame", |_, lent, handed| another_frame(lent, handed.1)),
-    after(List, 0, "list writes behind the frames", |_, lent, handed| behind_frames(lent, handed.1)),
+    after(List, 0, "list gives another frame", |_, lent, handed| another_frame(lent, handed.count)),
+    after(List, 0, "list writes behind the frames", |_, lent, handed| behind_frames(lent, handed.count)),
     after(List, 0, "list writes outside of its buffer", |_, lent, _| lent.list.write_behind()),
 ];
 
 /// Found by histories, held against the plain table alone.
-pub static OF_HISTORIES: [Spoil; 19] = [
-    after(Commit, 0, "commit answers 12 and is done", |_, _, handed| *handed = (12, 0)),
-    after(Claim, 9, "claim hands back a count with 9", |_, _, handed| handed.1 = 2),
-    after(Claim, 13, "claim answers 8 for 13", |_, _, handed| handed.0 = 8),
+pub static OF_HISTORIES: [Spoil; 22] = [
+    after(Commit, 0, "commit answers 12 and is done", |_, _, handed| *handed = Handed { answer: 12, count: 0, left: 0 }),
+    after(Claim, 9, "claim hands back a count with 9", |_, _, handed| handed.count = 2),
+    after(Claim, 0, "claim hands back a place left less", |_, _, handed| handed.left = handed.left.saturating_sub(1)),
+    after(Claim, 8, "claim hands back places left with 8", |_, _, handed| handed.left = 1),
+    after(Claim, 9, "claim hands back places left with 9", |_, _, handed| handed.left = 1),
+    after(Claim, 13, "claim answers 8 for 13", |_, _, handed| handed.answer = 8),
     after(Claim, 13, "claim marks the last node with 13", |_, lent, _| mark_last(lent)),
-    after(Has, 0, "has always says no", |_, _, handed| handed.1 = 0),
-    after(List, 0, "list counts a frame less", |_, _, handed| handed.1 = handed.1.saturating_sub(1)),
-    after(List, 0, "list gives another frame", |_, lent, handed| another_frame(lent, handed.1)),
+    after(Has, 0, "has always says no", |_, _, handed| handed.count = 0),
+    after(List, 0, "list counts a frame less", |_, _, handed| handed.count = handed.count.saturating_sub(1)),
+    after(List, 0, "list gives another frame", |_, lent, handed| another_frame(lent, handed.count)),
     after(List, 0, "list writes outside of its buffer", |_, lent, _| lent.list.write_behind()),
     after(Commit, 0, "commit sets another bit too", |_, lent, _| lent.script[1] ^= 1 << 63),
     after(Remove, 0, "remove stores nothing", |_, lent, _| lent.script[1] = lent.image[lent.script[0] as usize]),
-    after(Claim, 0, "a branch-out lacks its first barrier", |_, lent, handed| lose_barrier(lent, handed.1)),
+    after(Claim, 0, "a branch-out lacks its first barrier", |_, lent, handed| lose_barrier(lent, handed.count)),
     after(Open, 0, "open marks the last node too", |_, lent, _| mark_last(lent)),
     after(Claim, 0, "claim's record names another slot", |call, lent, _| record(lent, call.head)[1] ^= 1),
     after(Abandon, 0, "abandon leaves the frame in the record", |call, lent, _| record(lent, call.head)[4] = 1),
@@ -71,10 +76,14 @@ pub static OF_HISTORIES: [Spoil; 19] = [
 
 impl Spoil {
     pub fn spoil(&self, call: &Call, lent: &mut Lent, handed: &mut Handed) {
-        if call.function == self.function && handed.0 == self.answer {
+        if call.function == self.function && handed.answer == self.answer {
             (self.change)(call, lent, handed);
         }
     }
+}
+
+fn swap_counts(handed: &mut Handed) {
+    std::mem::swap(&mut handed.count, &mut handed.left);
 }
 
 fn mark_last(lent: &mut Lent) {

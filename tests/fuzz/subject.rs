@@ -1,6 +1,6 @@
 //! What is tested: the library; or, to see that a fault is found, the model with one, or the library with its results spoilt.
 use crate::library;
-use crate::model::call::{Call, Function, Lent};
+use crate::model::call::{Call, Function, Handed, Lent};
 use crate::model::fault::Fault;
 use crate::model::operations;
 use crate::spoil::Spoil;
@@ -13,18 +13,17 @@ pub enum Subject {
 }
 
 impl Subject {
-    /// The answer and the count handed back, 0 for a function that has none. `junk` is what the count's place holds before.
-    pub fn perform(self, call: &Call, lent: &mut Lent, junk: u64) -> (u64, u64) {
+    /// Makes the call. `junk`, and another word made of it, are what the places of the counts hold before.
+    pub fn perform(self, call: &Call, lent: &mut Lent, junk: u64) -> Handed {
         match self {
             Subject::Library => {
                 let counts = !matches!(call.function, Function::Format | Function::Recover | Function::Apply);
                 let mut count = if counts { junk } else { 0 };
-                (library::perform(call, lent, &mut count), count)
+                let mut left = if call.function == Function::Claim { !junk } else { 0 };
+                let answer = library::perform(call, lent, &mut count, &mut left);
+                Handed { answer, count, left }
             }
-            Subject::Faulty(fault) => {
-                let outcome = operations::perform(call, lent, fault);
-                (outcome.ending.answer, outcome.count)
-            }
+            Subject::Faulty(fault) => operations::perform(call, lent, fault).handed,
             Subject::Spoilt(spoil) => {
                 let mut handed = Subject::Library.perform(call, lent, junk);
                 spoil.spoil(call, lent, &mut handed);

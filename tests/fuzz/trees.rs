@@ -21,13 +21,14 @@ enum Fill {
     Full,
 }
 
-/// The locate word beside a set word: every place wanted taken, as the set word, with more bits, or any.
+/// The locate word beside a set word: every place wanted taken, as the set word, with more bits, any, or all places but one.
 #[derive(Clone, Copy)]
 enum Locate {
     Wanted,
     Equal,
     More,
     Any,
+    AllButOne,
 }
 
 /// A tree's plan: a path that it follows down to a depth, how full its nodes are, and the frames held so far.
@@ -40,7 +41,8 @@ struct Plan {
 }
 
 const FILLS: [Fill; 6] = [Fill::Empty, Fill::Sparse, Fill::Dense, Fill::Full, Fill::Full, Fill::Full];
-const LOCATES: [Locate; 6] = [Locate::Wanted, Locate::Wanted, Locate::Wanted, Locate::Equal, Locate::More, Locate::Any];
+const LOCATES: [Locate; 7] =
+    [Locate::Wanted, Locate::Wanted, Locate::Wanted, Locate::Equal, Locate::More, Locate::Any, Locate::AllButOne];
 
 struct Builder<'a> {
     random: &'a mut Random,
@@ -183,6 +185,10 @@ impl Builder<'_> {
             Locate::Equal => set,
             Locate::More => set | self.random.word() & mask,
             Locate::Any => self.random.word() & mask,
+            Locate::AllButOne => {
+                let any = self.random.below(size);
+                mask & !(1 << self.random.pick(&[any, size - 1]))
+            }
         };
         for (word, value) in [(NEXT, 0), (LOCATE, locate), (SET, set), (LEVEL_AT, level), (SIZE_AT, size)] {
             self.store(at + word, value);

@@ -49,11 +49,17 @@ pub enum Fault {
     FilledForgotten,
     BusyBeforeHeld,
     NoRunBeforeBusy,
+    SizeBefore,
+    SizeAlways64,
+    TakenLeft,
+    LeftAbovePlace,
+    LeftBySet,
+    LeftOfParent,
 }
 
 impl Fault {
     /// Found by single calls: one buffer or answer differs from the sound model's.
-    pub const OF_CALLS: [(Fault, &'static str); 35] = [
+    pub const OF_CALLS: [(Fault, &'static str); 41] = [
         (Fault::NoSlots, "an image without slots is taken"),
         (Fault::EmptySlotRead, "an empty slot's reel number counts as open"),
         (Fault::HighestSlot, "a reel is the highest filled slot with its number"),
@@ -89,10 +95,16 @@ impl Fault {
         (Fault::FilledForgotten, "filled heads do not count in claim's 13"),
         (Fault::BusyBeforeHeld, "claim tries 13 before 9"),
         (Fault::NoRunBeforeBusy, "claim tries 8 before 13"),
+        (Fault::SizeBefore, "places left by the size before the scale-up"),
+        (Fault::SizeAlways64, "places left of 64, whatever the size"),
+        (Fault::TakenLeft, "the place just taken counts as left"),
+        (Fault::LeftAbovePlace, "all places above the one taken count as left"),
+        (Fault::LeftBySet, "places left by the set word"),
+        (Fault::LeftOfParent, "a branch-out tells the places left in the full parent"),
     ];
 
     /// Found by histories with crashes, held against the plain table alone.
-    pub const OF_HISTORIES: [(Fault, &'static str); 17] = [
+    pub const OF_HISTORIES: [(Fault, &'static str); 21] = [
         (Fault::LocateTrusted, "recover takes locate for the truth"),
         (Fault::RootUnordered, "open stores the root before the barrier"),
         (Fault::ReelUnordered, "open stores the reel number after the barrier"),
@@ -110,5 +122,9 @@ impl Fault {
         (Fault::ParentForNode, "a branch-out uses the full parent and not the new child"),
         (Fault::NodeWithoutRun, "a claim without a run uses the full node"),
         (Fault::BusyBeforeHeld, "claim tries 13 before 9"),
+        (Fault::SizeBefore, "places left by the size before the scale-up"),
+        (Fault::TakenLeft, "the place just taken counts as left"),
+        (Fault::LeftAbovePlace, "all places above the one taken count as left"),
+        (Fault::LeftOfParent, "a branch-out tells the places left in the full parent"),
     ];
 }

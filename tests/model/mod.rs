@@ -7,6 +7,7 @@ pub mod claim;
 pub mod ending;
 pub mod fault;
 pub mod image;
+pub mod left;
 pub mod node;
 pub mod operations;
 pub mod script;

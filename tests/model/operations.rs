@@ -1,19 +1,20 @@
 //! The twelve functions: answer, count, script and every buffer at the end, over any contents, numbers and lengths.
 //! Refusals come by `?`, in the specification's sequence, before anything is written.
-use super::call::{Call, Function, Lent};
+use super::call::{Call, Function, Handed, Lent};
 use super::claim::claim;
 use super::ending::*;
 use super::fault::Fault;
 use super::image::*;
+use super::left::left;
 use super::node::*;
 use super::script::{self, Entry, BARRIER, SCRIPT_WORDS};
 use super::tree::{self, Reached};
 use std::collections::HashSet;
 
-/// How a call ended, and what it handed back: words of script, frames listed, or Has's yes or no. A refusal hands back 0.
+/// How a call ended, and what it handed back.
 pub struct Outcome {
     pub ending: Ending,
-    pub count: u64,
+    pub handed: Handed,
 }
 
 pub type Ended = Result<(Ending, u64), Ending>;
@@ -34,7 +35,9 @@ pub fn perform(call: &Call, lent: &mut Lent, fault: Fault) -> Outcome {
         Function::Apply => apply(lent, fault),
     };
     let (ending, count) = ended.unwrap_or_else(|refusal| (refusal, 0));
-    Outcome { ending, count }
+    let claimed = call.function == Function::Claim && ending.answer == 0;
+    let left = if claimed { left(call.head, lent, count, fault) } else { 0 };
+    Outcome { ending, handed: Handed { answer: ending.answer, count, left } }
 }
 
 /// Refusals 1 and 2.

@@ -18,6 +18,12 @@ pub fn read(words: &[u64]) -> Vec<Entry> {
     words.chunks_exact(2).map(|entry| (entry[0], entry[1])).collect()
 }
 
+/// A word of the image as it is when the stores are made.
+pub fn word_after(image: &[u64], entries: &[Entry], index: u64) -> u64 {
+    let stores = entries.iter().rev().find(|&&entry| entry.0 == index && entry != BARRIER);
+    stores.map_or_else(|| image[index as usize], |store| store.1)
+}
+
 /// Makes the stores, in their sequence.
 pub fn carry_out(image: &mut [u64], entries: &[Entry]) {
     for &(index, value) in entries.iter().filter(|entry| entry.0 != BARRIER.0) {

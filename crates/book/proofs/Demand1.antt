@@ -15,7 +15,7 @@ use Rattle.book.specs.Demands.{numbers, ClearsMap, unsound, BorrowsScrat
 use Rattle.tree.proofs.Laws.{pool-laws}
 use Rattle.tree.proofs.Cases.{test, true-not-false, or-true, or-left, or-right}
 use Rattle.book.proofs.Refusals.{refusal-listed}
-use Rattle.book.proofs.Performed.{answer-is, work-refused}
+use Rattle.book.proofs.Performed.{answer-is, work-refused, left-refused}
 
 -- a third test that never holds, as in Has, which borrows nothing, may be left out
 without-third : (a b : Refusal) (n : ℕ) (rs : List Refusal) → let all = a ∷ b ∷ (is false gives n) ∷ rs in
@@ -83,6 +83,7 @@ refused op s h = let w = work-refused op s h in record {
   number = rw (answer-is op s) (numbered op s (rw (answer-is op s) at h));
   no-store = rw w;
   none-handed = rw w;
+  places-left = left-refused op s h;
   left = rw w (left-by op s (perform op s .answer));
 }
 

@@ -66,3 +66,4 @@ pub mod DuePaths
 pub mod DueTrees
 pub mod Due
 pub mod AsBefore
+pub mod PlacesLeft

@@ -5,7 +5,7 @@ use borrow.Author.Tests.{eq-eqb, ne-eqb}
 use Rattle.book.specs.Refusals.{refusal}
 use Rattle.book.specs.State.{State, Operation, leaving}
 use Rattle.book.specs.Checks.{refusals}
-use Rattle.book.specs.Perform.{granted, leaves, perform}
+use Rattle.book.specs.Perform.{granted, leaves, leftBy, perform}
 use Rattle.book.specs.Table.{Table, Fed, becoming, tableRefusals, tableWork, reply}
 
 pub answer-is : (op : Operation) (s : State) → perform op s .answer ≡ refusal (refusals op s)
@@ -20,6 +20,15 @@ work-granted op s h = rw (eq-eqb (refusal (refusals op s)) 0 h)
 pub work-refused : (op : Operation) (s : State) → perform op s .answer ≢ 0 → perform op s .work ≡ leaving (leaves op s (perform op s .answer))
 unfolding perform
 work-refused op s h = rw (ne-eqb (refusal (refusals op s)) 0 h)
+
+-- and tells of places left, or not
+pub left-granted : (op : Operation) (s : State) → perform op s .answer ≡ 0 → perform op s .places-left ≡ leftBy op s
+unfolding perform
+left-granted op s h = rw (eq-eqb (refusal (refusals op s)) 0 h)
+
+pub left-refused : (op : Operation) (s : State) → perform op s .answer ≢ 0 → perform op s .places-left ≡ 0
+unfolding perform
+left-refused op s h = rw (ne-eqb (refusal (refusals op s)) 0 h)
 
 -- the same of the table
 pub reply-is : (op : Operation) (fed : Fed) (t : Table) → reply op fed t .answer ≡ refusal (tableRefusals op fed t)

@@ -107,16 +107,16 @@ asked {s} {t} {h} {reel} {f} a fit u =
 -- ---- scripts
 
 module _ (g : Geometry) (m : Memory) (start f : ℕ) where
-  script-clear : (t : Spot) → claimScript g m (Clear t) start f ≡ single ((locateAt g (t .node), withBit (m (locateAt g (t .node))) (t .place)) ∷ [])
+  pub script-clear : (t : Spot) → claimScript g m (Clear t) start f ≡ single ((locateAt g (t .node), withBit (m (locateAt g (t .node))) (t .place)) ∷ [])
   unfolding claimScript roomScript
   script-clear t = refl
 
-  script-scale : (n size : ℕ) → claimScript g m (ScaleUp n size) start f
+  pub script-scale : (n size : ℕ) → claimScript g m (ScaleUp n size) start f
       ≡ single ((sizeAt g n, 2 * size) ∷ (locateAt g n, withBit (m (locateAt g n)) size) ∷ [])
   unfolding claimScript roomScript
   script-scale n size = refl
 
-  script-branch : (parent d : ℕ) → claimScript g m (BranchOut parent d) start f
+  pub script-branch : (parent d : ℕ) → claimScript g m (BranchOut parent d) start f
       ≡ newNodes g (suc d) 64 (group start d) ∷ single ((nextAt g parent, start + 1) ∷ (locateAt g (start + child d f), withBit 0 0) ∷ [])
   unfolding claimScript roomScript
   script-branch parent d = refl

@@ -61,6 +61,7 @@ pub record Refused (op : Operation) (s : State) : Type 0 where
   pub number : List·Memᴰ (perform op s .answer) (numbers op)
   pub no-store : perform op s .work .script ≡ []
   pub none-handed : perform op s .work .handed ≡ nothingHanded
+  pub places-left : perform op s .places-left ≡ 0
   pub left : Leaves s op (perform op s .answer) (perform op s .work .after)
 
 pub record Demand1 : Type 0 where

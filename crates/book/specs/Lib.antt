@@ -16,3 +16,4 @@ pub mod Witnesses
 pub mod Fixed
 pub mod Due
 pub mod AsBefore
+pub mod PlacesLeft

@@ -23,7 +23,7 @@ use Rattle.book.specs.Heads.{headAt, targetOf, withHead, idleHeads}
 use Rattle.book.specs.Refusals.{refusal}
 use Rattle.tree.specs.declared.path.Room.{Room}
 use Rattle.tree.specs.declared.path.Room.the-variants.{Clear, ScaleUp, BranchOut}
-use Rattle.tree.specs.Room.{roomOn, needs}
+use Rattle.tree.specs.Room.{roomOn, needs, placesLeft}
 use Rattle.book.specs.State.{State, Operation, format, recover, openReel, claim, fill, commit, abandon, remove, retire, query, Query, has, list, Handed, handing, handingFrames, nothingHanded, Work, leaving, Outcome}
 use Rattle.book.specs.Checks.{placeIn, targetIn, refusals}
 
@@ -187,7 +187,29 @@ clears (commit script h) n = false
 clears (abandon script h) n = false
 clears (remove script reel f) n = false
 
+-- places left: how many clear places the node of an answered claim has left once its place is taken
+abbrev pub leftBy : Operation → State → ℕ
+leftBy (claim words script h reel f) s =
+    let m = reads (s .image) in
+    let g = geometryOf m in
+    placesLeft g m (roomOn g m (pathFrom g m (slotOf g m reel) f))
+leftBy (format words slots nodes) s = 0
+leftBy (recover words) s = 0
+leftBy (openReel words script reel) s = 0
+leftBy (fill script h) s = 0
+leftBy (commit script h) s = 0
+leftBy (abandon script h) s = 0
+leftBy (remove script reel f) s = 0
+leftBy (retire words scratch script reel) s = 0
+leftBy (query q) s = 0
+
 unfoldable pub perform : Operation → State → Outcome
 perform op s =
     let n = refusal (refusals op s) in
-    record { answer = n; work = cond (eqb n 0) (granted op s) (leaving (leaves op s n)); cleared = clears op n }
+    let granting = eqb n 0 in
+    record {
+      answer = n;
+      work = cond granting (granted op s) (leaving (leaves op s n));
+      cleared = clears op n;
+      places-left = cond granting (leftBy op s) 0;
+    }

@@ -1,4 +1,4 @@
--- The starred cases of the paper, and those of two heads on a reel, in one table: what is computed beside what it should be.
+-- The starred cases of the paper, those of two heads on a reel and of places left, in one table: what is computed beside what it should be.
 use mathlib.Core.Path.{_≡_}
 use mathlib.Core.Bool.{true}
 use mathlib.Core.List.{List, [], _∷_, _++_, flatMap}
@@ -66,6 +66,10 @@ next n k = done (claims 7 k) (withFrames n k)
 abbrev pub second : (n k f : ℕ) → ℕ
 second n k f = perform (claimsBy 1 7 f) (next n k) .answer
 
+-- the places left that the claim of frame k, the next one, is told
+abbrev pub left : (n k : ℕ) → ℕ
+left n k = perform (claims 7 k) (withFrames n k) .places-left
+
 -- frames 0 to 63, then 64 and 65 claimed by heads 0 and 1: what a claim of frame f by head 2 is answered
 abbrev pub third : (f : ℕ) → ℕ
 third f = perform (claimsBy 2 7 f) (done (claimsBy 1 7 65) (next 3 64)) .answer
@@ -93,6 +97,10 @@ starred =
     ∷ (second 3 63 63, 13) ∷ (second 1 63 63, 13)
     -- frames 0 to 14, 15 claimed: 16 would scale up the root, the very node, and gets 13; 3, held there, gets 9 before it
     ∷ (second 1 15 16, 13) ∷ (second 1 15 3, 9)
+    -- places left: 15 with the first frame, none with the 16th; 15 again with the 17th, after the scale-up
+    ∷ (left 1 0, 15) ∷ (left 1 15, 0) ∷ (left 1 16, 15)
+    -- 63 after a branch-out; with N = 1 that is refused and carries 0
+    ∷ (left 3 64, 63) ∷ (left 1 64, 0)
     ∷ []
 
 -- every row is as it should be

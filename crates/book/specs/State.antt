@@ -80,11 +80,13 @@ pub record Work : Type 0 where
 abbrev pub leaving : State → Work
 leaving s = record { script = []; handed = nothingHanded; after = s }
 
--- an answer, 0 or the refusal's number, with what was done; `cleared` says that the scratch map is all 0
+-- an answer, 0 or the refusal's number, with what was done; `cleared` says that the scratch map is all 0; `places-left` is Claim's places
+-- left, which the plain table does not know
 pub record Outcome : Type 0 where
   pub answer : ℕ
   pub work : Work
   pub cleared : Bool
+  pub places-left : ℕ
 
 -- the borrowed scratch map at the end: all 0 of the same length where it is cleared, else as it was
 unfoldable pub scratchAfter : (cleared : Bool) (scratch : List ℕ) → List ℕ

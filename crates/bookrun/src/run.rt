@@ -68,7 +68,18 @@ fn run_claim(
 ) -> bool {
     let mut script = [0u64; 50];
     let mut used = 0;
-    let number = reelbook_claim(image, map, heads, &mut script, head, reel, frame, &mut used);
+    let mut left = 0;
+    let number = reelbook_claim(
+        image,
+        map,
+        heads,
+        &mut script,
+        head,
+        reel,
+        frame,
+        &mut used,
+        &mut left,
+    );
     finish(image, &script, used, number)
 }
 

@@ -24,7 +24,7 @@ use reelbook::reelbook_recover;
 use reelbook::reelbook_remove;
 use reelbook::reelbook_retire;
 
-// What stands where a count is handed back, before it is.
+// What stands where a count is handed back, or the places left are, before they are.
 pub const NO_COUNT: u64 = 999;
 
 // Format, Recover, Carry out.
@@ -68,10 +68,11 @@ pub fn call_scripted(
     b: u64,
     c: u64,
     used: &mut u64,
+    left: &mut u64,
 ) -> u64 {
     match name {
         OPEN => reelbook_open(image, map, script, a, used),
-        CLAIM => reelbook_claim(image, map, heads, script, a, b, c, used),
+        CLAIM => reelbook_claim(image, map, heads, script, a, b, c, used, left),
         REMOVE => reelbook_remove(image, heads, script, a, b, used),
         RETIRE => reelbook_retire(image, map, heads, scratch, script, a, used),
         _ => call_head(name, image, heads, script, a, used),

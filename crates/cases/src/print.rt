@@ -18,6 +18,11 @@ pub fn counted(number: u64, count: u64) {
     words(&[number, count]);
 }
 
+// The same of a claim, and the places left.
+pub fn claimed(number: u64, count: u64, left: u64) {
+    words(&[number, count, left]);
+}
+
 // Nothing came out, or the line is mistaken: it cannot be read, or names a place that is not there.
 pub fn end(right: bool) {
     if right {

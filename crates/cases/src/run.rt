@@ -97,6 +97,7 @@ fn run_scripted(
     let mut step = first_step(command);
     let mut number = 0;
     let mut used = NO_COUNT;
+    let mut left = NO_COUNT;
     while step.left > 0 {
         number = call_scripted(
             step.name,
@@ -109,11 +110,20 @@ fn run_scripted(
             step.b,
             step.c,
             &mut used,
+            &mut left,
         );
         carry(image, script, used, held);
         step = step.next(number);
     }
-    print::counted(number, used);
+    tell(command.name, number, used, left);
+}
+
+// What came out of it: of a claim alone the places left too.
+fn tell(name: u64, number: u64, used: u64, left: u64) {
+    match name {
+        CLAIM => print::claimed(number, used, left),
+        _ => print::counted(number, used),
+    }
 }
 
 // An operation with its numbers, and how many there are from it on. Behind a claim come the fill and the commit, and behind

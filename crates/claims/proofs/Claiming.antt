@@ -23,14 +23,15 @@ use Rattle.tree.specs.declared.path.Room.{Room}
 use Rattle.tree.specs.declared.path.Room.the-variants.{Clear, ScaleUp, BranchOut}
 use Rattle.tree.specs.Fingerprint.{editionOne, ruleOf}
 use Rattle.tree.specs.Lookup.{pathFrom, lookup, lookupOn, find}
-use Rattle.tree.specs.Room.{roomOn, needs, atLevel31}
+use Rattle.tree.specs.Room.{roomOn, placesLeft, needs, atLevel31}
 use Rattle.tree.specs.Pool.{markAll}
 use Rattle.tree.proofs.Cases.{test}
 use Rattle.tree.proofs.Laws.{child-laws}
 use Rattle.tree.proofs.Memory.{segment-laws}
 use Rattle.paths.specs.declared.descent.Placement.{Placement}
 use Rattle.paths.specs.declared.descent.Placement.the-variants.{Malformed, Full, Held, Free}
-use Rattle.paths.specs.Answers.{onPath, placementOn, placementFrom}
+use Rattle.paths.specs.declared.descent.Vacancy.{Vacancy}
+use Rattle.paths.specs.Answers.{onPath, vacancy, placementOn, placementFrom}
 use Rattle.book.specs.declared.HeadState.{HeadState}
 use Rattle.book.specs.declared.HeadState.the-variants.{Idle, Claimed, Filled}
 use Rattle.book.specs.Heads.{isIdle}
@@ -61,17 +62,17 @@ needs-few (BranchOut parent d) = elim (test (ltb d 3)) [
 
 -- ---- what is found on the path
 
--- by the tests of the path, and the room on it
-abbrev pub Says : (bad held : Bool) → Room → Placement → Type 0
-Says bad held r Malformed = bad ≡ true
-Says bad held r Full = bad ≡ true
-Says bad held r Held = (bad ≡ false) × (held ≡ true)
-Says bad held r (Free room) = (bad ≡ false) × (held ≡ false) × (room ≡ r)
+-- by the tests of the path, and the room on it with the places left
+abbrev pub Says : (bad held : Bool) → Vacancy → Placement → Type 0
+Says bad held v Malformed = bad ≡ true
+Says bad held v Full = bad ≡ true
+Says bad held v Held = (bad ≡ false) × (held ≡ true)
+Says bad held v (Free v') = (bad ≡ false) × (held ≡ false) × (v' ≡ v)
 
-by-tests : (full held : Bool) (r : Room) → Says full held r (cond full Full (cond held Held (Free r)))
-by-tests true held r = refl
-by-tests false true r = (refl, refl)
-by-tests false false r = (refl, refl, refl)
+by-tests : (full held : Bool) (v : Vacancy) → Says full held v (cond full Full (cond held Held (Free v)))
+by-tests true held v = refl
+by-tests false true v = (refl, refl)
+by-tests false false v = (refl, refl, refl)
 
 module _ (g : Geometry) (m : Memory) (s f : ℕ) where
   -- 4 and 9
@@ -81,25 +82,28 @@ module _ (g : Geometry) (m : Memory) (s f : ℕ) where
   abbrev pub frameHeld : Bool
   frameHeld = isSome (find (ruleOf m) g m s f)
 
-  pub placement-says : (x : Placement) → x ≡ placementFrom g m s f → Says pathBad frameHeld (roomOn g m (pathFrom g m s f)) x
+  abbrev vacancyOn : Option (List ℕ) → Vacancy
+  vacancyOn o = let r = roomOn g m o in vacancy r (placesLeft g m r)
+
+  pub placement-says : (x : Placement) → x ≡ placementFrom g m s f → Says pathBad frameHeld (vacancyOn (pathFrom g m s f)) x
   unfolding placementFrom placementOn find ruleOf
   placement-says x e = rw e (on (pathFrom g m s f))
     where
       on : (o : Option (List ℕ))
-          → Says (holds (noPath o or is (atLevel31 (roomOn g m o)))) (isSome (lookupOn editionOne g m f o)) (roomOn g m o) (onPath Malformed (placementOn g m f) o)
+          → Says (holds (noPath o or is (atLevel31 (roomOn g m o)))) (isSome (lookupOn editionOne g m f o)) (vacancyOn o) (onPath Malformed (placementOn g m f) o)
       on none = refl
-      on (some ns) = by-tests (atLevel31 (roomOn g m (some ns))) (isSome (lookup editionOne g m f ns)) (roomOn g m (some ns))
+      on (some ns) = by-tests (atLevel31 (roomOn g m (some ns))) (isSome (lookup editionOne g m f ns)) (vacancyOn (some ns))
 
   -- the room's numbers are inside
-  room-fits : (room : Room) → Free room ≡ placementFrom g m s f → RoomInside g m room × (atLevel31 room ≡ false)
-  room-fits room e =
-      let p = placement-says (Free room) e in
+  room-fits : (v : Vacancy) → Free v ≡ placementFrom g m s f → RoomInside g m (v .room) × (atLevel31 (v .room) ≡ false)
+  room-fits v e =
+      let p = placement-says (Free v) e in
       let d = denies (noPath (pathFrom g m s f) or is (atLevel31 (roomOn g m (pathFrom g m s f)))) (p .0) in
       rw (p .2) (path-room g m s f (d .0), d .1)
 
-  module _ {room : Room} (e : Free room ≡ placementFrom g m s f) where
-    pub in-pool : (start : ℕ) → start + needs room ≤ g .nodes → InPool g room start
-    in-pool start l = go room (room-fits room e) l
+  module _ {v : Vacancy} (e : Free v ≡ placementFrom g m s f) where
+    pub in-pool : (start : ℕ) → start + needs (v .room) ≤ g .nodes → InPool g (v .room) start
+    in-pool start l = go (v .room) (room-fits v e) l
       where
         go : (r : Room) → RoomInside g m r × (atLevel31 r ≡ false) → start + needs r ≤ g .nodes → InPool g r start
         go (Clear t) p l = tt
@@ -107,8 +111,8 @@ module _ (g : Geometry) (m : Memory) (s f : ℕ) where
         go (BranchOut parent d) p l = (p .0 .0, omega (arith, p .0 .1, eqb-false d 31 (p .1)), l)
 
     -- a branch-out's last node is above level 31
-    pub deep-room : depthOf room < 31
-    deep-room = go room (room-fits room e)
+    pub deep-room : depthOf (v .room) < 31
+    deep-room = go (v .room) (room-fits v e)
       where
         go : (r : Room) → RoomInside g m r × (atLevel31 r ≡ false) → depthOf r < 31
         go (Clear t) p = omega arith
@@ -116,12 +120,12 @@ module _ (g : Geometry) (m : Memory) (s f : ℕ) where
         go (BranchOut parent d) p = omega (arith, p .0 .1, eqb-false d 31 (p .1))
 
     -- a branch-out takes nodes
-    pub takes-nodes : (parent d : ℕ) → room ≡ BranchOut parent d → 0 < fanout d
-    takes-nodes parent d q = let p = rw q at (room-fits room e) in fanout-few d (omega (arith, eqb-false d 31 (p .1))) .0
+    pub takes-nodes : (parent d : ℕ) → v .room ≡ BranchOut parent d → 0 < fanout d
+    takes-nodes parent d q = let p = rw q at (room-fits v e) in fanout-few d (omega (arith, eqb-false d 31 (p .1))) .0
 
     -- the place that it takes is inside
-    pub place-fits : (start : ℕ) → start + needs room ≤ g .nodes → (placeIn room start f .node < g .nodes) × (placeIn room start f .place < 64)
-    place-fits start l = go room (room-fits room e) l
+    pub place-fits : (start : ℕ) → start + needs (v .room) ≤ g .nodes → (placeIn (v .room) start f .node < g .nodes) × (placeIn (v .room) start f .place < 64)
+    place-fits start l = go (v .room) (room-fits v e) l
       where
         go : (r : Room) → RoomInside g m r × (atLevel31 r ≡ false) → start + needs r ≤ g .nodes
             → (placeIn r start f .node < g .nodes) × (placeIn r start f .place < 64)

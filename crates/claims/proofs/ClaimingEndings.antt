@@ -18,14 +18,15 @@ use Rattle.tree.specs.Path.{fanout}
 use Rattle.tree.specs.Slots.{slotOf}
 use Rattle.tree.specs.Fingerprint.{ruleOf}
 use Rattle.tree.specs.Lookup.{spot, pathFrom, find, isFreeRun, freeRun}
-use Rattle.tree.specs.Room.{roomOn, needs, atLevel31}
+use Rattle.tree.specs.Room.{roomOn, placesLeft, needs, atLevel31}
 use Rattle.tree.specs.Pool.{markAll}
 use Rattle.tree.specs.Subtree.{listed}
 use Rattle.tree.proofs.Cases.{test}
 use Rattle.tree.proofs.Memory.{first-laws}
 use Rattle.paths.specs.declared.descent.Placement.{Placement}
 use Rattle.paths.specs.declared.descent.Placement.the-variants.{Malformed, Full, Held, Free}
-use Rattle.paths.specs.Answers.{placementFrom}
+use Rattle.paths.specs.declared.descent.Vacancy.{Vacancy}
+use Rattle.paths.specs.Answers.{vacancy, placementFrom}
 use Rattle.book.specs.declared.Target.{Target}
 use Rattle.book.specs.declared.Head.{Head}
 use Rattle.book.specs.declared.HeadState.the-variants.{Claimed}
@@ -33,7 +34,7 @@ use Rattle.book.specs.Heads.{headCount, headAt, isIdle, anyHead, conflicts, wit
 use Rattle.book.specs.Refusals.{Refusal, _gives_, refusal}
 use Rattle.book.specs.State.{Operation, State, claim, Work, scratchAfter}
 use Rattle.book.specs.Checks.{noPath, targetIn, noRunFor, inConflict, refusals}
-use Rattle.book.specs.Perform.{roomScript, claimScript, taken, writing, granted, leaves, clears}
+use Rattle.book.specs.Perform.{roomScript, claimScript, taken, writing, granted, leaves, clears, leftBy}
 use Rattle.book.proofs.Refusals.{Named, denies, passes, passed-all, refused-here, refused-later}
 use Rattle.book.proofs.Inside.{run-inside}
 use Rattle.operations.specs.declared.checks.Buffer.the-variants.{Absent, Words}
@@ -43,7 +44,7 @@ use Rattle.operations.specs.declared.checks.Verdict.{Verdict}
 use Rattle.operations.specs.declared.checks.Verdict.the-variants as verdict
 use Rattle.operations.specs.declared.answer.Refusal as enums
 use Rattle.operations.specs.Answers.{numberOf}
-use Rattle.operations.specs.Ends.{Buffers, buffers, state, ended, found, ends}
+use Rattle.operations.specs.Ends.{Buffers, buffers, state, endedLeft, ended, found, ends}
 use Rattle.operations.proofs.Endings.{refused, done}
 use Rattle.operations.proofs.Passed.{same-checks, buffersBad, past-checks, OpenChecked, ended-early}
 use Rattle.operations.proofs.HeadRecords.{state-read, any-read}
@@ -209,17 +210,23 @@ module _ (im pool script ws : List ℕ) (h reel f : ℕ) where
         let s = placement-says g (reads im) slot f Held (sym q ∙ e) in
         ends-with 9 (p .later ∙ refused-later _ _ (s .0) ∙ refused-here _ _ (s .1)) (omega arith)
 
-    module _ (room : Room) (q : x ≡ Free room) (start : ℕ) (start-is : start ≡ cond (ltb 0 (needs room)) (freeRun g (reads pool) (needs room)) 0) where
-      is-free : Free room ≡ placementFrom g (reads im) slot f
+    module _ (v : Vacancy) (q : x ≡ Free v) (start : ℕ) (start-is : start ≡ cond (ltb 0 (needs (v .room))) (freeRun g (reads pool) (needs (v .room))) 0) where
+      abbrev room : Room
+      room = v .room
+
+      is-free : Free v ≡ placementFrom g (reads im) slot f
       is-free = sym q ∙ e
 
+      vacancy-is : v ≡ vacancy (roomIn g slot) (placesLeft g (reads im) (roomIn g slot))
+      vacancy-is = placement-says g (reads im) slot f (Free v) is-free .2
+
       room-is : room ≡ roomIn g slot
-      room-is = placement-says g (reads im) slot f (Free room) is-free .2
+      room-is = ap (λ x. x .room) vacancy-is
 
       -- 13 and 8 are left
       last-tests : refusal (refusals op begun) ≡ refusal ((inConflict g (reads pool) ws slot room f gives 13) ∷ (noRunFor g (reads pool) room gives 8) ∷ [])
       last-tests =
-          let s = placement-says g (reads im) slot f (Free room) is-free in
+          let s = placement-says g (reads im) slot f (Free v) is-free in
           p .later ∙ refused-later _ _ (s .0) ∙ refused-later _ _ (s .1) ∙ rw room-is refl
 
       -- the run is missing exactly if the code's start is no node
@@ -266,11 +273,14 @@ module _ (im pool script ws : List ℕ) (h reel f : ℕ) where
             let all : granted op begun ≡ workFrom (freeRun g (reads pool) (needs room)) room = rw (room-is, p .slot-is, p .checked .geometry) refl in
             rw start-is (all ∙ same-start room (freeRun g (reads pool) (needs room)) (takes-nodes g (reads im) slot f is-free) .0)
 
+        left-is : leftBy op begun ≡ v .left
+        left-is = rw (vacancy-is, p .slot-is, p .checked .geometry) refl
+
         pub claimed : met ≡ false → start < g .nodes → (pool' script' : List ℕ) (words : ℕ)
             → Taken g (reads im) room start (spot (target .node) (target .place)) pool pool' script script' words
-            → ended 0 words (state im pool' (withHead ws h (Claimed target))) (buffers [] script' []) ≡ ends op begun borrowed
+            → endedLeft 0 words (v .left) (state im pool' (withHead ws h (Claimed target))) (buffers [] script' []) ≡ ends op begun borrowed
         unfolding found clears scratchAfter listed claimScript
         claimed e l pool' script' words took =
             let none = last-tests ∙ refused-later _ _ (sym told ∙ e) ∙ refused-later _ _ (run-test ∙ lt-leb (g .nodes) start l) ∙ passed-all [] tt in
             let t = rw target-is at took in
-            rw (target-is, t .0, t .1, t .2) (sym (done op begun borrowed none ∙ rw work-is refl))
+            rw (target-is, t .0, t .1, t .2) (sym (done op begun borrowed none ∙ rw (work-is, left-is) refl))

@@ -20,9 +20,9 @@ ghost use Rattle.book.specs.Refusals.{refusal, _gives_};
 ghost use Rattle.book.specs.Checks.{targetIn};
 ghost use Rattle.book.specs.Perform.{locateThen, claimScript, taken};
 ghost use Rattle.book.specs.State.{claim};
-ghost use Rattle.operations.specs.declared.answer.HeadAnswer.the-variants.{Done};
+ghost use Rattle.operations.specs.declared.answer.HeadAnswer.the-variants.{Done, Refused};
 ghost use Rattle.operations.specs.HeadLists.{headsIn, stateIn, headAnswerOf, headCountOf, headsAfter};
-ghost use Rattle.operations.specs.Ends.{buffers, state, ended, ends};
+ghost use Rattle.operations.specs.Ends.{buffers, state, endedLeft, ends};
 ghost use Rattle.claims.specs.Admissions.{admissionNumber};
 ghost use Rattle.claims.specs.Rooms.{depthOf, RoomFits, RoomMade, Taken};
 use crate::conflicts::has_conflict;
@@ -220,6 +220,21 @@ fn take_room(
     words + 4
 }
 
+// Claim's answer carries the places left through; a refusal has none to tell of.
+pub struct ClaimAnswer {
+    pub answer: HeadAnswer,
+    pub left: u64,
+}
+
+fn refused(why: Refusal) -> ClaimAnswer
+    ensures { λ r. ⌜ r ≡ record { answer = Refused why; left = 0 } ⌝ }
+{
+    ClaimAnswer {
+        answer: HeadAnswer::Refused(why),
+        left: 0,
+    }
+}
+
 // Claim a place for a frame: the first clear one on its path, or one of a node scaled up or made anew.
 pub fn claim(
     image: &[u64],
@@ -229,12 +244,13 @@ pub fn claim(
     head: u64,
     reel: u64,
     frame: u64,
-) -> HeadAnswer
+) -> ClaimAnswer
     ensures { λ r. ⌜
         ((ws : List ℕ)
         → headsIn ws ≡ heads
-        → ended (headAnswerOf r) (headCountOf r)
-        (state (now (image .entry)) (now (pool .exit)) (headsAfter ws head r)) (buffers [] (now (script .exit)) [])
+        → endedLeft (headAnswerOf (r .answer)) (headCountOf (r .answer)) (r .left)
+        (state (now (image .entry)) (now (pool .exit)) (headsAfter ws head (r .answer)))
+        (buffers [] (now (script .exit)) [])
         ≡ ends (claim (length (now (pool .entry))) (length (now (script .entry))) head reel frame)
         (state (now (image .entry)) (now (pool .entry)) ws) (buffers [] (now (script .entry)) []))
         ⌝ }
@@ -246,30 +262,34 @@ pub fn claim(
         Buffer::Words(script.len()),
     ) {
         Verdict::Passed(g) => g,
-        Verdict::Refused(why) => return HeadAnswer::Refused(why),
+        Verdict::Refused(why) => return refused(why),
     };
     let slot = slot_of(image, g, reel);
     if let Admission::Refused(why) = admit(heads, head, g, slot) {
-        return HeadAnswer::Refused(why);
+        return refused(why);
     }
-    let room = match room_for(image, g, slot, frame) {
-        Placement::Malformed => return HeadAnswer::Refused(Refusal::Malformed),
-        Placement::Full => return HeadAnswer::Refused(Refusal::Malformed),
-        Placement::Held => return HeadAnswer::Refused(Refusal::FrameHeld),
-        Placement::Free(room) => room,
+    let vacancy = match room_for(image, g, slot, frame) {
+        Placement::Malformed => return refused(Refusal::Malformed),
+        Placement::Full => return refused(Refusal::Malformed),
+        Placement::Held => return refused(Refusal::FrameHeld),
+        Placement::Free(vacancy) => vacancy,
     };
+    let room = vacancy.room;
     let start = run_for(pool, g, room);
     let target = target_in(slot, room, start, frame);
     if has_conflict(heads, target, start < g.nodes) {
-        return HeadAnswer::Refused(Refusal::Busy);
+        return refused(Refusal::Busy);
     }
     if g.nodes <= start {
-        return HeadAnswer::Refused(Refusal::NoRun);
+        return refused(Refusal::NoRun);
     }
     let t = Spot {
         node: target.node as usize,
         place: target.place as usize,
     };
     let words = take_room(image, pool, script, g, room, start, t);
-    HeadAnswer::Done(words as u64, HeadState::Claimed(target))
+    ClaimAnswer {
+        answer: HeadAnswer::Done(words as u64, HeadState::Claimed(target)),
+        left: vacancy.left,
+    }
 }

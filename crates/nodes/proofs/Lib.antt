@@ -1,3 +1,4 @@
 pub mod NodeCode
+pub mod ClearPlaces
 pub mod Places
 pub mod ReelCode

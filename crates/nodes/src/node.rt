@@ -4,11 +4,12 @@ ghost use Prim.Native.Nat.{_+_, _-_, _^_, _≤_, _<_};
 ghost use lib.ListN.{length};
 ghost use Rattle.memory.specs.Words.{reads};
 ghost use Rattle.tree.specs.Test.{lt, le, eq, _and_, _or_, holds};
-ghost use Rattle.tree.specs.Layout.{Sized, sizeAt};
+ghost use Rattle.tree.specs.Layout.{Sized, locateAt, sizeAt};
 ghost use Rattle.tree.specs.Path.{fanout};
 ghost use Rattle.tree.specs.Node.{wellFormed};
-ghost use Rattle.tree.specs.Lookup.{clearAt};
+ghost use Rattle.tree.specs.Room.{clearPlace};
 use memory::search::lowest_clear;
+use memory::words::with_bit;
 use tree::layout::Geometry;
 use tree::layout::LEVEL;
 use tree::layout::LOCATE;
@@ -16,6 +17,7 @@ use tree::layout::SET;
 use tree::layout::SIZE;
 use tree::layout::next_of;
 use tree::layout::word_of;
+use tree::path::ClearPlace;
 use tree::path::fanout;
 
 // A root of size 16 or 32, with no bit at or above its size in either bitmap, and no children.
@@ -75,11 +77,26 @@ pub fn well_formed(image: &[u64], g: Geometry, depth: u64, n: usize) -> bool
     children_inside(nodes, depth, next)
 }
 
-// The lowest clear place of a node of the pool: its locate bit is 0. Its size where there is none.
-pub fn clear_place(image: &[u64], g: Geometry, n: usize) -> usize
-    requires { ⌜ Sized (now image) g × (n < g .nodes) × (reads (now image) (sizeAt g n) ≤ 64) ⌝ }
-    ensures { λ r. ⌜ r ≡ clearAt g (reads (now (image .entry))) n ⌝ }
+// The search for a place in a node: the lowest whose locate bit is 0, and the places left, its size minus the ones of the
+// locate word as it will be.
+pub fn clear_place(image: &[u64], g: Geometry, n: usize) -> ClearPlace
+    requires { ⌜
+        Sized (now image) g
+        × (n < g .nodes)
+        × (reads (now image) (sizeAt g n) ≤ 64)
+        × (reads (now image) (locateAt g n) < 2 ^ reads (now image) (sizeAt g n))
+        ⌝ }
+    ensures { λ r. ⌜ r ≡ clearPlace g (reads (now (image .entry))) n ⌝ }
 {
     let size = word_of(image, g, n, SIZE) as u32;
-    lowest_clear(word_of(image, g, n, LOCATE), size) as usize
+    let locate = word_of(image, g, n, LOCATE);
+    let place = lowest_clear(locate, size);
+    if size <= place {
+        return ClearPlace::None;
+    }
+    let left = size - u64::count_ones(with_bit(locate, place));
+    ClearPlace::At {
+        place: place as usize,
+        left: left as usize,
+    }
 }

@@ -20,7 +20,7 @@ use Rattle.tree.proofs.Cases.{test}
 use Rattle.book.specs.Refusals.{refusal}
 use Rattle.book.specs.State.{State, Operation, format, recover, openReel, claim, fill, commit, abandon, remove, retire, query, has, list, Work, scratchAfter}
 use Rattle.book.specs.Checks.{refusals}
-use Rattle.book.specs.Perform.{granted, leaves, clears, perform}
+use Rattle.book.specs.Perform.{granted, leaves, clears, leftBy, perform}
 use Rattle.book.specs.CarryOut.{carry}
 use Rattle.book.specs.Table.{Table, emptyTable, tableWork, reply}
 use Rattle.book.specs.Demands.{Leaves, as-before, map-cleared}
@@ -49,7 +49,7 @@ none-carried m =
     ap (λ o. o .image) (rw (segment-laws .none-encoded) at (script-laws .carried-out m (segmented []) (none-inside (length m)))) ∙ segment-laws .apply-none m
 
 abbrev answering : Operation → State → Buffers → Ends
-answering op s b = found op (record { answer = 0; work = granted op s; cleared = clears op 0 }) b
+answering op s b = found op (record { answer = 0; work = granted op s; cleared = clears op 0; places-left = leftBy op s }) b
 
 -- words, value and frames of an operation's work are handed over
 abbrev HandsOver : Operation → Work → Ends → Type 0
@@ -86,6 +86,10 @@ module _ (op : Operation) (s : State) (b : Buffers) where
   unfolding ends found
   after-ends = refl
 
+  left-ends : ends op s b .places-left ≡ perform op s .places-left
+  unfolding ends found
+  left-ends = refl
+
 -- ---- answered
 
 module _ (op : Operation) (s : State) (b : Buffers) (h : perform op s .answer ≡ 0) where
@@ -103,6 +107,7 @@ module _ (op : Operation) (s : State) (b : Buffers) (h : perform op s .answer �
         carried-out = rw (hands-over .0, after-ends op s b) (good .carried-out h);
         pool = ap (λ (x : State). x .pool) (after-ends op s b);
         heads = ap (λ (x : State). x .heads) (after-ends op s b);
+        places-left = left-ends op s b;
       }
 
 -- ---- refused
@@ -121,6 +126,7 @@ module _ (op : Operation) (s : State) (b : Buffers) (h : perform op s .answer �
       let d = demand1 .refused op s h in
       record {
         count = refused-count s b (d .left) (ap (λ (w : Work). w .after) (work-refused op s h)) (sym (answer-is op s)) h;
+        places-left = d .places-left;
         script = rw (d .no-store) (segment-laws .none-written (b .script));
         list = rw (d .none-handed) refl;
         after = rw (d .no-store) (ap (λ (im : List ℕ). state im (perform op s .work .after .pool) (perform op s .work .after .heads))

@@ -10,8 +10,8 @@ use Rattle.tree.proofs.Memory.{segment-laws}
 use Rattle.book.specs.Refusals.{refusal}
 use Rattle.book.specs.State.{State, Operation, format, recover, openReel, claim, fill, commit, abandon, remove, retire, query, leaving, Outcome, scratchAfter}
 use Rattle.book.specs.Checks.{refusals}
-use Rattle.book.specs.Perform.{granted, leaves, clears, perform}
-use Rattle.operations.specs.Ends.{Buffers, buffers, ended, countIn, found, ends}
+use Rattle.book.specs.Perform.{granted, leaves, clears, leftBy, perform}
+use Rattle.operations.specs.Ends.{Buffers, buffers, endedLeft, ended, countIn, found, ends}
 use Rattle.operations.proofs.ScriptWords.{words-of}
 
 -- nothing is handed back where there is no script and no value
@@ -29,15 +29,16 @@ none-handed (query q) s = refl
 
 -- where there is no script its buffer stays
 pub no-script : (op : Operation) (o : Outcome) (b : Buffers) → o .work .script ≡ []
-    → found op o b ≡ ended (o .answer) (countIn op (o .work)) (o .work .after) (buffers (scratchAfter (o .cleared) (b .scratch)) (b .script) (listed (o .work .handed .listing) (b .list)))
+    → found op o b
+    ≡ endedLeft (o .answer) (countIn op (o .work)) (o .places-left) (o .work .after) (buffers (scratchAfter (o .cleared) (b .scratch)) (b .script) (listed (o .work .handed .listing) (b .list)))
 unfolding found
 no-script op o b e =
-    ap (λ ws. ended (o .answer) (countIn op (o .work)) (o .work .after) (buffers (scratchAfter (o .cleared) (b .scratch)) ws (listed (o .work .handed .listing) (b .list))))
+    ap (λ ws. endedLeft (o .answer) (countIn op (o .work)) (o .places-left) (o .work .after) (buffers (scratchAfter (o .cleared) (b .scratch)) ws (listed (o .work .handed .listing) (b .list))))
     (ap (λ (segs : List (List Store)). written (segmented segs) (b .script)) e ∙ segment-laws .none-written (b .script))
 
 module _ (op : Operation) (s : State) (b : Buffers) where
   pub refused-with : (n : ℕ) → refusal (refusals op s) ≡ n → n ≢ 0
-      → ends op s b ≡ found op (record { answer = n; work = leaving (leaves op s n); cleared = clears op n }) b
+      → ends op s b ≡ found op (record { answer = n; work = leaving (leaves op s n); cleared = clears op n; places-left = 0 }) b
   unfolding ends perform
   refused-with n e z = rw (e, ne-eqb n 0 z)
 
@@ -47,6 +48,6 @@ module _ (op : Operation) (s : State) (b : Buffers) where
   unfolding listed
   refused n e z l = refused-with n e z ∙ no-script op _ b refl ∙ rw (l, none-handed op s) refl
 
-  pub done : refusal (refusals op s) ≡ 0 → ends op s b ≡ found op (record { answer = 0; work = granted op s; cleared = clears op 0 }) b
+  pub done : refusal (refusals op s) ≡ 0 → ends op s b ≡ found op (record { answer = 0; work = granted op s; cleared = clears op 0; places-left = leftBy op s }) b
   unfolding ends perform
   done e = rw e refl

@@ -17,7 +17,7 @@ use Rattle.tree.proofs.Laws.{slot-laws}
 use Rattle.book.specs.Refusals.{Refusal, _gives_, refusal}
 use Rattle.book.specs.State.{Operation, State, scratchAfter}
 use Rattle.book.specs.Checks.{checked, refusals}
-use Rattle.book.specs.Perform.{granted, leaves, pastChecks, clears}
+use Rattle.book.specs.Perform.{granted, leaves, pastChecks, clears, leftBy}
 use Rattle.book.proofs.Refusals.{refused-here, refused-later}
 use Rattle.operations.specs.declared.checks.Verdict.{Verdict}
 use Rattle.operations.specs.declared.checks.Verdict.the-variants.{Refused}
@@ -54,7 +54,7 @@ module _ {op : Operation} {s : State} {map scratch script : Option (List ℕ)} {
         let past : pastChecks n ≡ true = rw (ne-eqb n 0 (λ q. omega arith), lt-ltb 3 n l) refl in
         sym (refused op s b n (later ∙ e) (λ q. omega arith) (o .leaves-all n) ∙ rw (o .clears-past n past) refl)
 
-    pub done-past : refusal (rest g) ≡ 0 → ends op s b ≡ found op (record { answer = 0; work = granted op s; cleared = cleared }) b
+    pub done-past : refusal (rest g) ≡ 0 → ends op s b ≡ found op (record { answer = 0; work = granted op s; cleared = cleared; places-left = leftBy op s }) b
     done-past e = done op s b (later ∙ e) ∙ rw (o .clears-past 0 refl) refl
 
 -- ---- an operation on a reel
@@ -93,5 +93,5 @@ module _ {op : Operation} {s : State} {map scratch script : Option (List ℕ)} {
     pub rest-bad : (n : ℕ) → refusal (rest g slot) ≡ n → 3 < n → ended n 0 s (leftAs cleared b) ≡ ends op s b
     rest-bad n e = refused-past (o .tested) b (p .checked) n (has-reel ∙ e)
 
-    pub rest-done : refusal (rest g slot) ≡ 0 → ends op s b ≡ found op (record { answer = 0; work = granted op s; cleared = cleared }) b
+    pub rest-done : refusal (rest g slot) ≡ 0 → ends op s b ≡ found op (record { answer = 0; work = granted op s; cleared = cleared; places-left = leftBy op s }) b
     rest-done e = done-past (o .tested) b (p .checked) (has-reel ∙ e)

@@ -75,9 +75,12 @@ pub record Answered (op : Operation) (s : State) (e : Ends) : Type 0 where
   pub carried-out : carry (e .after .image) (wordsIn (counted op) e) ≡ carried 0 (done op s .image)
   pub pool : e .after .pool ≡ done op s .pool
   pub heads : e .after .heads ≡ done op s .heads
+  -- of places left the driver is told what `PlacesLeft` (book, specs) says of that image and these heads
+  pub places-left : e .places-left ≡ perform op s .places-left
 
 pub record Refused (op : Operation) (s : State) (b : Buffers) (e : Ends) : Type 0 where
   pub count : e .count ≡ 0
+  pub places-left : e .places-left ≡ 0
   pub script : e .buffers .script ≡ b .script
   pub list : e .buffers .list ≡ b .list
   pub after : e .after ≡ done op s

@@ -1,4 +1,4 @@
--- What the driver finds when an operation has ended: its answer, the count handed back, and every buffer.
+-- What the driver finds when an operation has ended: its answer, the count and the places left handed back, and every buffer.
 use mathlib.Core.List.{List, []}
 use Prim.Native.Nat.{ℕ, _*_}
 use lib.ListN.{length}
@@ -25,11 +25,16 @@ state image pool heads = record { image = image; pool = pool; heads = heads }
 pub record Ends : Type 0 where
   pub answer : ℕ
   pub count : ℕ
+  pub places-left : ℕ
   pub after : State
   pub buffers : Buffers
 
+abbrev pub endedLeft : (answer count places-left : ℕ) → State → Buffers → Ends
+endedLeft answer count left after b = record { answer = answer; count = count; places-left = left; after = after; buffers = b }
+
+-- with no places left to tell of: every operation but Claim
 abbrev pub ended : (answer count : ℕ) → State → Buffers → Ends
-ended answer count after b = record { answer = answer; count = count; after = after; buffers = b }
+ended answer count after b = endedLeft answer count 0 after b
 
 -- the count handed back: Has's yes or no, List's frames, else the script's words
 abbrev pub countIn : Operation → Work → ℕ
@@ -47,7 +52,7 @@ countIn (retire map scratch script reel) w = 2 * length (segmented (w .script))
 -- an outcome, as the driver finds it: the script written at its buffer's start, the frames at the list's
 unfoldable pub found : Operation → Outcome → Buffers → Ends
 found op o b =
-    ended (o .answer) (countIn op (o .work)) (o .work .after)
+    endedLeft (o .answer) (countIn op (o .work)) (o .places-left) (o .work .after)
     (buffers (scratchAfter (o .cleared) (b .scratch)) (written (segmented (o .work .script)) (b .script)) (listed (o .work .handed .listing) (b .list)))
 
 unfoldable pub ends : Operation → State → Buffers → Ends

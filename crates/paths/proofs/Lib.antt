@@ -1,3 +1,4 @@
 pub mod PathSteps
+pub mod ClearSteps
 pub mod RoomSteps
 pub mod Trails

@@ -26,7 +26,7 @@ use Rattle.paths.specs.declared.descent.Step.the-variants.{End, Down}
 use Rattle.paths.specs.declared.descent.Found.{Found}
 use Rattle.paths.specs.declared.descent.Found.the-variants.{Malformed, Absent, At}
 use Rattle.paths.specs.Answers.{onPath, foundAs, foundFrom}
-use Rattle.paths.specs.Descent.{stepFrom, numbered, orElse, passed, Along}
+use Rattle.paths.specs.Descent.{stepFrom, numbered, orElse, passed, Along, clearIf}
 
 -- a well-formed node is inside the pool, and so is the child to which a frame goes
 module _ (g : Geometry) (m : Memory) (d n : ℕ) (h : wellFormed g m d n ≡ true) where
@@ -116,11 +116,11 @@ module _ {g : Geometry} {m : Memory} {e₀ s f : ℕ} {ns : List ℕ} {d n : ℕ
 
 -- ---- what was seen, as a number
 
-number-none : numbered 0 ≡ none
+pub number-none : numbered 0 ≡ none
 unfolding numbered
 number-none = refl
 
-number-spot : (n p : ℕ) → p < 64 → numbered (64 * n + p + 1) ≡ some (spot n p)
+pub number-spot : (n p : ℕ) → p < 64 → numbered (64 * n + p + 1) ≡ some (spot n p)
 unfolding numbered
 number-spot n p h =
     let node : (64 * n + p + 1 - 1) / 64 ≡ n = omega arith in
@@ -149,9 +149,18 @@ module _ (g : Geometry) (m : Memory) where
   unfolding lookup
   lookups f = record { is = λ ns. refl }
 
-  pub clears : Searches (clearSpot g m) (clearAt g m) (λ n. m (sizeAt g n))
-  unfolding clearSpot
-  clears = record { is = λ ns. refl }
+  -- a walk that seeks no clear place has no bound for it
+  abbrev pub boundIf : Bool → ℕ → ℕ
+  boundIf seek n = cond seek (m (sizeAt g n)) 0
+
+  pub clears : (seek : Bool) → Searches (clearIf g m seek) (clearAt g m) (boundIf seek)
+  unfolding clearIf clearSpot firstSpot
+  clears true = record { is = λ ns. refl }
+  clears false = record { is = nowhere }
+    where
+      nowhere : (ns : List ℕ) → none ≡ firstSpot (clearAt g m) (boundIf false) ns
+      nowhere [] = refl
+      nowhere (n ∷ ns) = rw (le-ltb (clearAt g m n) 0 (omega arith)) (nowhere ns)
 
 module _ {found : List ℕ → Option Spot} {search bound : ℕ → ℕ} (w : Searches found search bound) where
   -- the node's own place, or none, unless one was found before it

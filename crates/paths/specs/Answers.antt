@@ -10,9 +10,10 @@ use Rattle.tree.specs.declared.path.Spot.{Spot}
 use Rattle.tree.specs.declared.path.Room.{Room}
 use Rattle.tree.specs.Fingerprint.{editionOne}
 use Rattle.tree.specs.Lookup.{pathFrom, lookup}
-use Rattle.tree.specs.Room.{roomOn, atLevel31}
+use Rattle.tree.specs.Room.{roomOn, placesLeft, atLevel31}
 use Rattle.paths.specs.declared.descent.Found.{Found}
 use Rattle.paths.specs.declared.descent.Found.the-variants as found
+use Rattle.paths.specs.declared.descent.Vacancy.{Vacancy}
 use Rattle.paths.specs.declared.descent.Placement.{Placement}
 use Rattle.paths.specs.declared.descent.Placement.the-variants as placement
 
@@ -29,13 +30,17 @@ foundAs (some t) = found.At t
 unfoldable pub foundFrom : Geometry → Memory → (slot frame : ℕ) → Found
 foundFrom g m s f = onPath found.Malformed (λ ns. foundAs (lookup editionOne g m f ns)) (pathFrom g m s f)
 
+-- a room, with the places left in its node once the place is taken
+abbrev pub vacancy : Room → (left : ℕ) → Vacancy
+vacancy r n = record { room = r; left = n }
+
 -- what a claim finds, by the room on a frame's path and what the lookup finds there: full to the end at level 31, or the frame
 -- held, or room
-abbrev pub placementAs : Room → (found : Option Spot) → Placement
-placementAs r found = cond (atLevel31 r) placement.Full (cond (isSome found) placement.Held (placement.Free r))
+abbrev pub placementAs : Vacancy → (found : Option Spot) → Placement
+placementAs v found = cond (atLevel31 (v .room)) placement.Full (cond (isSome found) placement.Held (placement.Free v))
 
 unfoldable pub placementOn : Geometry → Memory → (frame : ℕ) → List ℕ → Placement
-placementOn g m f ns = placementAs (roomOn g m (some ns)) (lookup editionOne g m f ns)
+placementOn g m f ns = let r = roomOn g m (some ns) in placementAs (vacancy r (placesLeft g m r)) (lookup editionOne g m f ns)
 
 unfoldable pub placementFrom : Geometry → Memory → (slot frame : ℕ) → Placement
 placementFrom g m s f = onPath placement.Malformed (placementOn g m f) (pathFrom g m s f)

@@ -2,16 +2,17 @@
 ghost use mathlib.Core.Path.{_≡_};
 ghost use mathlib.Core.Bool.{true};
 ghost use mathlib.Core.List.{[], _∷_};
-ghost use Prim.Native.Nat.{_<_, _≤_};
+ghost use Prim.Native.Nat.{_^_, _/_, _<_, _≤_};
 ghost use Rattle.memory.specs.Words.{reads};
-ghost use Rattle.tree.specs.Layout.{Sized, sizeAt};
+ghost use Rattle.tree.specs.Layout.{Sized, locateAt, sizeAt};
 ghost use Rattle.tree.specs.Fingerprint.{editionOne, fingerprint};
 ghost use Rattle.tree.specs.Node.{wellFormed};
 ghost use Rattle.tree.specs.Slots.{Filled, rootOf};
-ghost use Rattle.tree.specs.Lookup.{lookup, clearSpot};
+ghost use Rattle.tree.specs.Lookup.{lookup};
 ghost use Rattle.tree.specs.Room.{atLevel31};
 ghost use Rattle.paths.specs.Answers.{foundAs, foundFrom, placementAs, placementFrom};
-ghost use Rattle.paths.specs.Descent.{stepFrom, spotOf, numbered, orElse, trailFrom, roomAt};
+ghost use Rattle.paths.specs.Descent.{stepFrom, spotOf, numbered, TellsLeft, orElse, clearIf, trailFrom};
+ghost use Rattle.paths.specs.Descent.{roomAt, vacancyIn};
 use nodes::fingerprint::fingerprint;
 use nodes::node::clear_place;
 use nodes::node::well_formed;
@@ -21,6 +22,7 @@ use tree::layout::SIZE;
 use tree::layout::next_of;
 use tree::layout::root_of;
 use tree::layout::word_of;
+use tree::path::ClearPlace;
 use tree::path::Room;
 use tree::path::Spot;
 use tree::path::child;
@@ -43,13 +45,21 @@ pub enum Seen {
 pub enum Trail {
     // A node of the path is malformed.
     Malformed,
-    // At the path's last node, with its level. The first place that holds the frame, and the first clear one.
+    // At the path's last node, with its level. The first place that holds the frame, and the first clear one if it was sought.
     Ended {
         node: usize,
         level: u64,
         found: Seen,
         clear: Seen,
+        // How many clear places the node of the clear one has left once that is taken; 0 where there is none.
+        left: usize,
     },
+}
+
+// Room for a frame, and how many clear places its node has left once the place is taken.
+pub struct Vacancy {
+    pub room: Room,
+    pub left: u64,
 }
 
 // What a claim finds on a frame's path.
@@ -60,7 +70,7 @@ pub enum Placement {
     Full,
     // The frame is held already.
     Held,
-    Free(Room),
+    Free(Vacancy),
 }
 
 // How a frame's path goes on from a node.
@@ -113,27 +123,46 @@ fn found_on(image: &[u64], g: Geometry, n: usize, frame: u64, print: u64, found:
     0
 }
 
-// What was clear so far, or else the lowest clear place of a node.
-fn clear_on(image: &[u64], g: Geometry, n: usize, clear: usize) -> usize
-    requires { ⌜ Sized (now image) g × (n < g .nodes) × (reads (now image) (sizeAt g n) ≤ 64) ⌝ }
-    ensures { λ r. ⌜ numbered r ≡ orElse (numbered clear) (clearSpot g (reads (now (image .entry))) (n ∷ [])) ⌝ }
+// What was clear so far, or else the lowest clear place of a node, where one is sought. The number has the places left in
+// its low six bits.
+fn clear_on(image: &[u64], g: Geometry, n: usize, seek: bool, clear: usize) -> usize
+    requires { ⌜
+        Sized (now image) g
+        × (n < g .nodes)
+        × (reads (now image) (sizeAt g n) ≤ 64)
+        × (reads (now image) (locateAt g n) < 2 ^ reads (now image) (sizeAt g n))
+        × TellsLeft g (reads (now image)) clear
+        ⌝ }
+    ensures { λ r. ⌜
+        (numbered (r / 64) ≡ orElse (numbered (clear / 64)) (clearIf g (reads (now (image .entry))) seek (n ∷ [])))
+        × TellsLeft g (reads (now (image .entry))) r
+        ⌝ }
 {
+    if !seek {
+        return clear;
+    }
     if clear != 0 {
         return clear;
     }
-    let size = word_of(image, g, n, SIZE) as usize;
-    let place = clear_place(image, g, n);
-    if place < size {
-        return 64 * n + place + 1;
+    match clear_place(image, g, n) {
+        ClearPlace::None => 0,
+        ClearPlace::At { place, left } => 64 * (64 * n + place + 1) + left,
     }
-    0
 }
 
 // The walk along a frame's path, from a node on. It goes to the path's end also where it has found both places: a malformed node
-// below decides. The caller has the frame's fingerprint.
-pub fn walk(image: &[u64], g: Geometry, level: u64, n: usize, frame: u64, print: u64) -> Trail
+// below decides. The caller has the frame's fingerprint, and says whether it seeks a clear place, as claims do.
+pub fn walk(
+    image: &[u64],
+    g: Geometry,
+    level: u64,
+    n: usize,
+    frame: u64,
+    print: u64,
+    seek: bool,
+) -> Trail
     requires { ⌜ Sized (now image) g × (level ≤ 31) × (print ≡ fingerprint editionOne frame) ⌝ }
-    ensures { λ r. ⌜ r ≡ trailFrom g (reads (now (image .entry))) level n frame ⌝ }
+    ensures { λ r. ⌜ r ≡ trailFrom g (reads (now (image .entry))) seek level n frame ⌝ }
 {
     let mut n = n;
     let mut level = level;
@@ -144,14 +173,15 @@ pub fn walk(image: &[u64], g: Geometry, level: u64, n: usize, frame: u64, print:
             return Trail::Malformed;
         }
         found = found_on(image, g, n, frame, print, found);
-        clear = clear_on(image, g, n, clear);
+        clear = clear_on(image, g, n, seek, clear);
         match step_from(image, g, level, n, frame) {
             Step::End => {
                 return Trail::Ended {
                     node: n,
                     level,
                     found: seen_by(found),
-                    clear: seen_by(clear),
+                    clear: seen_by(clear / 64),
+                    left: clear % 64,
                 };
             }
             Step::Down(below) => {
@@ -163,12 +193,12 @@ pub fn walk(image: &[u64], g: Geometry, level: u64, n: usize, frame: u64, print:
 }
 
 // The walk along a frame's path from a filled slot.
-fn walk_from(image: &[u64], g: Geometry, slot: usize, frame: u64) -> Trail
+fn walk_from(image: &[u64], g: Geometry, slot: usize, frame: u64, seek: bool) -> Trail
     requires { ⌜ Sized (now image) g × Filled g (reads (now image)) slot ⌝ }
-    ensures { λ r. ⌜ r ≡ trailFrom g (reads (now (image .entry))) 0 (rootOf (reads (now (image .entry))) slot) frame ⌝ }
+    ensures { λ r. ⌜ r ≡ trailFrom g (reads (now (image .entry))) seek 0 (rootOf (reads (now (image .entry))) slot) frame ⌝ }
 {
     let root = root_of(image, g, slot) as usize;
-    walk(image, g, 0, root - 1, frame, fingerprint(frame))
+    walk(image, g, 0, root - 1, frame, fingerprint(frame), seek)
 }
 
 // The lookup's answer at the end of a path.
@@ -181,37 +211,50 @@ fn found_as(found: Seen) -> Found
     }
 }
 
-// The lookup of a frame from a filled slot.
+// The lookup of a frame from a filled slot. It seeks no clear place.
 pub fn find(image: &[u64], g: Geometry, slot: usize, frame: u64) -> Found
     requires { ⌜ Sized (now image) g × Filled g (reads (now image)) slot ⌝ }
     ensures { λ r. ⌜ r ≡ foundFrom g (reads (now (image .entry))) slot frame ⌝ }
 {
-    match walk_from(image, g, slot, frame) {
+    match walk_from(image, g, slot, frame, false) {
         Trail::Malformed => Found::Malformed,
         Trail::Ended {
             node: _,
             level: _,
             found,
             clear: _,
+            left: _,
         } => found_as(found),
     }
 }
 
-// The room on a path: the first clear place, or else its last node decides.
-fn room_at(image: &[u64], g: Geometry, level: u64, n: usize, clear: Seen) -> Room
-    requires { ⌜ Sized (now image) g × (n < g .nodes) ⌝ }
-    ensures { λ r. ⌜ r ≡ roomAt g (reads (now (image .entry))) level n (spotOf clear) ⌝ }
+// The room on a path: the first clear place, or else its last node decides. That is full then: scaled up, it has as many
+// places more as it had, and one of them is taken.
+fn room_at(image: &[u64], g: Geometry, level: u64, n: usize, clear: Seen, left: usize) -> Vacancy
+    requires { ⌜ Sized (now image) g × (n < g .nodes) × (0 < reads (now image) (sizeAt g n)) ⌝ }
+    ensures { λ r. ⌜
+        r ≡ vacancyIn left (roomAt g (reads (now (image .entry))) level n (spotOf clear))
+        ⌝ }
 {
     if let Seen::At(spot) = clear {
-        return Room::Clear(spot);
+        return Vacancy {
+            room: Room::Clear(spot),
+            left: left as u64,
+        };
     }
     let size = word_of(image, g, n, SIZE);
     if size < 64 {
-        return Room::ScaleUp { node: n, size };
+        return Vacancy {
+            room: Room::ScaleUp { node: n, size },
+            left: size - 1,
+        };
     }
-    Room::BranchOut {
-        parent: n,
-        depth: level,
+    Vacancy {
+        room: Room::BranchOut {
+            parent: n,
+            depth: level,
+        },
+        left: 63,
     }
 }
 
@@ -227,16 +270,17 @@ fn at_level_31(room: Room) -> bool
 }
 
 // What a claim finds, by the room on the path and what the lookup found there.
-fn placement_as(room: Room, found: Seen) -> Placement
-    ensures { λ r. ⌜ r ≡ placementAs room (spotOf found) ⌝ }
+fn placement_as(vacancy: Vacancy, found: Seen) -> Placement
+    ensures { λ r. ⌜ r ≡ placementAs vacancy (spotOf found) ⌝ }
 {
+    let room = vacancy.room;
     if at_level_31(room) {
         return Placement::Full;
     }
     if let Seen::At(_) = found {
         return Placement::Held;
     }
-    Placement::Free(room)
+    Placement::Free(vacancy)
 }
 
 // What a claim of a frame finds from a filled slot.
@@ -244,13 +288,14 @@ pub fn room_for(image: &[u64], g: Geometry, slot: usize, frame: u64) -> Placemen
     requires { ⌜ Sized (now image) g × Filled g (reads (now image)) slot ⌝ }
     ensures { λ r. ⌜ r ≡ placementFrom g (reads (now (image .entry))) slot frame ⌝ }
 {
-    match walk_from(image, g, slot, frame) {
+    match walk_from(image, g, slot, frame, true) {
         Trail::Malformed => Placement::Malformed,
         Trail::Ended {
             node,
             level,
             found,
             clear,
-        } => { placement_as(room_at(image, g, level, node, clear), found) }
+            left,
+        } => { placement_as(room_at(image, g, level, node, clear, left), found) }
     }
 }

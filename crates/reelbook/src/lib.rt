@@ -11,7 +11,7 @@ ghost use lib.ListN.{length};
 ghost use Rattle.book.specs.State.{format, recover, openReel, claim, fill, commit, abandon, remove, retire};
 ghost use Rattle.book.specs.State.{query, has, list as list-reel};
 ghost use Rattle.book.specs.CarryOut.{carry, carried};
-ghost use Rattle.operations.specs.Ends.{buffers, noBuffers, state, ended, ends};
+ghost use Rattle.operations.specs.Ends.{buffers, noBuffers, state, ended, endedLeft, ends};
 use claims::claim;
 use images::apply;
 use images::format;
@@ -84,7 +84,7 @@ pub extern "C" fn reelbook_open(
     hand_over(open::open(image, map, script, reel), used)
 }
 
-// Takes a place for a frame, and writes the script that claims it.
+// Takes a place for a frame, writes the script that claims it, and tells how many clear places its node has left then.
 #[no_mangle]
 pub extern "C" fn reelbook_claim(
     image: &[u64],
@@ -95,15 +95,18 @@ pub extern "C" fn reelbook_claim(
     reel: u64,
     frame: u64,
     used: &mut u64,
+    left: &mut u64,
 ) -> u64
     ensures { λ r. ⌜
-        ended r (now (used .exit)) (state (now (image .entry)) (now (map .exit)) (now (heads .exit)))
-        (buffers [] (now (script .exit)) [])
+        endedLeft r (now (used .exit)) (now (left .exit))
+        (state (now (image .entry)) (now (map .exit)) (now (heads .exit))) (buffers [] (now (script .exit)) [])
         ≡ ends (claim (length (now (map .entry))) (length (now (script .entry))) head reel frame)
         (state (now (image .entry)) (now (map .entry)) (now (heads .entry))) (buffers [] (now (script .entry)) [])
         ⌝ }
 {
-    let answer = claim::claim(image, map, read_heads(heads), script, head, reel, frame);
+    let claimed = claim::claim(image, map, read_heads(heads), script, head, reel, frame);
+    let answer = claimed.answer;
+    *left = claimed.left;
     hand_over_head(answer, heads, head, used)
 }
 

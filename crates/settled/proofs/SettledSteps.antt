@@ -69,7 +69,7 @@ module _ (g : Geometry) (m : Memory) where
     absentOn none = false
     absentOn (some ns) = not (isSome (lookup editionOne g m f ns))
 
-    trail-absent : (d n : ℕ) → isAbsent (trailFrom g m d n f) ≡ absentOn (path g m (32 - d) d n f)
+    trail-absent : (d n : ℕ) → isAbsent (trailFrom g m false d n f) ≡ absentOn (path g m (32 - d) d n f)
     unfolding trailFrom trailOn
     trail-absent d n = elim (seen (path g m (32 - d) d n f)) [
       | nothing q ↦ rw q refl
@@ -106,7 +106,7 @@ module _ (g : Geometry) (m : Memory) where
     -- what the step from such a node tells of those below
     abbrev Tells : (left n : ℕ) → Step → Type 0
     Tells left n End = true ≡ absentBelow g m left (levels - left) n f
-    Tells left n (Down c) = (33 - left ≤ 31) × (isAbsent (trailFrom g m (33 - left) c f) ≡ absentBelow g m left (levels - left) n f)
+    Tells left n (Down c) = (33 - left ≤ 31) × (isAbsent (trailFrom g m false (33 - left) c f) ≡ absentBelow g m left (levels - left) n f)
 
     step-tells : (left : ℕ) {n : ℕ} → Formed g m left n → Tells left n (stepFrom g m (levels - left) n f)
     unfolding absentBelow stepFrom

@@ -47,8 +47,8 @@ pub record Met (g : Geometry) (m : Memory) (n : ℕ) (passed : ℕ → Type 0) (
 -- a walk along a frame's path ends, and without the frame
 abbrev pub isAbsent : Trail → Bool
 isAbsent Malformed = false
-isAbsent (Ended n d Nothing clear) = true
-isAbsent (Ended n d (At t) clear) = false
+isAbsent (Ended n d Nothing clear left) = true
+isAbsent (Ended n d (At t) clear left) = false
 
 module _ (g : Geometry) (m : Memory) where
   -- the lookup finds a frame in no node of its path below this one, levels left

@@ -47,6 +47,7 @@ fn is_absent(trail: Trail) -> bool
             level: _,
             found,
             clear: _,
+            left: _,
         } => match found {
             Seen::Nothing => true,
             Seen::At(_) => false,
@@ -61,7 +62,7 @@ fn absent_below(image: &[u64], g: Geometry, left: u64, n: usize, frame: u64, pri
 {
     match step_from(image, g, 32 - left, n, frame) {
         Step::End => true,
-        Step::Down(below) => is_absent(walk(image, g, 33 - left, below, frame, print)),
+        Step::Down(below) => is_absent(walk(image, g, 33 - left, below, frame, print, false)),
     }
 }
 

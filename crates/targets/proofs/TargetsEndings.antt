@@ -23,7 +23,7 @@ use Rattle.book.specs.Heads.{headCount, headAt, isIdle, isClaimed, isFilled, ta
 use Rattle.book.specs.Refusals.{Refusal, refusal, _gives_}
 use Rattle.book.specs.State.{State, Operation, fill, commit, abandon, Work, scratchAfter}
 use Rattle.book.specs.Checks.{outside, refusals}
-use Rattle.book.specs.Perform.{fillScript, bitOn, bitOff, writing, putHead, granted, leaves, clears}
+use Rattle.book.specs.Perform.{fillScript, bitOn, bitOff, writing, putHead, granted, leaves, clears, leftBy}
 use Rattle.book.proofs.HeadState.{the-type}
 use Rattle.book.proofs.Refusals.{passed-all, refused-here, refused-later}
 use Rattle.operations.specs.HeadLists.{headsIn, stateIn}
@@ -44,6 +44,7 @@ pub record OnTarget (op : Operation) (s : State) (script : List ℕ) (h : ℕ) (
   pub tested : Tested op s none none (some script) false (later h wrong t)
   pub work : granted op s ≡ writing (segs (geometryOf (reads (s .image)))) (putHead s h x)
   pub hands : (w : Work) → countIn op w ≡ 2 * length (segmented (w .script))
+  pub none-left : leftBy op s ≡ 0
 
 -- the scripts, by the geometry
 abbrev pub fillSegs : Memory → Target → Geometry → List (List Store)
@@ -62,6 +63,7 @@ module _ (s : State) (script : List ℕ) (h : ℕ) (y : HeadState) (read : headA
     tested = record { tests = same-checks (s .image) _ _ _ refl; leaves-all = λ n. refl; clears-past = λ n e. refl };
     work = refl;
     hands = λ w. refl;
+    none-left = refl;
   })
 
   pub on-commit : OnTarget (commit (length script) h) s script h (not (isFilled y)) (targetOf y) (commitSegs (reads (s .image)) (targetOf y)) Idle
@@ -70,6 +72,7 @@ module _ (s : State) (script : List ℕ) (h : ℕ) (y : HeadState) (read : headA
     tested = record { tests = same-checks (s .image) _ _ _ refl; leaves-all = λ n. refl; clears-past = λ n e. refl };
     work = refl;
     hands = λ w. refl;
+    none-left = refl;
   })
 
   pub on-abandon : OnTarget (abandon (length script) h) s script h (isIdle y) (targetOf y) (abandonSegs (reads (s .image)) (targetOf y)) Idle
@@ -78,6 +81,7 @@ module _ (s : State) (script : List ℕ) (h : ℕ) (y : HeadState) (read : headA
     tested = record { tests = same-checks (s .image) _ _ _ refl; leaves-all = λ n. refl; clears-past = λ n e. refl };
     work = refl;
     hands = λ w. refl;
+    none-left = refl;
   })
 
 -- the state that the code is given is the one in the driver's words
@@ -111,7 +115,7 @@ module _ {op : Operation} {s : State} {script : List ℕ} {h : ℕ} {wrong : Boo
       unfolding found scratchAfter listed
       all-done n words w q c e =
           let none = past-number ∙ refused-later _ _ w ∙ refused-later _ _ q ∙ passed-all [] tt in
-          rw (c, e, p .geometry) (sym (done-past (o .tested) borrowed p none ∙ rw (o .work, o .hands) refl))
+          rw (c, e, p .geometry) (sym (done-past (o .tested) borrowed p none ∙ rw (o .work, o .hands, o .none-left) refl))
 
 -- a state that the code did not take apart as claimed, or as filled
 pub not-claimed : (y : HeadState) → OneOf (0 ∷ 2 ∷ []) (tagOf the-type y) → not (isClaimed y) ≡ true

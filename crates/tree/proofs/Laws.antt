@@ -16,6 +16,7 @@ pub use Rattle.tree.proofs.Fingerprints.{fingerprint-laws}
 pub use Rattle.tree.proofs.Paths.{path-laws}
 pub use Rattle.tree.proofs.Spots.{spot-laws}
 pub use Rattle.tree.proofs.Lookup.{lookup-says, lookup-rule}
+pub use Rattle.tree.proofs.PlacesLeft.{left-laws}
 pub use Rattle.tree.proofs.Listing.{tree-laws}
 pub use Rattle.tree.proofs.Decide.{sound-laws}
 pub use Rattle.tree.proofs.Runs.{run-laws}

@@ -8,6 +8,7 @@ pub mod Reach
 pub mod Subtree
 pub mod Paths
 pub mod Spots
+pub mod PathNodes
 pub mod Lookup
 pub mod Slots
 pub mod Trees
@@ -22,6 +23,8 @@ pub mod SetBit
 pub mod Decide
 pub mod Fingerprints
 pub mod Pigeon
+pub mod Ones
+pub mod PlacesLeft
 pub mod Level
 pub mod Pool
 pub mod Bits

@@ -23,9 +23,12 @@ module _ (g : Geometry) (m : Memory) (d n : ℕ) where
   )
 
 module _ {g : Geometry} {m : Memory} {d n : ℕ} (w : WellFormed g m d n) where
-  -- its size is 64 at most
+  -- its size is 64 at most, and not 0
   pub size-most : m (sizeAt g n) ≤ 64
   size-most = elim (w .size) [ inl q ↦ omega arith | inr q ↦ elim (q .1) [ inl e ↦ omega arith | inr e ↦ omega arith ] ]
+
+  pub some-size : 0 < m (sizeAt g n)
+  some-size = elim (w .size) [ inl q ↦ omega arith | inr q ↦ elim (q .1) [ inl e ↦ omega arith | inr e ↦ omega arith ] ]
 
   -- a node with children is above level 31, and all of them are inside the pool
   pub children-inside : (m (nextAt g n) ≡ 0 → ⊥) → (d < 31) × (m (nextAt g n) - 1 + fanout d ≤ g .nodes)

@@ -19,7 +19,9 @@ use Rattle.tree.specs.Node.{childOf, wellFormed, held, frame}
 use Rattle.tree.specs.Slots.{Filled, filledSlots, slotOf, emptySlot}
 use Rattle.tree.specs.Reach.{Reaches, Holds, FrameOf}
 use Rattle.tree.specs.Sound.{Sound, SoundTree}
-use Rattle.tree.specs.Lookup.{spot, firstSpot, pathFrom, matches, lookup, find, isFreeRun, freeRun}
+use Rattle.tree.specs.Lookup.{spot, firstSpot, pathFrom, clearAt, matches, lookup, find, isFreeRun, freeRun}
+use Rattle.tree.specs.declared.path.Room.the-variants.{ScaleUp, BranchOut}
+use Rattle.tree.specs.Room.{clearPlaces, leftAt, placesLeft}
 use Rattle.tree.specs.Subtree.{visit, tree, framesIn, listing}
 use Rattle.tree.specs.Check.{isSoundTree, isSound}
 use Rattle.tree.specs.Same.{Same, Stores}
@@ -103,6 +105,18 @@ pub record FirstAt (search bound : ℕ → ℕ) (ns : List ℕ) (n p : ℕ) : Ty
 pub record SpotLaws (search bound : ℕ → ℕ) (ns : List ℕ) : Type 0 where
   pub found : (n p : ℕ) → (firstSpot search bound ns ≡ some (spot n p)) ↔ FirstAt search bound ns n p
   pub nowhere : (firstSpot search bound ns ≡ none) ↔ ((n : ℕ) → List·Memᴰ n ns → bound n ≤ search n)
+
+-- ---- places left
+
+-- a claim's place is one of its node's clear places, and the others are left; no bit of the node stands at or above its size
+pub record LeftLaws (g : Geometry) (m : Memory) : Type 0 where
+  pub clear : (n : ℕ) → m (locateAt g n) < 2 ^ m (sizeAt g n) → clearAt g m n < m (sizeAt g n)
+      → leftAt g m (spot n (clearAt g m n)) + 1 ≡ length (clearPlaces (m (locateAt g n)) (m (sizeAt g n)))
+  -- a full node that is scaled up has its own number of places more
+  pub scaled-up : (n : ℕ) → m (locateAt g n) < 2 ^ m (sizeAt g n) → 0 < m (sizeAt g n) → m (sizeAt g n) ≤ clearAt g m n
+      → placesLeft g m (ScaleUp n (m (sizeAt g n))) + 1 ≡ m (sizeAt g n)
+  -- a child made anew has 64
+  pub branched-out : (parent d : ℕ) → placesLeft g m (BranchOut parent d) + 1 ≡ 64
 
 -- a place of some of the nodes where the lookup finds a frame
 pub record Match (r : Rule) (g : Geometry) (m : Memory) (f : ℕ) (ns : List ℕ) : Type 0 where

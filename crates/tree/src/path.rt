@@ -10,6 +10,14 @@ pub struct Spot {
     pub place: usize,
 }
 
+// What the search for a place finds in a node.
+pub enum ClearPlace {
+    // Every place is taken.
+    None,
+    // The lowest clear place, and how many the node has left once it is taken.
+    At { place: usize, left: usize },
+}
+
 // Where there is room for a frame on its path.
 pub enum Room {
     // The first node of the path with a clear place, and the lowest such place.

@@ -3,61 +3,32 @@ use mathlib.Core.Path.{_≡_, refl, sym, _∙_, ap, ap₂}
 use mathlib.Core.Bool.{true, false, cond}
 use mathlib.Core.Logic.{inl}
 use mathlib.Core.List.{List, [], _∷_, flatMap, List·Memᴰ, List·Memᴰ·head, List·Memᴰ·tail}
-use Prim.Native.Nat.{ℕ, zero, suc, _+_, _*_, _/_, _%_, _^_, _≤_, _<_}
+use Prim.Native.Nat.{ℕ, zero, suc, _+_, _*_, _^_, _≤_, _<_}
 use native.Mathlib.Omega.{arith}
 use native.Mathlib.Decide.{ℕ-discrete}
 use native.Mathlib.Numerals.{add-one}
-use native.Mathlib.Nat.{div-one}
 use lib.ListN.{length, length-append, length-map}
-use lib.Pow.{shr-shr, shr-lt}
-use lib.Count.{ones, ones-step, ones-le}
-use borrow.Author.Tests.{eq-eqb, ne-eqb}
-use Rattle.memory.specs.Words.{Memory, isSet, bit, field}
+use lib.Count.{ones, ones-le}
+use Rattle.memory.specs.Words.{Memory, isSet}
 use Rattle.tree.specs.declared.layout.Geometry.{Geometry}
 use Rattle.tree.specs.Layout.{mapWords, setAt, frameAt}
-use Rattle.tree.specs.Lists.{range, upTo, keep, Distinct, onto}
+use Rattle.tree.specs.Lists.{upTo, keep, Distinct, onto}
 use Rattle.tree.specs.Subtree.{Visit, nodesOf, tree, heldPlaces, framesIn, listing}
 use Rattle.tree.specs.Check.{isSoundTree}
 use Rattle.tree.specs.Pool.{used, mark, markAll, clearMap, mapOf}
 use Rattle.tree.specs.PoolLaws.{NoneUsed}
 use Rattle.tree.proofs.Pool.{pool-laws, mark-other}
+use Rattle.tree.proofs.Ones.{ones-kept}
 use Rattle.tree.proofs.Nodes.{wellFormed-facts}
 use Rattle.tree.proofs.Trees.{formed-at, walked-once}
 use Rattle.visits.specs.Marked.{heldBelow}
 use Rattle.visits.proofs.MarkedNodes.{past-unmarked}
 
--- ---- the set bits of a word
-
-no-ones : ones 0 ≡ 0
-unfolding ones
-no-ones = refl
-
--- the lowest digit of what is left, by the test of its bit
-digit-kept : (w j r : ℕ) (xs : List ℕ) → r ≡ length xs → w / 2 ^ j % 2 + r ≡ length (cond (isSet w j) (j ∷ xs) xs)
-unfolding isSet bit field
-digit-kept w j r xs e = elim (ℕ-discrete (w / 2 ^ j % 2) 1) [
-  | yes q ↦ rw (eq-eqb (w / 2 ^ j % 2) 1 q, q, e) (omega arith)
-  | no q ↦ let z : w / 2 ^ j % 2 ≡ 0 = omega arith in rw (ne-eqb (w / 2 ^ j % 2) 1 q, z, e) (omega arith)
-]
-
-ones-from : (w j k : ℕ) → w / 2 ^ j < 2 ^ k → ones (w / 2 ^ j) ≡ length (keep (isSet w) (range j k))
-unfolding range keep
-ones-from w j zero h = let z : w / 2 ^ j ≡ 0 = omega arith in rw z no-ones
-ones-from w j (suc k) h =
-    let e : w / 2 ^ j / 2 ≡ w / 2 ^ suc j = shr-shr w j 1 ∙ ap (λ (i : ℕ). w / 2 ^ i) (add-one j) in
-    let less : w / 2 ^ suc j < 2 ^ k = rw (← e) (half-lt k h) in
-    ones-step (w / 2 ^ j) ∙ digit-kept w j _ _ (ap ones e ∙ ones-from w (suc j) k less)
-  where
-    half-lt : {x : ℕ} (k : ℕ) → x < 2 ^ suc k → x / 2 < 2 ^ k
-    half-lt {x} k h = shr-lt k 1 (rw (add-one k) h)
-
 module _ (g : Geometry) (m : Memory) where
   -- a node has as many frames as its set word has set bits
   pub frames-counted : (n : ℕ) → m (setAt g n) < 2 ^ 64 → ones (m (setAt g n)) ≡ length (framesIn g m n)
-  unfolding framesIn heldPlaces upTo
-  frames-counted n h =
-      let z : m (setAt g n) / 2 ^ 0 ≡ m (setAt g n) = div-one (m (setAt g n)) in
-      ap ones (sym z) ∙ ones-from (m (setAt g n)) 0 64 (rw z h) ∙ sym (length-map (keep (isSet (m (setAt g n))) (range 0 64)) (λ (p : ℕ). m (frameAt g n p)))
+  unfolding framesIn heldPlaces
+  frames-counted n h = ones-kept (m (setAt g n)) 64 h ∙ sym (length-map (keep (isSet (m (setAt g n))) (upTo 64)) (λ (p : ℕ). m (frameAt g n p)))
 
   -- ---- the loop
 

@@ -14,8 +14,8 @@ hand-over-head-requires c κs =
     let done = c .before .before .before .before .before .before in
     let a = done .before .before .before .before .before .before .before .before .args in
     head-inside (OfHead.claims {map = length (a .map .now)} {script = length (a .script .now)} {reel = a .reel} {f = a .frame})
-    (state (a .image .now) (a .map .now) (a .heads .now)) (buffers [] (a .script .now) []) (done .claim .result)
-    {s' = state (a .image .now) (done .claim .last .1 .0) (headsAfter (a .heads .now) (a .head) (done .claim .result))}
+    (state (a .image .now) (a .map .now) (a .heads .now)) (buffers [] (a .script .now) []) (done .claim .result .answer)
+    {s' = state (a .image .now) (done .claim .last .1 .0) (headsAfter (a .heads .now) (a .head) (done .claim .result .answer))}
     (done .claim .ensures (a .heads .now) (sym (done .before .before .read-heads .ensures)))
 
 returns : tie.Need-returns

@@ -5,10 +5,10 @@ use Rattle.cases.proofs.run.run_scripted.Statement.{statement}
 use Rattle.cases.proofs.run.run_scripted.Tie as tie
 
 abbrev Inv-loop : tie.InvT-loop
-Inv-loop image₀ map₀ heads₀ scratch₀ script₀ held step₀ number₀ used₀ image map heads scratch script step number used = (length image ≡ length image₀) × (length map ≡ length map₀) × (length scratch ≡ length scratch₀) × (length script ≡ length script₀)
+Inv-loop command image₀ map₀ heads₀ scratch₀ script₀ held step₀ number₀ used₀ left₀ image map heads scratch script step number used left = (length image ≡ length image₀) × (length map ≡ length map₀) × (length scratch ≡ length scratch₀) × (length script ≡ length script₀)
 
 abbrev μ-loop : tie.MeasureT-loop
-μ-loop image₀ map₀ heads₀ scratch₀ script₀ held step₀ number₀ used₀ image map heads scratch script step number used = step .left
+μ-loop command image₀ map₀ heads₀ scratch₀ script₀ held step₀ number₀ used₀ left₀ image map heads scratch script step number used left = step .left
 
 pub run-scripted-spec : {M : Type 1} → statement M
 run-scripted-spec =

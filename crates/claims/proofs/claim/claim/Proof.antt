@@ -54,33 +54,37 @@ filled c =
 
 returns : tie.Need-returns
 returns c ws e =
-    let told = c .before .before .before in
+    let why = c .before .before in
+    let told = why .before .before in
     let a = told .before .before .before .before .args in
-    claim-early (a .image .now) (a .pool .now) (a .script .now) ws (a .head) (a .reel) (a .frame) (told .checks .ensures) (c .before .why .given .1)
+    rw (c .refused .ensures)
+    (claim-early (a .image .now) (a .pool .now) (a .script .now) ws (a .head) (a .reel) (a .frame) (told .checks .ensures) (why .why .given .1))
 
 returns-2 : tie.Need-returns-2
 returns-2 c ws e =
-    let tests = c .before .before .before in
+    let why = c .before .before in
+    let tests = why .before .before in
     let read = tests .before .before in
     let a = read .before .before .before .before .before .before .before .args in
-    head-refused (a .image .now) (a .pool .now) (a .script .now) ws (a .head) (a .reel) (a .frame) (a .heads) e _ (fine read) _ (tests .before .slot-of .ensures)
-    (numberOf (c .before .why2 .given .0 .0)) (sym (ap admissionNumber (c .before .why2 .given .1)) ∙ tests .admit .ensures)
-    (number-some (c .before .why2 .given .0 .0))
+    rw (c .refused2 .ensures)
+    (head-refused (a .image .now) (a .pool .now) (a .script .now) ws (a .head) (a .reel) (a .frame) (a .heads) e _ (fine read) _ (tests .before .slot-of .ensures)
+    (numberOf (why .why2 .given .0 .0)) (sym (ap admissionNumber (why .why2 .given .1)) ∙ tests .admit .ensures)
+    (number-some (why .why2 .given .0 .0)))
 
 returns-3 : tie.Need-returns-3
 returns-3 c ws e =
-    let walked = c .before .before in
-    path-malformed _ _ _ _ _ _ _ (past (walked .before) ws e) (walked .room-for .ensures) (c .enum-told2 .given .1)
+    let walked = c .before .before .before in
+    rw (c .refused3 .ensures) (path-malformed _ _ _ _ _ _ _ (past (walked .before) ws e) (walked .room-for .ensures) (c .before .enum-told2 .given .1))
 
 returns-4 : tie.Need-returns-4
 returns-4 c ws e =
-    let walked = c .before .before in
-    path-full _ _ _ _ _ _ _ (past (walked .before) ws e) (walked .room-for .ensures) (c .enum-told3 .given .1)
+    let walked = c .before .before .before in
+    rw (c .refused4 .ensures) (path-full _ _ _ _ _ _ _ (past (walked .before) ws e) (walked .room-for .ensures) (c .before .enum-told3 .given .1))
 
 returns-5 : tie.Need-returns-5
 returns-5 c ws e =
-    let walked = c .before .before in
-    frame-held _ _ _ _ _ _ _ (past (walked .before) ws e) (walked .room-for .ensures) (c .enum-told4 .given .1)
+    let walked = c .before .before .before in
+    rw (c .refused5 .ensures) (frame-held _ _ _ _ _ _ _ (past (walked .before) ws e) (walked .room-for .ensures) (c .before .enum-told4 .given .1))
 
 run-for-requires : tie.Need-run-for-requires
 run-for-requires c κs = let p = fine (c .before .before .before .before .before .before .before .before .before) in search needs
@@ -91,8 +95,8 @@ free : (c : tie.After-run-for)
     let walked = known .before .before in
     let read = walked .before .before .before .before .before in
     let a = read .before .before .before .before .before .before .before .args in
-    Free (known .room .given .0 .0) ≡ placementFrom (read .before .g .given .0 .0) (readsWords (a .image .now)) (walked .before .before .before .before .slot-of .result) (a .frame)
-free c = let known = c .before .before .before in sym (known .room .given .1) ∙ known .before .before .room-for .ensures
+    Free (known .vacancy .given .0 .0) ≡ placementFrom (read .before .g .given .0 .0) (readsWords (a .image .now)) (walked .before .before .before .before .slot-of .result) (a .frame)
+free c = let known = c .before .before .before in sym (known .vacancy .given .1) ∙ known .before .before .room-for .ensures
 
 target-in-requires : tie.Need-target-in-requires
 target-in-requires c κs =
@@ -100,27 +104,29 @@ target-in-requires c κs =
     let read = known .before .before .before .before .before .before .before in
     let a = read .before .before .before .before .before .before .before .args in
     let p = fine read in
-    let l = start-within (read .before .g .given .0 .0) (a .pool .now) (known .room .given .0 .0) _ (c .run-for .ensures) in
+    let l = start-within (read .before .g .given .0 .0) (a .pool .now) (known .vacancy .given .0 .0 .room) _ (c .run-for .ensures) in
     let d = deep-room _ _ _ _ (free c) in
     search needs
 
 returns-6 : tie.Need-returns-6
 returns-6 c ws e =
-    let met = c .before in
+    let met = c .before .before in
     let run = met .before .before .before in
     let known = run .before .before .before in
     let walked = known .before .before in
-    has-conflict _ _ _ _ _ _ _ (past (walked .before) ws e) (walked .room-for .ensures) _ (known .room .given .1) _ (run .run-for .ensures)
-    _ e _ (met .before .before .target-in .ensures) _ (met .has-conflict .ensures) (c .if1 .taken)
+    rw (c .refused6 .ensures)
+    (has-conflict _ _ _ _ _ _ _ (past (walked .before) ws e) (walked .room-for .ensures) _ (known .vacancy .given .1) _ (run .run-for .ensures)
+    _ e _ (met .before .before .target-in .ensures) _ (met .has-conflict .ensures) (c .before .if1 .taken))
 
 returns-7 : tie.Need-returns-7
 returns-7 c ws e =
-    let met = c .before .before .before in
+    let met = c .before .before .before .before in
     let run = met .before .before .before in
     let known = run .before .before .before in
     let walked = known .before .before in
-    no-run _ _ _ _ _ _ _ (past (walked .before) ws e) (walked .room-for .ensures) _ (known .room .given .1) _ (run .run-for .ensures)
-    _ e _ (met .before .before .target-in .ensures) _ (met .has-conflict .ensures) (c .before .before .if1 .left) (c .if2 .taken)
+    rw (c .refused7 .ensures)
+    (no-run _ _ _ _ _ _ _ (past (walked .before) ws e) (walked .room-for .ensures) _ (known .vacancy .given .1) _ (run .run-for .ensures)
+    _ e _ (met .before .before .target-in .ensures) _ (met .has-conflict .ensures) (c .before .before .before .if1 .left) (c .before .if2 .taken))
 
 take-room-requires : tie.Need-take-room-requires
 take-room-requires c κs =
@@ -132,7 +138,7 @@ take-room-requires c κs =
     let a = read .before .before .before .before .before .before .before .args in
     let p = fine read in
     let s = p .sized in
-    let fits = run-fits (read .before .g .given .0 .0) (a .pool .now) (known .room .given .0 .0) _ (run .run-for .ensures) (left .if2 .left) in
+    let fits = run-fits (read .before .g .given .0 .0) (a .pool .now) (known .vacancy .given .0 .0 .room) _ (run .run-for .ensures) (left .if2 .left) in
     let place = place-fits _ _ _ _ (free run) _ fits in
     let target = met .before .before .target-in .ensures in (
       s,
@@ -151,7 +157,7 @@ returns-8 c ws e =
     let run = met .before .before .before in
     let known = run .before .before .before in
     let walked = known .before .before in
-    claimed _ _ _ _ _ _ _ (past (walked .before) ws e) (walked .room-for .ensures) _ (known .room .given .1) _ (run .run-for .ensures)
+    claimed _ _ _ _ _ _ _ (past (walked .before) ws e) (walked .room-for .ensures) _ (known .vacancy .given .1) _ (run .run-for .ensures)
     _ e _ (met .before .before .target-in .ensures) _ (met .has-conflict .ensures) (left .before .before .if1 .left) (left .if2 .left)
     (took .take-room .last .1 .0) (took .take-room .last .1 .1 .0) (took .take-room .result) (took .take-room .ensures)
 
@@ -162,25 +168,32 @@ claim-spec =
     (λ c κs. search needs)
     (λ c. search needs)
     (λ c. search needs)
+    (λ c κs. search needs)
     returns
     (λ c κs. fine c .sized)
     (λ c κs. search needs)
     (λ c. search needs)
+    (λ c κs. search needs)
     returns-2
     (λ c. search needs)
     (λ c κs. (fine (c .before .before .before .before) .sized, filled c))
     (λ c. search needs)
+    (λ c κs. search needs)
     returns-3
     (λ c. search needs)
+    (λ c κs. search needs)
     returns-4
     (λ c. search needs)
+    (λ c κs. search needs)
     returns-5
     (λ c. search needs)
     run-for-requires
     target-in-requires
     (λ c κs. search needs)
+    (λ c κs. search needs)
     (λ c. search needs)
     returns-6
+    (λ c κs. search needs)
     (λ c. search needs)
     returns-7
     take-room-requires

@@ -12,7 +12,7 @@ find-spec =
     (λ c. search needs)
     (λ c. search needs)
     (λ c κs. search needs)
-    (λ c. found-malformed _ _ _ _ (trail-says _ _ _ _ (c .before .before .walk-from .ensures) (c .enum-told .given .1)))
+    (λ c. found-malformed _ _ _ _ (trail-says _ _ _ _ _ (c .before .before .walk-from .ensures) (c .enum-told .given .1)))
     (λ c. let w = c .before .before in
-    let a = trail-says _ _ _ _ (w .before .before .walk-from .ensures) (w .found .given .1) in
+    let a = trail-says _ _ _ _ _ (w .before .before .walk-from .ensures) (w .found .given .1) in
     found-end _ _ _ _ (a .path) (a .found) (c .found-as .ensures)))

@@ -14,4 +14,4 @@ placement-as-spec =
     (λ c. search needs)
     (λ c.
     let l = c .before .before .before in
-    placement-free (l .before .args .room) (l .at-level-31 .ensures) (c .before .before .if1 .left) (c .enum-told2 .given .1)))
+    placement-free (l .before .args .vacancy) (l .at-level-31 .ensures) (c .before .before .if1 .left) (c .enum-told2 .given .1)))

@@ -15,4 +15,4 @@ walk-from-spec =
     (λ c κs. search needs)
     (λ c κs. search needs)
     (λ c. let a = c .before .before .before .before .args in
-    c .walk .ensures ∙ ap (λ (r : ℕ). trailFrom (a .g) (reads (a .image .now)) 0 (r - 1) (a .frame)) (c .before .before .root-of .ensures)))
+    c .walk .ensures ∙ ap (λ (r : ℕ). trailFrom (a .g) (reads (a .image .now)) (a .seek) 0 (r - 1) (a .frame)) (c .before .before .root-of .ensures)))

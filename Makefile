@@ -23,7 +23,7 @@ Programs and the library; rt, of the Rattle kit, is needed for all:
   make man            the man pages: build/man/
   make install        header, libraries, reelbook.pc, tool and man pages below PREFIX=/usr/local; DESTDIR= for packages
   make uninstall      take the same files out again
-  make bench          times beside other stores; QUICK=1 for the book alone
+  make bench          times beside other stores; QUICK=1 for the book alone; BEFORE= an earlier build of the library
   make bench-docs     the tables and the plot of the last whole run go to docs/
   make clean          remove build/; what is proved, in target/, stays
 
@@ -32,6 +32,7 @@ Tests:
   make check-header   the header in C and C++, its constants against the library
   make check-archive  no writable data in the library; its stack use; two books in two threads
   make check-stores   Recover's stores, one by one
+  make check-branches  no branch on a bit of a frame where paths are walked, instruction by instruction
   make check-bookrun  bookrun on Case A, on input in pieces, and where a write or a read fails
   make check-tool     the tool's commands, errors and power failures
   make check-install  an installation, and examples/ compiled against it
@@ -76,5 +77,5 @@ test:
 	python3 tests/unused.py
 	@mkdir -p build
 	@{ $(RT) ci && echo 0 >build/ci.status || echo 1 >build/ci.status; } 2>&1 | tee build/ci.log; read status <build/ci.status; exit $$status
-	$(MAKE) --no-print-directory check-header check-archive check-stores check-bookrun check-tool check-install faults fuzz
+	$(MAKE) --no-print-directory check-header check-archive check-stores check-branches check-bookrun check-tool check-install faults fuzz
 	@tail -n 1 build/ci.log

@@ -1,5 +1,6 @@
 /* bench MEMORY DISK TABLE FRAMES [quick]: measures the reel book, its floors and other stores. MEMORY and DISK are folders for
- * their files, TABLE is the file for the table that other programs read. Quick: in memory the book, C by hand and the floor. */
+ * their files, TABLE is the file for the table that other programs read. Quick: in memory the book, C by hand and the floor, and
+ * the book's earlier build if there is one. */
 #define _GNU_SOURCE /* for sched_setaffinity */
 #include "report.h"
 
@@ -9,14 +10,23 @@
 #include <string.h>
 #include <time.h>
 
-/* A quick run has the first columns and works only. */
-enum { QUICK_COLUMNS = 4, QUICK_WORKS = 2, QUICK_REPETITIONS = 9 };
+/* The columns of the book and, where there is one, of its earlier build. A quick run has the columns up to there, and the first
+ * works. */
+enum { OURS, BEFORE = 4, QUICK_WORKS = 2, QUICK_REPETITIONS = 9 };
+#ifdef HAVE_BEFORE
+enum { QUICK_COLUMNS = BEFORE + 1 };
+#else
+enum { QUICK_COLUMNS = BEFORE };
+#endif
 
 static const struct column columns[] = {
-    {"ours flush", &book_store, MEMORY, BARRIER_FLUSH},
+    [OURS] = {"ours flush", &book_store, MEMORY, BARRIER_FLUSH},
     {"ours none", &book_store, MEMORY, BARRIER_NONE},
     {"C by hand", &hand_store, MEMORY, BARRIER_FLUSH},
     {"floor", &floor_store, MEMORY, BARRIER_FLUSH},
+#ifdef HAVE_BEFORE
+    [BEFORE] = {"before", &before_store, MEMORY, BARRIER_FLUSH},
+#endif
 #ifdef HAVE_PMEMOBJ
     {"libpmemobj", &pmemobj_store, MEMORY, BARRIER_FLUSH},
 #endif
@@ -118,6 +128,17 @@ static void check_frames(const struct column *c, void *state, const struct work 
         fail(c->name, "frames were lost or invented");
 }
 
+/* The column that is measured at a column's turn, on its state: itself, but the book and its earlier build change places with each
+ * repetition. Where an image lies in memory, and what ran before, makes more of a difference than most changes of the code. */
+static size_t measured_at(size_t turn, size_t repetition) {
+#ifdef HAVE_BEFORE
+    if (repetition % 2 == 1 && (turn == OURS || turn == BEFORE))
+        return OURS + BEFORE - turn;
+#endif
+    (void)repetition;
+    return turn;
+}
+
 /* The columns take turns, batch by batch, and another one starts each time. */
 static void measure(const struct work *w, size_t count, const char *const *folders, struct result *m) {
     void *states[COLUMNS];
@@ -132,9 +153,9 @@ static void measure(const struct work *w, size_t count, const char *const *folde
     for (size_t k = 0; k < w->repetitions; k++)
         for (enum row row = 0; row < ROWS; row++)
             for (size_t turn = 0; turn < count && k < m->repetitions[row]; turn++) {
-                size_t c = (turn + k) % count;
+                size_t at = (turn + k) % count, c = measured_at(at, k);
                 if (is_measured(columns[c].where, row))
-                    m->times[row][c][k] = time_batch(&columns[c], states[c], w, row, k);
+                    m->times[row][c][k] = time_batch(&columns[c], states[at], w, row, k);
             }
     for (size_t c = 0; c < count; c++) {
         check_frames(&columns[c], states[c], w);

@@ -45,6 +45,7 @@ struct store {
 };
 
 extern const struct store book_store, hand_store, floor_store, lmdb_store, sqlite_store, pmemobj_store;
+extern const struct store before_store; /* the book's earlier build, where one is given */
 
 /* Says what failed, with errno's text where `because` is NULL, and ends the program. */
 void fail(const char *what, const char *because) __attribute__((noreturn));

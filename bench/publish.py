@@ -7,7 +7,7 @@ import sys
 from collections import namedtuple
 
 COLOURS = {"ours flush": "#0072b2", "ours none": "#56b4e9", "ours msync": "#0072b2", "C by hand": "#e69f00", "floor": "#777777",
-           "libpmemobj": "#d55e00", "LMDB": "#009e73", "SQLite": "#cc79a7"}
+           "before": "#999933", "libpmemobj": "#d55e00", "LMDB": "#009e73", "SQLite": "#cc79a7"}
 GROWTH_ROWS = ["insert", "lookup, hit", "recovery"]
 
 Key = namedtuple("Key", "work frames row place column")

@@ -6,7 +6,7 @@
 
 #include <stdio.h>
 
-enum { MAX_COLUMNS = 11 };
+enum { MAX_COLUMNS = 12 };
 
 /* Nanoseconds for an operation; LIST: for a frame, RECOVERY: for the whole store. */
 struct result {

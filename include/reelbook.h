@@ -28,8 +28,8 @@
  * another: a program has to be compiled anew, and the shared object has another name. */
 #define REELBOOK_VERSION_MAJOR 3
 #define REELBOOK_VERSION_MINOR 0
-#define REELBOOK_VERSION_PATCH 0
-#define REELBOOK_VERSION "3.0.0"
+#define REELBOOK_VERSION_PATCH 1
+#define REELBOOK_VERSION "3.0.1"
 
 #ifdef __cplusplus
 extern "C" {

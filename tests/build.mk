@@ -1,11 +1,12 @@
 # make check-header: include/reelbook.h as C and as C++, refused on other platforms, and its constants against the library.
 # make check-archive: nothing writable in the library; the stack that each function needs; two books in two threads.
 # make check-stores: Recover's stores to the image, one by one.
+# make check-branches: the instructions of Has, Remove, Claim and Recover, one by one, which no bit of a frame decides.
 # make check-bookrun: the bench program on Case A, on input in pieces, and where a write or a read fails.
 # make fuzz: the library against the model in CASES cases of calls and a history for every 50 of them: a minute on two cores.
 # SEED=random takes new cases; SEED=number repeats one.
 # make faults: deliberate faults, each of which the fuzzing has to find.
-.PHONY: check-header check-archive check-stores check-bookrun fuzz faults
+.PHONY: check-header check-archive check-stores check-branches check-bookrun fuzz faults
 
 RUSTC ?= rustc
 CASES ?= 500000
@@ -45,8 +46,15 @@ build/threads: tests/threads.c include/reelbook.h $(LIBRARY)
 check-stores: build/stores
 	build/stores
 
-build/stores: tests/stores.c tests/book.c tests/book.h include/reelbook.h $(LIBRARY)
+build/stores: tests/stores.c tests/traps.h tests/book.c tests/book.h include/reelbook.h $(LIBRARY)
 	$(CC) $(WARNINGS) $(CFLAGS) -Iinclude -o $@ tests/stores.c tests/book.c $(LIBRARY)
+
+check-branches: build/branches
+	build/branches
+
+# -z now: the dynamic linker would else look memset up in the first trace of Recover.
+build/branches: tests/branches.c tests/traps.h tests/book.c tests/book.h include/reelbook.h $(LIBRARY)
+	$(CC) $(WARNINGS) $(CFLAGS) -Iinclude -Wl,-z,now -o $@ tests/branches.c tests/book.c $(LIBRARY)
 
 check-bookrun:
 	@$(prove_bookrun)

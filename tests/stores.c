@@ -10,15 +10,13 @@
 #if defined __linux__ && defined __x86_64__
 
 #include "book.h"
+#include "traps.h"
 
-#include <signal.h>
-#include <stdlib.h>
-#include <string.h>
 #include <sys/mman.h>
 #include <ucontext.h>
 #include <unistd.h>
 
-enum { SLOTS = 3, NODES = 40, ROUNDS = 200, TRAP_FLAG = 0x100, WORD = sizeof(uint64_t) };
+enum { SLOTS = 3, NODES = 40, ROUNDS = 200, WORD = sizeof(uint64_t) };
 
 static struct book b;
 static unsigned *noted; /* stores to each word of the image */
@@ -91,17 +89,6 @@ static void on_step(int number, siginfo_t *info, void *context) {
     note_words();
     protect(PROT_READ);
     machine->uc_mcontext.gregs[REG_EFL] &= ~(greg_t)TRAP_FLAG;
-}
-
-static void handle(int number, void (*handler)(int, siginfo_t *, void *)) {
-    struct sigaction action;
-    memset(&action, 0, sizeof action);
-    action.sa_sigaction = handler;
-    action.sa_flags = SA_SIGINFO;
-    if (sigaction(number, &action, NULL) != 0) {
-        perror("stores: sigaction");
-        exit(2);
-    }
 }
 
 /* Three reels, with branch-outs, in memory that can be protected. */

@@ -126,7 +126,7 @@ fn branched<'a>(image: Image<'a>, parent: Node<'a>, frame: u64, map: &[u64]) -> 
         30 => BRANCHED_LAST,
         _ => BRANCHED_4,
     };
-    let node = Node::of(image, first + child(level, frame));
+    let node = Node::of(image, first + image.child(level, frame));
     Ok(Taken { ending, node, place: 0, entries, locate: 0, new })
 }
 

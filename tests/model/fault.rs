@@ -55,11 +55,13 @@ pub enum Fault {
     LeftAbovePlace,
     LeftBySet,
     LeftOfParent,
+    RemainderBy2,
+    HalfDivisor,
 }
 
 impl Fault {
     /// Found by single calls: one buffer or answer differs from the sound model's.
-    pub const OF_CALLS: [(Fault, &'static str); 41] = [
+    pub const OF_CALLS: [(Fault, &'static str); 43] = [
         (Fault::NoSlots, "an image without slots is taken"),
         (Fault::EmptySlotRead, "an empty slot's reel number counts as open"),
         (Fault::HighestSlot, "a reel is the highest filled slot with its number"),
@@ -101,6 +103,8 @@ impl Fault {
         (Fault::LeftAbovePlace, "all places above the one taken count as left"),
         (Fault::LeftBySet, "places left by the set word"),
         (Fault::LeftOfParent, "a branch-out tells the places left in the full parent"),
+        (Fault::RemainderBy2, "the child of level 30 is a remainder by 2"),
+        (Fault::HalfDivisor, "the child of level 17 is taken from the quotient by half its divisor"),
     ];
 
     /// Found by histories with crashes, held against the plain table alone.

@@ -12,6 +12,15 @@ pub struct Reached<'a> {
 }
 
 impl<'a> Image<'a> {
+    /// The child to which a path goes on from this level. Faults are made here; what is sound goes by the child itself.
+    pub fn child(&self, level: u64, frame: u64) -> u64 {
+        match self.fault {
+            Fault::RemainderBy2 if level == 30 => child(level, frame) % 2,
+            Fault::HalfDivisor if level == 17 => child(level, frame << 1),
+            _ => child(level, frame),
+        }
+    }
+
     /// The nodes on a frame's path, the root first. Refusal 4 if one is malformed.
     pub fn path(&self, root: u64, frame: u64) -> Result<Vec<Node<'a>>, Ending> {
         let mut path = vec![self.node(root - 1, 0)?];
@@ -21,7 +30,7 @@ impl<'a> Image<'a> {
             if next == 0 {
                 return Ok(path);
             }
-            path.push(self.node(next - 1 + child(level, frame), level + 1)?);
+            path.push(self.node(next - 1 + self.child(level, frame), level + 1)?);
         }
     }
 

@@ -4,7 +4,7 @@ use Rattle.tree.specs.declared.layout.Geometry.{Geometry}
 use Rattle.tree.specs.Fingerprint.{Rule}
 use Rattle.tree.specs.Sound.{Sound}
 use Rattle.tree.specs.Laws.{ChildLaws, ReachLaws, NodeLaws, ChangeLaws}
-use Rattle.tree.proofs.Ways.{child-lt, child-remainder, same-way, length-way}
+use Rattle.tree.proofs.Ways.{child-lt, child-base, child-remainder, same-way, length-way}
 use Rattle.tree.proofs.Reach.{one-node, depth, slot-filled}
 use Rattle.tree.proofs.Nodes.{wellFormed-facts}
 use Rattle.tree.proofs.Grows.{opened}
@@ -26,7 +26,7 @@ pub use Rattle.tree.proofs.Level.{level-laws}
 pub use Rattle.tree.proofs.Same.{same-laws}
 
 pub child-laws : ChildLaws
-child-laws = record { below = child-lt; remainder = child-remainder; same-way = same-way; length-way = length-way }
+child-laws = record { below = child-lt; digit = child-base; remainder = child-remainder; same-way = same-way; length-way = length-way }
 
 pub reach-laws : (g : Geometry) (m : Memory) → ReachLaws g m
 reach-laws g m = record { one-node = one-node; depth = depth; slot-filled = slot-filled }

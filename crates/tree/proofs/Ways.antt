@@ -33,6 +33,13 @@ child-digit k f = elim (test (ltb k 3)) [
       rw (e, a, b, ← shr-shr f (k + (k - 3)) 1) (omega arith)
 ]
 
+base-pow : (k : ℕ) → 2 ^ width k ≡ cond (ltb k 3) 2 4
+unfolding width
+base-pow k = elim (test (ltb k 3)) [ inl e ↦ rw e | inr e ↦ rw e ]
+
+pub child-base : (k f : ℕ) → child k f ≡ f / 2 ^ bitsTo k % cond (ltb k 3) 2 4
+child-base k f = child-digit k f ∙ ap (λ b. f / 2 ^ bitsTo k % b) (base-pow k)
+
 fanout-pow : (k : ℕ) → k < 31 → 2 ^ width k ≡ fanout k
 unfolding fanout width
 fanout-pow k h = elim (test (ltb k 3)) [ inl e ↦ rw e | inr e ↦ rw (e, lt-ltb k 31 h) ]

@@ -1,12 +1,13 @@
 -- What is proved of this layer's definitions: statements alone, each with its proof in proofs/. A law that holds only under
 -- conditions has them among the parameters of its record.
 use mathlib.Core.Path.{_≡_}
-use mathlib.Core.Bool.{Bool, true, false, not}
+use mathlib.Core.Bool.{Bool, true, false, not, cond}
 use mathlib.Core.Logic.{_⊎_, _↔_}
 use mathlib.Core.Option.{none, some}
 use mathlib.Core.List.{List, _∷_, _++_, List·Memᴰ}
 use Prim.Native.Nat.{ℕ, suc, _+_, _/_, _%_, _^_, _≤_, _<_}
 use lib.ListN.{length, getElem?}
+use lib.Dec.{ltb}
 use Rattle.memory.specs.Words.{Memory, marked}
 use Rattle.memory.specs.Search.{first}
 use Rattle.memory.specs.Apply.{isSome}
@@ -31,7 +32,9 @@ use Rattle.tree.specs.Changes.{Opens, NewRoot, Links, NewChild, Grown, R
 
 pub record ChildLaws : Type 0 where
   pub below : (k f : ℕ) → k < 31 → child k f < fanout k
-  -- a child number by a quotient and a remainder
+  -- a child number by a quotient and a remainder: a frame's digits, lowest first, are three of base 2, then of base 4
+  pub digit : (k f : ℕ) → child k f ≡ f / 2 ^ bitsTo k % cond (ltb k 3) 2 4
+  -- where there are children, the base is their number
   pub remainder : (k f : ℕ) → k < 31 → child k f ≡ f / 2 ^ bitsTo k % fanout k
   -- frames go one way to level k exactly if they agree in the bits that it reads
   pub same-way : (k f f' : ℕ) → (wayOf k f ≡ wayOf k f') ↔ (f % 2 ^ bitsTo k ≡ f' % 2 ^ bitsTo k)

@@ -2,7 +2,6 @@
 ghost use mathlib.Core.Path.{_≡_};
 ghost use Prim.Native.Nat.{_≤_};
 ghost use Rattle.tree.specs.Path.{fanout, child};
-use memory::words::bit_of;
 
 // A place of a node.
 pub struct Spot {
@@ -41,14 +40,16 @@ pub fn fanout(level: u64) -> usize
     0
 }
 
-// A frame's bit k at levels 0 to 2, then its bits 2k − 3 and 2k − 2 as a number.
+// The level's digit of a frame, by a quotient and a remainder: the digits, lowest first, are three of base 2, then of base 4. No
+// branch depends on the frame. The one on the level is predicted; a divisor chosen without it would be waited for. In a walk the
+// compiler makes that choice if both returns have the quotient first, so the second has the remainder first.
 pub fn child(level: u64, frame: u64) -> u64
     requires { ⌜ level ≤ 31 ⌝ }
     ensures { λ r. ⌜ r ≡ child level frame ⌝ }
 {
-    let k = level as u32;
-    if k < 3 {
-        return bit_of(frame, k);
+    if level <= 2 {
+        return frame / (1 << level) % 2;
     }
-    bit_of(frame, 2 * k - 3) + 2 * bit_of(frame, 2 * k - 2)
+    let bits = 2 * level - 3;
+    frame % (1 << (bits + 2)) / (1 << bits)
 }

@@ -1,8 +1,9 @@
-/* Which instructions Has, Remove and Claim execute does not depend on a bit of the frame, nor in Recover on the child to which a held
- * frame goes: a branch on a bit would often be mispredicted. A call is made one instruction at a time, by the trap flag, and the
- * addresses of its instructions, in their sequence, are taken together in one number, its trace. In the trees here nothing but
- * the child numbers tells the path of one frame from that of another: the nodes of a level have all children in common, and no
- * node has the frame's fingerprint. Recover would refuse such a tree; it gets one with a single path. Linux on x86-64. */
+/* Which instructions Has, Remove and Claim execute does not depend on a bit of the frame, nor in Recover, at some levels, on
+ * the child to which a held frame goes: a branch on a bit would often be mispredicted. A call is made one instruction at a
+ * time, by the trap flag, and the addresses of its instructions, in their sequence, are taken together in one number, its
+ * trace. In the trees here nothing but the child numbers tells the path of one frame from that of another: the nodes of a
+ * level have all children in common, and no node has the frame's fingerprint. Recover would refuse such a tree; it gets one
+ * with a single path. Linux on x86-64. */
 #define _GNU_SOURCE
 #include <stdio.h>
 

@@ -23,7 +23,7 @@ Programs and the library; rt, of the Rattle kit, is needed for all:
   make man            the man pages: build/man/
   make install        header, libraries, reelbook.pc, tool and man pages below PREFIX=/usr/local; DESTDIR= for packages
   make uninstall      take the same files out again
-  make bench          times beside other stores; QUICK=1 for the book alone; BEFORE= an earlier build of the library
+  make bench          times beside other stores; QUICK=1 the book alone; BEFORE= an earlier build; EDITION=1 on such images
   make bench-docs     the tables and the plot of the last whole run go to docs/
   make clean          remove build/; what is proved, in target/, stays
 

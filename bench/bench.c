@@ -2,6 +2,7 @@
  * their files, TABLE is the file for the table that other programs read. Quick: in memory the book, C by hand and the floor, and
  * the book's earlier build if there is one. */
 #define _GNU_SOURCE /* for sched_setaffinity */
+#include "book.h"
 #include "report.h"
 
 #include <errno.h>
@@ -128,14 +129,22 @@ static void check_frames(const struct column *c, void *state, const struct work 
         fail(c->name, "frames were lost or invented");
 }
 
-/* The column that is measured at a column's turn, on its state: itself, but the book and its earlier build change places with each
- * repetition. Where an image lies in memory, and what ran before, makes more of a difference than most changes of the code. */
-static size_t measured_at(size_t turn, size_t repetition) {
+static void note_editions(void *const *states, struct result *m) {
+    m->edition = m->edition_before = book_edition(states[OURS]);
 #ifdef HAVE_BEFORE
-    if (repetition % 2 == 1 && (turn == OURS || turn == BEFORE))
+    m->edition_before = book_edition(states[BEFORE]);
+#endif
+}
+
+/* The column that is measured at a column's turn, on its state: itself, but the book and its earlier build change places with each
+ * repetition. Where an image lies in memory, and what ran before, makes more of a difference than most changes of the code. Where
+ * the editions differ they stay: the earlier build may not know the book's. */
+static size_t measured_at(const struct result *m, size_t turn, size_t repetition) {
+#ifdef HAVE_BEFORE
+    if (m->edition == m->edition_before && repetition % 2 == 1 && (turn == OURS || turn == BEFORE))
         return OURS + BEFORE - turn;
 #endif
-    (void)repetition;
+    (void)m, (void)repetition;
     return turn;
 }
 
@@ -148,12 +157,13 @@ static void measure(const struct work *w, size_t count, const char *const *folde
         states[c] = open_loaded(&columns[c], w, folders);
         m->bytes[c] = columns[c].store->bytes(states[c]);
     }
+    note_editions(states, m);
     for (enum row row = 0; row < ROWS; row++)
         m->repetitions[row] = row == RECOVERY && w->repetitions > RECOVERIES ? RECOVERIES : w->repetitions;
     for (size_t k = 0; k < w->repetitions; k++)
         for (enum row row = 0; row < ROWS; row++)
             for (size_t turn = 0; turn < count && k < m->repetitions[row]; turn++) {
-                size_t at = (turn + k) % count, c = measured_at(at, k);
+                size_t at = (turn + k) % count, c = measured_at(m, at, k);
                 if (is_measured(columns[c].where, row))
                     m->times[row][c][k] = time_batch(&columns[c], states[at], w, row, k);
             }

@@ -63,6 +63,9 @@ void *book_open(const struct column *column, const char *path) {
     b->list = allocate(LIST_WORDS, sizeof *b->list);
     map_file(b, path);
     expect_done("format", reelbook_format(b->medium.words, b->image_words, b->map, b->map_words, b->heads, REELS, NODES));
+#ifdef EDITION
+    b->medium.words[REELBOOK_EDITION_AT] = EDITION; /* an image without frames is one of either edition but for this */
+#endif
     open_reels(b);
     return b;
 }
@@ -155,6 +158,11 @@ double book_bytes(void *state) {
     for (size_t n = 0; n < NODES; n++)
         used += b->map[n / 64] >> n % 64 & 1;
     return (double)(reelbook_image_words(REELS, used) * sizeof(uint64_t));
+}
+
+uint64_t book_edition(const void *state) {
+    const struct book *b = state;
+    return b->medium.words[REELBOOK_EDITION_AT];
 }
 
 void book_close(void *state) {

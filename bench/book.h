@@ -22,6 +22,7 @@ void *book_open(const struct column *column, const char *path);
 void book_load(void *state, const struct op *ops, size_t count);
 size_t book_list(void *state, const struct op *ops, size_t count);
 double book_bytes(void *state);
+uint64_t book_edition(const void *state);
 void book_close(void *state);
 
 /* The operations on their own: each writes its script and hands back the script's length. None may be refused. */

@@ -1,7 +1,7 @@
 # make bench: the reel book beside its floors and other stores; tables on the output and in build/bench.tsv.
 # make bench QUICK=1: the book, C by hand and the floor alone. FRAMES is how many are loaded, MEMORY and DISK are folders for the files,
 # LIBRARY is another build of the library, RUN is a program to run it in, such as a profiler. BEFORE is an earlier build of the
-# library, with the same header, for a column of its own.
+# library, with the same header, for a column of its own. EDITION=1 measures on images of edition 1.
 # A store whose package is missing is left out: apt-get install libpmemobj-dev liblmdb-dev libsqlite3-dev.
 # make bench-docs: the tables and the plot of the last whole run go to docs/.
 .PHONY: bench bench-docs
@@ -17,15 +17,19 @@ other_store = $(if $(shell $(CC) -include $(2) -fsyntax-only -x c /dev/null 2>/d
 OTHER_STORES = $(call other_store,PMEMOBJ,libpmemobj.h,pmemobj,pmemobj) $(call other_store,LMDB,lmdb.h,lmdb,lmdb) \
     $(call other_store,SQLITE,sqlite3.h,sqlite,sqlite3)
 
+# An image of another edition than the one that the library formats.
+AS_EDITION = $(EDITION:%=-DEDITION=%)
+
 # The earlier build and the store that calls it: one object that hands out one name.
-make_before = $(CC) $(WARNINGS) $(CFLAGS) -Iinclude -Idriver -r -nostdlib -o build/before.o bench/book.c $(BEFORE) && \
-    objcopy --keep-global-symbol=book_store build/before.o && objcopy --redefine-sym book_store=before_store build/before.o
+make_before = $(CC) $(WARNINGS) $(CFLAGS) $(AS_EDITION) -Iinclude -Idriver -r -nostdlib -o build/before.o bench/book.c \
+    $(BEFORE) && objcopy --keep-global-symbol=book_store build/before.o && \
+    objcopy --redefine-sym book_store=before_store build/before.o
 
 # PMEM_IS_PMEM_FORCE: libpmemobj flushes lines, as the book does, where it would call msync.
 bench: $(LIBRARY)
 	@mkdir -p build
 	@$(if $(BEFORE),$(make_before))
-	@$(CC) $(WARNINGS) $(CFLAGS) -Iinclude -Idriver -o build/benchmark $(BENCH_SOURCES) $(LIBRARY) \
+	@$(CC) $(WARNINGS) $(CFLAGS) $(AS_EDITION) -Iinclude -Idriver -o build/benchmark $(BENCH_SOURCES) $(LIBRARY) \
 	    $(if $(BEFORE),-DHAVE_BEFORE build/before.o) $(OTHER_STORES)
 	@memory=$$(mktemp -d $(MEMORY)/reelbook.XXXXXX) && disk=$$(mktemp -d $(DISK)/reelbook.XXXXXX) && \
 	    trap 'rm -rf "$$memory" "$$disk"' EXIT INT TERM && \

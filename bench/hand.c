@@ -19,6 +19,7 @@ struct slot {
 
 struct hand {
     struct book *book; /* its image, map, scratch map and list; the library formats it, opens the reels, and is then left out */
+    int bytes;         /* of a frame that its fingerprint folds: by the image's edition */
     struct slot *slots;
     struct node *nodes;
     uint64_t left; /* places left in the node of the last insert */
@@ -41,11 +42,11 @@ struct path {
 #define ENTRIES64(i) ENTRIES16(i), ENTRIES16((i) + 16), ENTRIES16((i) + 32), ENTRIES16((i) + 48)
 static const uint8_t table[256] = {ENTRIES64(0), ENTRIES64(64), ENTRIES64(128), ENTRIES64(192)};
 
-static uint64_t fingerprint(uint64_t frame) {
-    uint8_t h = 0;
-    for (int k = 0; k < 4; k++)
-        h = table[h ^ (uint8_t)(frame >> 8 * k)];
-    return h;
+static uint64_t fingerprint(const struct hand *h, uint64_t frame) {
+    uint8_t print = 0;
+    for (int k = 0; k < h->bytes; k++)
+        print = table[print ^ (uint8_t)(frame >> 8 * k)];
+    return print;
 }
 
 static void broken(void) {
@@ -105,7 +106,7 @@ static struct node *root_of(struct hand *h, uint64_t reel) {
 /* To the path's end, since a malformed node decides wherever it is. */
 static struct path walk(struct hand *h, struct node *n, uint64_t frame) {
     struct path path = {.level = 0};
-    uint64_t print = fingerprint(frame);
+    uint64_t print = fingerprint(h, frame);
     for (;; path.level++) {
         if (!well_formed(n, path.level))
             broken();
@@ -181,7 +182,7 @@ static void insert_one(struct hand *h, const struct op *op) {
     barrier(h);
     store(h, &n->frames[to.place], op->frame);
     barrier(h);
-    store(h, prints, (*prints & ~((uint64_t)255 << shift)) | fingerprint(op->frame) << shift);
+    store(h, prints, (*prints & ~((uint64_t)255 << shift)) | fingerprint(h, op->frame) << shift);
     barrier(h);
     store(h, &n->set, n->set | bit);
     barrier(h);
@@ -288,6 +289,7 @@ static size_t recover(void *state, const struct op *ops, size_t count) {
 static void *open_hand(const struct column *column, const char *path) {
     struct hand *h = allocate(1, sizeof *h);
     h->book = book_open(column, path);
+    h->bytes = h->book->medium.words[REELBOOK_EDITION_AT] == REELBOOK_EDITION_1 ? 4 : 8;
     h->slots = (struct slot *)(h->book->medium.words + REELBOOK_HEADER_WORDS);
     h->nodes = (struct node *)(h->book->medium.words + reelbook_image_words(REELS, 0));
     return h;
@@ -304,9 +306,13 @@ static double bytes(void *state) {
     return book_bytes(h->book);
 }
 
+/* The library finds the image sound: it is the same image, fingerprints too. */
 static void close_hand(void *state) {
     struct hand *h = state;
-    book_close(h->book);
+    struct book *b = h->book;
+    if (reelbook_recover(b->medium.words, b->image_words, b->map, b->map_words, b->heads) != REELBOOK_DONE)
+        fail("C by hand", "the image is not sound");
+    book_close(b);
     free(h);
 }
 

@@ -12,6 +12,7 @@ enum { MAX_COLUMNS = 12 };
 struct result {
     const char *name;
     size_t frames;
+    uint64_t edition, edition_before; /* of the images, and of the earlier build's; equal where there is none */
     size_t repetitions[ROWS];
     double times[ROWS][MAX_COLUMNS][REPETITIONS];
     double bytes[MAX_COLUMNS];

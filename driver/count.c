@@ -5,7 +5,7 @@
 #include "commands.h"
 #include "form.h"
 
-enum { REEL_FIELDS = 8, BOOK_FIELDS = 8, BRIEF_FIELDS = 3 };
+enum { REEL_FIELDS = 8, BOOK_FIELDS = 9, BRIEF_FIELDS = 3 };
 
 static void reel_fields(struct field f[REEL_FIELDS], const struct survey_reel *r) {
     const struct field fields[REEL_FIELDS] = {
@@ -61,6 +61,7 @@ static void print_lines(const struct book *b, const struct survey *s, int by_ree
     printf("nodes    %" PRIu64 " used, %" PRIu64 " free\n", s->total.nodes, b->file.nodes - s->total.nodes);
     printf("deepest  level %u\n", s->deepest);
     printf("places   %" PRIu64 ", %" PRIu64 " used, %" PRIu64 " located\n", s->total.places, s->total.frames, s->total.located);
+    printf("edition  %" PRIu64 "\n", b->image[REELBOOK_EDITION_AT]);
     if (by_reel)
         print_table(s);
 }
@@ -76,6 +77,7 @@ static void print_for_program(enum form form, const struct book *b, const struct
         {"deepest", s->deepest},
         {"places", s->total.places},
         {"located", s->total.located},
+        {"edition", b->image[REELBOOK_EDITION_AT]},
     };
     if (form == FORM_CSV && by_reel) {
         print_each(form, s, reel_fields, REEL_FIELDS);

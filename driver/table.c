@@ -18,7 +18,7 @@ enum { ANY = 1 << 30 };
 static const struct command commands[] = {
     {.name = "format",
      .operands = "FILE --reels R --nodes N [--force]",
-     .about = "Makes a book with room for R reels and a pool of N nodes.",
+     .about = "Makes a book of edition 2 with room for R reels and a pool of N nodes.",
      .least = 1,
      .most = 1,
      .options = BIT(OPTION_REELS) | BIT(OPTION_NODES) | BIT(OPTION_FORCE),
@@ -79,7 +79,10 @@ static const struct command commands[] = {
      .run = run_reels},
     {.name = "stat",
      .operands = "FILE [--by-reel] [--json | --csv]",
-     .about = "Counts reels, frames, nodes and places.",
+     .about = "Counts reels, frames, nodes and places, and tells the book's edition.",
+     .more = "In edition 1 the fingerprints in a book are of the four low bytes of each frame, in edition 2 of all eight. Every\n"
+             "command reads both and leaves a book in its edition; format and load make books of edition 2. Versions before 3.1\n"
+             "make books of edition 1, and refuse those of edition 2.",
      .least = 1,
      .most = 1,
      .options = BIT(OPTION_BY_REEL) | FORMS,
@@ -96,7 +99,7 @@ static const struct command commands[] = {
      .run = run_dump},
     {.name = "load",
      .operands = "FILE [FROM] [--reels R] [--nodes N] [--force]",
-     .about = "Makes a book from the text of dump, in the file FROM or on standard input.",
+     .about = "Makes a book of edition 2 from the text of dump, in the file FROM or on standard input.",
      .more = "The book gets as much room as the dumped one had, which always suffices, or what --reels and --nodes say. It\n"
              "takes its name when it is whole: after a refusal, an interrupt or a power failure there is no book, or, with\n"
              "--force, still the old one.",

@@ -27,9 +27,9 @@
 /* The version of this header, and of the library beside which it is installed. With another major number the interface is
  * another: a program has to be compiled anew, and the shared object has another name. */
 #define REELBOOK_VERSION_MAJOR 3
-#define REELBOOK_VERSION_MINOR 0
-#define REELBOOK_VERSION_PATCH 1
-#define REELBOOK_VERSION "3.0.1"
+#define REELBOOK_VERSION_MINOR 1
+#define REELBOOK_VERSION_PATCH 0
+#define REELBOOK_VERSION "3.1.0"
 
 #ifdef __cplusplus
 extern "C" {
@@ -39,7 +39,7 @@ extern "C" {
 enum {
     REELBOOK_DONE = 0,
     REELBOOK_BAD_IMAGE = 1,    /* the image's length, its number of slots or its number of nodes is wrong */
-    REELBOOK_BAD_EDITION = 2,  /* the image is of another edition */
+    REELBOOK_BAD_EDITION = 2,  /* the image's edition is neither 1 nor 2 */
     REELBOOK_BAD_BUFFER = 3,   /* map or scratch map is not of the map's length, or the script is too short */
     REELBOOK_MALFORMED = 4,    /* the tree is malformed, or a head's node or place is outside */
     REELBOOK_NO_REEL = 5,      /* no such reel */
@@ -58,8 +58,13 @@ enum {
 #define REELBOOK_BARRIER UINT64_MAX
 #define REELBOOK_SCRIPT_WORDS 50
 
-/* The image: word 0 is the edition, 1 the number of slots, 2 that of nodes. */
-#define REELBOOK_EDITION 1
+/* The image: word 0 is the edition, 1 the number of slots, 2 that of nodes. A frame's fingerprint folds its four low bytes in
+ * edition 1, all eight in edition 2. Every function reads both, each by its rule. reelbook_format writes REELBOOK_EDITION, also
+ * over an image of edition 1; no other operation changes the edition. Libraries before 3.1 write edition 1 and refuse 2. Do not
+ * compare an image's edition with REELBOOK_EDITION, which changes: refusal 2 tells whether it is known. */
+#define REELBOOK_EDITION_1 1
+#define REELBOOK_EDITION_2 2
+#define REELBOOK_EDITION REELBOOK_EDITION_2
 #define REELBOOK_EDITION_AT 0
 #define REELBOOK_SLOTS_AT 1
 #define REELBOOK_NODES_AT 2
@@ -96,7 +101,7 @@ static inline const char *reelbook_answer_text(uint64_t answer) {
     switch (answer) {
     case REELBOOK_DONE: return "done";
     case REELBOOK_BAD_IMAGE: return "the image's length or numbers are wrong";
-    case REELBOOK_BAD_EDITION: return "the image is of another edition";
+    case REELBOOK_BAD_EDITION: return "the image's edition is neither 1 nor 2";
     case REELBOOK_BAD_BUFFER: return "a buffer has the wrong length";
     case REELBOOK_MALFORMED: return "the tree is malformed";
     case REELBOOK_NO_REEL: return "no such reel";
@@ -124,14 +129,16 @@ static inline size_t reelbook_map_words(uint64_t nodes) {
     return ((nodes + 63) / 64) & SIZE_MAX;
 }
 
-/* Makes the image anew. Refusals 1, 3. Writes the image's header and roots itself, clears the map, makes the heads idle; lasting
- * when the caller has passed a barrier. Not safe against a power failure before that: then format again. */
+/* Makes the image anew, of edition 2, whatever it was. Refusals 1, 3. Writes the image's header and roots itself, clears the map,
+ * makes the heads idle; lasting when the caller has passed a barrier. Not safe against a power failure before that: then format
+ * again. */
 uint64_t reelbook_format(uint64_t *image, size_t image_words, uint64_t *map, size_t map_words,
                          uint64_t heads[REELBOOK_HEADS_WORDS], uint64_t slots, uint64_t nodes);
 
 /* After power-up, before anything else, and again until it answers 0. Refusals 1, 2, 3, 4; after 4 the image is as it was and the
  * map all 0. Stores to the image itself, each word whole; builds the map, makes the heads idle; open claims are lost. It has
- * ended when the caller has passed a barrier; a power failure before that does no harm. */
+ * ended when the caller has passed a barrier; a power failure before that does no harm. The image is judged by its edition's
+ * rule, and keeps its edition. On an image of edition 1 that an earlier library left, this is the start too: its frames stay. */
 uint64_t reelbook_recover(uint64_t *image, size_t image_words, uint64_t *map, size_t map_words,
                           uint64_t heads[REELBOOK_HEADS_WORDS]);
 

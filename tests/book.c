@@ -42,6 +42,19 @@ void book_format(struct book *b, uint64_t slots, uint64_t nodes) {
     equal(reelbook_format(b->image, b->image_words, b->map, b->map_words, b->heads, slots, nodes), REELBOOK_DONE, "format");
 }
 
+void book_format_as(struct book *b, uint64_t edition, uint64_t slots, uint64_t nodes) {
+    book_format(b, slots, nodes);
+    b->image[REELBOOK_EDITION_AT] = edition;
+}
+
+unsigned fingerprint(uint64_t edition, uint64_t frame) {
+    unsigned h = 0, byte, bytes = edition == REELBOOK_EDITION_1 ? 4 : 8;
+    for (byte = 0; byte < bytes; byte++) {
+        h = (167 * (h ^ (unsigned)(frame >> 8 * byte & 255)) + 13) % 256;
+    }
+    return h;
+}
+
 void book_free(struct book *b) {
     free(b->image);
     free(b->map);

@@ -27,6 +27,12 @@ uint64_t *junk(size_t words);
 void book_format(struct book *b, uint64_t slots, uint64_t nodes);
 void book_free(struct book *b);
 
+/* Formatted, and then of this edition: an image without frames has no fingerprint by which the editions differ. */
+void book_format_as(struct book *b, uint64_t edition, uint64_t slots, uint64_t nodes);
+
+/* The specification's fingerprint of a frame in an edition. */
+unsigned fingerprint(uint64_t edition, uint64_t frame);
+
 /* The operations, by their answers. */
 uint64_t book_open(struct book *b, uint64_t reel);
 uint64_t book_claim(struct book *b, uint64_t head, uint64_t reel, uint64_t frame);

@@ -1,9 +1,9 @@
-/* Which instructions Has, Remove and Claim execute does not depend on a bit of the frame, nor in Recover, at some levels, on
- * the child to which a held frame goes: a branch on a bit would often be mispredicted. A call is made one instruction at a
- * time, by the trap flag, and the addresses of its instructions, in their sequence, are taken together in one number, its
- * trace. In the trees here nothing but the child numbers tells the path of one frame from that of another: the nodes of a
- * level have all children in common, and no node has the frame's fingerprint. Recover would refuse such a tree; it gets one
- * with a single path. Linux on x86-64. */
+/* Which instructions Has, Remove, Claim and Fill execute does not, in either edition, depend on a bit of the frame, nor in
+ * Recover, at some levels, on the child to which a held frame goes: a branch on a bit would often be mispredicted. A call is
+ * made one instruction at a time, by the trap flag, and the addresses of its instructions, in their sequence, are taken
+ * together in one number, its trace. In the trees here nothing but the child numbers tells the path of one frame from that of
+ * another: the nodes of a level have all children in common, and no node has the frame's fingerprint. Recover would refuse
+ * such a tree; it gets one with a single path. Linux on x86-64. */
 #define _GNU_SOURCE
 #include <stdio.h>
 
@@ -53,6 +53,13 @@ static uint64_t claim(uint64_t frame) {
                           &b.used, &b.left);
 }
 
+/* As after a claim of place 0 of node 0. */
+static uint64_t fill(uint64_t frame) {
+    b.heads[REELBOOK_HEAD_STATE_AT] = REELBOOK_CLAIMED;
+    b.heads[REELBOOK_HEAD_FRAME_AT] = frame;
+    return reelbook_fill(b.image, b.image_words, b.heads, b.script, REELBOOK_SCRIPT_WORDS, 0, &b.used);
+}
+
 static uint64_t recover(uint64_t frame) {
     (void)frame;
     return reelbook_recover(b.image, b.image_words, b.map, b.map_words, b.heads);
@@ -90,13 +97,9 @@ static uint64_t child(uint64_t level, uint64_t frame) {
     return level < 3 ? frame >> level & 1 : (frame >> (2 * level - 3) & 1) + 2 * (frame >> (2 * level - 2) & 1);
 }
 
-/* Four bytes, lowest first. */
-static unsigned fingerprint(uint64_t frame) {
-    unsigned h = 0, byte;
-    for (byte = 0; byte < 4; byte++) {
-        h = (167 * (h ^ (unsigned)(frame >> 8 * byte & 255)) + 13) % 256;
-    }
-    return h;
+/* In the image's edition. */
+static unsigned print_of(uint64_t frame) {
+    return fingerprint(b.image[REELBOOK_EDITION_AT], frame);
 }
 
 /* A node with its bitmaps, and one fingerprint at all places. */
@@ -116,7 +119,7 @@ static void make_tree(uint64_t last, uint64_t frame) {
     memset(b.map, 0, b.map_words * sizeof *b.map);
     for (level = 0; level <= last; level++) {
         for (node = first; node < first + count; node++) {
-            make_node(node, level, level < last ? first + count + 1 : 0, UINT64_MAX, fingerprint(frame) ^ 255);
+            make_node(node, level, level < last ? first + count + 1 : 0, UINT64_MAX, print_of(frame) ^ 255);
             b.map[node / 64] |= (uint64_t)1 << node % 64;
         }
         first += count;
@@ -129,9 +132,9 @@ static void make_tree(uint64_t last, uint64_t frame) {
 static void make_path(uint64_t last, uint64_t frame) {
     uint64_t level, sibling, node = 0, first = 1;
     for (level = 0; level <= last; level++) {
-        make_node(node, level, first + 1, level == last, fingerprint(frame));
+        make_node(node, level, first + 1, level == last, print_of(frame));
         for (sibling = 0; sibling < fanout(level); sibling++) {
-            make_node(first + sibling, level + 1, 0, 0, fingerprint(frame) ^ 255);
+            make_node(first + sibling, level + 1, 0, 0, print_of(frame) ^ 255);
         }
         b.image[node_index(&b, node, REELBOOK_NODE_FRAMES)] = frame;
         node = first;
@@ -184,13 +187,14 @@ static uint64_t frame_to(uint64_t level, uint64_t number) {
 
 /* Every child to which a claim can go from a node of this level that has none yet. */
 static void check_claims(uint64_t level) {
-    uint64_t above, number, used = 1, first = trace_on(level, claim, 0, REELBOOK_DONE);
+    uint64_t above, number, used = 1, first = 0;
     for (above = 0; above < level; above++) {
         used += fanout(above);
     }
     for (number = 0; number < fanout(level); number++) {
-        uint64_t frame = frame_to(level, number);
-        equal(trace_on(level, claim, frame, REELBOOK_DONE), first, "trace of a claim that branches out");
+        uint64_t frame = frame_to(level, number), found = trace_on(level, claim, frame, REELBOOK_DONE);
+        first = number == 0 ? found : first;
+        equal(found, first, "trace of a claim that branches out");
         equal(head_word(&b, 0, REELBOOK_HEAD_NODE_AT), used + child(level, frame), "the frame's new child");
         equal(child(level, frame), number, "its number");
     }
@@ -208,21 +212,28 @@ static void check_recovery(uint64_t level) {
     }
 }
 
-int main(void) {
+static void check_edition(uint64_t edition) {
     uint64_t level;
-    choose_frames();
-    book_format(&b, 1, NODES);
-    equal(book_open(&b, REEL), REELBOOK_DONE, "open");
-    handle(SIGTRAP, on_step);
+    b.image[REELBOOK_EDITION_AT] = edition;
     equal(differing(has, REELBOOK_DONE), 0, "frames for which Has goes another way");
     equal(differing(take_out, REELBOOK_NOT_HELD), 0, "frames for which Remove goes another way");
     equal(differing(claim, REELBOOK_MALFORMED), 0, "frames for which Claim goes another way");
+    equal(differing(fill, REELBOOK_DONE), 0, "frames for which Fill goes another way");
     for (level = 0; level < LAST_LEVEL; level++) {
         check_claims(level);
     }
     for (level = 0; level < LAST_LEVEL; level += 10) {
         check_recovery(level);
     }
+}
+
+int main(void) {
+    choose_frames();
+    book_format(&b, 1, NODES);
+    equal(book_open(&b, REEL), REELBOOK_DONE, "open");
+    handle(SIGTRAP, on_step);
+    check_edition(REELBOOK_EDITION_1);
+    check_edition(REELBOOK_EDITION_2);
     for (branch_bit = 0; branch_bit < BITS; branch_bit++) {
         equal(differing(branch, REELBOOK_DONE), FRAMES / 2, "frames for which a branch on a bit goes another way");
     }

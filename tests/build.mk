@@ -1,7 +1,7 @@
 # make check-header: include/reelbook.h as C and as C++, refused on other platforms, and its constants against the library.
 # make check-archive: nothing writable in the library; the stack that each function needs; two books in two threads.
 # make check-stores: Recover's stores to the image, one by one.
-# make check-branches: the instructions of Has, Remove, Claim and Recover, one by one, which no bit of a frame decides.
+# make check-branches: the instructions of Has, Remove, Claim, Fill and Recover, one by one, which no bit of a frame decides.
 # make check-bookrun: the bench program on Case A, on input in pieces, and where a write or a read fails.
 # make fuzz: the library against the model in CASES cases of calls and a history for every 50 of them: a minute on two cores.
 # SEED=random takes new cases; SEED=number repeats one.

@@ -57,6 +57,7 @@ static void check_header_words(void) {
     uint64_t word;
     book_format(&b, REELS, NODES);
     equal(b.image[REELBOOK_EDITION_AT], REELBOOK_EDITION, "REELBOOK_EDITION_AT");
+    equal(REELBOOK_EDITION, 2, "REELBOOK_EDITION");
     equal(b.image[REELBOOK_SLOTS_AT], REELS, "REELBOOK_SLOTS_AT");
     equal(b.image[REELBOOK_NODES_AT], NODES, "REELBOOK_NODES_AT");
     for (word = REELBOOK_NODES_AT + 1; word < REELBOOK_HEADER_WORDS; word++) {
@@ -110,8 +111,8 @@ static void check_tree_words(void) {
     equal(node_word(&b, 4, REELBOOK_NODE_SIZE), 16, "REELBOOK_NODE_SIZE");
     equal(node_word(&b, 0, REELBOOK_NODE_FRAMES + 63), 63, "REELBOOK_NODE_FRAMES");
     equal(node_word(&b, 1, REELBOOK_NODE_FRAMES), 64, "REELBOOK_NODE_FRAMES");
-    /* By the specification the fingerprint of frame 0 is 144, of 1 is 113. */
-    equal(node_word(&b, 0, REELBOOK_NODE_FINGERPRINTS) & 0xffff, 144 + 256 * 113, "REELBOOK_NODE_FINGERPRINTS");
+    /* By the specification the fingerprint of frame 0 is 32 in edition 2; that of 1 is 225 by its rule. */
+    equal(node_word(&b, 0, REELBOOK_NODE_FINGERPRINTS) & 0xffff, 32 + 256 * 225, "REELBOOK_NODE_FINGERPRINTS");
     equal(book_claim(&b, 0, 9, 2000), REELBOOK_DONE, "claim");
     equal(node_word(&b, 4, REELBOOK_NODE_LOCATE), 0x3f, "REELBOOK_NODE_LOCATE");
     equal(node_word(&b, 4, REELBOOK_NODE_SET), 0x1f, "REELBOOK_NODE_SET");
@@ -173,7 +174,7 @@ static void check_refusals_of_left(void) {
     equal(book_claim(&b, 0, 7, 100), REELBOOK_BAD_BUFFER, "claim with a map one word long");
     b.map_words--;
     b.image[REELBOOK_EDITION_AT]++;
-    equal(book_claim(&b, 0, 7, 100), REELBOOK_BAD_EDITION, "claim in another edition");
+    equal(book_claim(&b, 0, 7, 100), REELBOOK_BAD_EDITION, "claim in edition 3");
     b.image[REELBOOK_EDITION_AT]--;
     b.image_words--;
     equal(book_claim(&b, 0, 7, 100), REELBOOK_BAD_IMAGE, "claim with an image one word short");
@@ -237,9 +238,6 @@ static void check_refusals_of_images(void) {
     make_tree(&b);
     equal(book_recover(&b), REELBOOK_DONE, "recover");
     equal(book_list(&b, LIST_WORDS, 7), REELBOOK_DONE, "list");
-    b.image[REELBOOK_EDITION_AT] = REELBOOK_EDITION + 1;
-    equal(book_list(&b, LIST_WORDS, 7), REELBOOK_BAD_EDITION, "REELBOOK_BAD_EDITION");
-    b.image[REELBOOK_EDITION_AT] = REELBOOK_EDITION;
     b.image[REELBOOK_NODES_AT]--;
     equal(book_list(&b, LIST_WORDS, 7), REELBOOK_BAD_IMAGE, "REELBOOK_BAD_IMAGE");
     b.image[REELBOOK_NODES_AT]++;
@@ -252,11 +250,84 @@ static void check_refusals_of_images(void) {
     book_free(&b);
 }
 
+/* A reel with three frames, of which two differ in the upper bytes alone. An edition has its fingerprints and is read by them; by
+ * the other edition's rule the frames are not held and the image is not sound. No operation changes the edition. */
+static void check_edition(uint64_t edition, uint64_t prints, uint64_t other) {
+    static const uint64_t frames[] = {0, 1, UINT64_C(1) << 32};
+    struct book b;
+    size_t i;
+    book_format_as(&b, edition, REELS, NODES);
+    equal(book_open(&b, 7), REELBOOK_DONE, "open");
+    for (i = 0; i < 3; i++) {
+        book_add(&b, 7, frames[i], 0, 1);
+        equal(book_claim(&b, 0, 7, frames[i]), REELBOOK_FRAME_HELD, "claim of a frame held in this edition");
+    }
+    equal(node_word(&b, 0, REELBOOK_NODE_FINGERPRINTS) & 0xffffff, prints, "fingerprints in this edition");
+    equal(book_recover(&b), REELBOOK_DONE, "recover in this edition");
+    equal(b.image[REELBOOK_EDITION_AT], edition, "the edition after a recovery");
+    b.image[REELBOOK_EDITION_AT] = other;
+    equal(book_recover(&b), REELBOOK_MALFORMED, "recover by the other edition's rule");
+    for (i = 0; i < 3; i++) {
+        equal(reelbook_has(b.image, b.image_words, 7, frames[i], &b.count), REELBOOK_DONE, "has by the other edition's rule");
+        equal(b.count, 0, "no of has by the other edition's rule");
+        equal(book_remove(&b, 7, frames[i]), REELBOOK_NOT_HELD, "remove by the other edition's rule");
+    }
+    b.image[REELBOOK_EDITION_AT] = edition;
+    for (i = 0; i < 3; i++) {
+        equal(book_remove(&b, 7, frames[i]), REELBOOK_DONE, "remove in this edition");
+    }
+    equal(book_retire(&b, 7), REELBOOK_DONE, "retire in this edition");
+    equal(b.image[REELBOOK_EDITION_AT], edition, "the edition after all operations");
+    book_free(&b);
+}
+
+/* Every function that reads the image refuses it; Apply reads no edition, and Format none that is there. */
+static void check_unknown_edition(uint64_t edition) {
+    struct book b;
+    make_tree(&b);
+    b.image[REELBOOK_EDITION_AT] = edition;
+    equal(book_recover(&b), REELBOOK_BAD_EDITION, "recover in an unknown edition");
+    equal(book_open(&b, 10), REELBOOK_BAD_EDITION, "open in an unknown edition");
+    equal(book_claim(&b, 0, 7, 100), REELBOOK_BAD_EDITION, "claim in an unknown edition");
+    equal(book_fill(&b, 0), REELBOOK_BAD_EDITION, "fill in an unknown edition");
+    equal(book_commit(&b, 0), REELBOOK_BAD_EDITION, "commit in an unknown edition");
+    equal(book_abandon(&b, 0), REELBOOK_BAD_EDITION, "abandon in an unknown edition");
+    equal(book_remove(&b, 7, 1), REELBOOK_BAD_EDITION, "remove in an unknown edition");
+    equal(reelbook_has(b.image, b.image_words, 7, 1, &b.count), REELBOOK_BAD_EDITION, "has in an unknown edition");
+    equal(book_list(&b, LIST_WORDS, 7), REELBOOK_BAD_EDITION, "list in an unknown edition");
+    equal(book_retire(&b, 7), REELBOOK_BAD_EDITION, "retire in an unknown edition");
+    b.script[0] = REELBOOK_BARRIER;
+    b.script[1] = 0;
+    equal(reelbook_apply(b.image, b.image_words, b.script, 2), REELBOOK_DONE, "apply in an unknown edition");
+    equal(b.image[REELBOOK_EDITION_AT], edition, "an unknown edition after refusals");
+    book_free(&b);
+}
+
+static void check_format_over(uint64_t edition) {
+    struct book b;
+    book_format_as(&b, edition, REELS, NODES);
+    equal(reelbook_format(b.image, b.image_words, b.map, b.map_words, b.heads, REELS, NODES), REELBOOK_DONE, "format again");
+    equal(b.image[REELBOOK_EDITION_AT], 2, "the edition after a format over another");
+    book_free(&b);
+}
+
+static void check_editions(void) {
+    static const uint64_t unknown[] = {0, 3, UINT64_MAX, (UINT64_C(1) << 32) + 1, (UINT64_C(1) << 32) + 2};
+    size_t i;
+    check_edition(REELBOOK_EDITION_1, 144 + 256 * 113 + 65536 * 144, 2);
+    check_edition(REELBOOK_EDITION_2, 32 + 256 * 225 + 65536 * 1, 1);
+    for (i = 0; i < sizeof unknown / sizeof unknown[0]; i++) {
+        check_unknown_edition(unknown[i]);
+        check_format_over(unknown[i]);
+    }
+    check_format_over(REELBOOK_EDITION_1);
+}
+
 static void check_version(void) {
     char version[64];
     equal(REELBOOK_VERSION_MAJOR, 3, "REELBOOK_VERSION_MAJOR");
-    equal(REELBOOK_VERSION_MINOR, 0, "REELBOOK_VERSION_MINOR");
-    equal(REELBOOK_VERSION_PATCH, 1, "REELBOOK_VERSION_PATCH");
+    equal(REELBOOK_VERSION_MINOR, 1, "REELBOOK_VERSION_MINOR");
+    equal(REELBOOK_VERSION_PATCH, 0, "REELBOOK_VERSION_PATCH");
     snprintf(version, sizeof version, "%d.%d.%d", REELBOOK_VERSION_MAJOR, REELBOOK_VERSION_MINOR, REELBOOK_VERSION_PATCH);
     same_text(REELBOOK_VERSION, version, "REELBOOK_VERSION");
 }
@@ -264,10 +335,10 @@ static void check_version(void) {
 /* By number, so that a name with another's number is found too. */
 static void check_texts(void) {
     static const char *const texts[] = {
-        "done", "the image's length or numbers are wrong", "the image is of another edition", "a buffer has the wrong length",
-        "the tree is malformed", "no such reel", "the reel is open already", "no empty reel slot",
-        "not enough adjacent free nodes", "held already", "not held", "no such head", "the head is in another state",
-        "an open claim is in the way", "the list has too little room", "unknown answer"};
+        "done", "the image's length or numbers are wrong", "the image's edition is neither 1 nor 2",
+        "a buffer has the wrong length", "the tree is malformed", "no such reel", "the reel is open already",
+        "no empty reel slot", "not enough adjacent free nodes", "held already", "not held", "no such head",
+        "the head is in another state", "an open claim is in the way", "the list has too little room", "unknown answer"};
     uint64_t answer;
     equal(sizeof texts / sizeof texts[0], REELBOOK_LIST_SHORT + 2, "a text for each answer, and one for any other");
     for (answer = 0; answer < sizeof texts / sizeof texts[0]; answer++) {
@@ -292,6 +363,7 @@ int main(void) {
     check_refusals_of_heads();
     check_refusals_of_frames();
     check_refusals_of_images();
+    check_editions();
     printf("header: %u checks, %u failures\n", checks, failures);
     return failures != 0;
 }

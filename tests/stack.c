@@ -1,8 +1,9 @@
 /* How many bytes of stack each function needs, arguments and return address included: it is called on a stack of its own that is
  * painted before, and what has another colour afterwards was used. The trees are as deep as there can be, since Recover, List and
- * Retire go down them by calls. Prints a line for each function. */
+ * Retire go down them by calls. stack EDITION prints a line for each function, on images of that edition. */
 #define _XOPEN_SOURCE 600 /* for ucontext.h */
 #include <stdio.h>
+#include <stdlib.h>
 #include <string.h>
 #include <ucontext.h>
 
@@ -14,7 +15,7 @@ static uint64_t stack[STACK_WORDS];
 static ucontext_t outside, inside;
 static struct book deep, wide, *b = &deep;
 static const void *top;
-static uint64_t answer;
+static uint64_t edition, answer;
 
 /* The bytes of stack below top that a call has used. */
 static size_t stack_of(void (*call)(void)) {
@@ -35,11 +36,10 @@ static size_t stack_of(void (*call)(void)) {
 }
 
 /* A sound tree with one path down to the last level: node 0, then the first of each group of children. Level k has frame
- * k * 2^59 in place 0; all of these agree in bits 0 to 58, which are 0, so that they go to the first child each time, and have
- * the fingerprint of 0, which is 144. */
+ * k * 2^59 in place 0; all of these agree in bits 0 to 58, which are 0, so that they go to the first child each time. */
 static void make_deep(void) {
     uint64_t node = 0, next = 1, level, child;
-    book_format(b, 1, NODES);
+    book_format_as(b, edition, 1, NODES);
     equal(book_open(b, 7), REELBOOK_DONE, "open");
     for (level = 0; level <= LAST_LEVEL; level++) {
         uint64_t children = level == LAST_LEVEL ? 0 : level < 3 ? 2 : 4;
@@ -51,7 +51,7 @@ static void make_deep(void) {
         b->image[node_index(b, node, REELBOOK_NODE_NEXT)] = children ? next + 1 : 0;
         b->image[node_index(b, node, REELBOOK_NODE_SIZE)] = 64;
         b->image[node_index(b, node, REELBOOK_NODE_LOCATE)] = b->image[node_index(b, node, REELBOOK_NODE_SET)] = 1;
-        b->image[node_index(b, node, REELBOOK_NODE_FINGERPRINTS)] = 144;
+        b->image[node_index(b, node, REELBOOK_NODE_FINGERPRINTS)] = fingerprint(edition, level << 59);
         b->image[node_index(b, node, REELBOOK_NODE_FRAMES)] = level << 59;
         node = next;
         next += children;
@@ -103,7 +103,7 @@ static void line(const char *name, size_t bytes) {
 static void measure_claim(void) {
     size_t in_deep = measured(call_claim, 1), in_wide;
     b = &wide;
-    book_format(b, 1, NODES);
+    book_format_as(b, edition, 1, NODES);
     equal(book_open(b, 7), REELBOOK_DONE, "open");
     book_add(b, 7, 0, 8, 256);
     in_wide = measured(call_claim, 1);
@@ -113,7 +113,8 @@ static void measure_claim(void) {
     line("claim", in_deep > in_wide ? in_deep : in_wide);
 }
 
-int main(void) {
+int main(int count, char **words) {
+    edition = count == 2 ? strtoull(words[1], NULL, 10) : 0;
     make_deep();
     line("recover", measured(call_recover, 0));
     line("has", measured(call_has, 0));

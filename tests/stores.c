@@ -16,7 +16,7 @@
 #include <ucontext.h>
 #include <unistd.h>
 
-enum { SLOTS = 3, NODES = 40, ROUNDS = 200, WORD = sizeof(uint64_t) };
+enum { SLOTS = 3, NODES = 40, ROUNDS = 200 /* for each edition */, WORD = sizeof(uint64_t) };
 
 static struct book b;
 static unsigned *noted; /* stores to each word of the image */
@@ -92,10 +92,10 @@ static void on_step(int number, siginfo_t *info, void *context) {
 }
 
 /* Three reels, with branch-outs, in memory that can be protected. */
-static void make_book(void) {
+static void make_book(uint64_t edition) {
     size_t bytes;
     void *mapped;
-    book_format(&b, SLOTS, NODES);
+    book_format_as(&b, edition, SLOTS, NODES);
     book_open(&b, 7);
     book_add(&b, 7, 0, 1, 150);
     book_open(&b, 8);
@@ -170,22 +170,21 @@ static void check_refused(unsigned *expected) {
     b.image[level] -= 1;
 }
 
-int main(void) {
+static void check_edition(uint64_t edition) {
     unsigned *expected;
     uint64_t *map;
     int round;
-    make_book();
+    make_book(edition);
     noted = (unsigned *)zeroed(b.image_words);
     before = zeroed(b.image_words);
     reached = (unsigned char *)zeroed(b.image_words);
     expected = (unsigned *)zeroed(b.image_words);
     map = zeroed(b.map_words);
     memcpy(map, b.map, b.map_words * sizeof *map);
-    handle(SIGSEGV, on_fault);
-    handle(SIGTRAP, on_step);
     for (round = 0; round < ROUNDS; round++) {
         draw_locate(expected);
         recover_noting(REELBOOK_DONE, expected, "recover");
+        memcpy(b.map, map, b.map_words * sizeof *map); /* cleared if it was refused by mistake */
         check_refused(expected);
         memcpy(b.map, map, b.map_words * sizeof *map); /* cleared by the refusal */
     }
@@ -197,6 +196,13 @@ int main(void) {
     free(reached);
     free(expected);
     free(map);
+}
+
+int main(void) {
+    handle(SIGSEGV, on_fault);
+    handle(SIGTRAP, on_step);
+    check_edition(REELBOOK_EDITION_1);
+    check_edition(REELBOOK_EDITION_2);
     printf("stores: %u checks, %u failures\n", checks, failures);
     return failures != 0;
 }

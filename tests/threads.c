@@ -1,4 +1,4 @@
-/* Two books in two threads, and again: each has, word for word, what it has when it is alone. */
+/* Two books in two threads, one of each edition, and again: each has, word for word, what it has when it is alone. */
 #include <pthread.h>
 #include <stdio.h>
 #include <stdlib.h>
@@ -40,6 +40,7 @@ static void *work(void *book) {
     struct book *b = (struct book *)book;
     uint64_t random = b->seed;
     b->refused = reelbook_format(IMAGE, MAP, b->heads, REELS, NODES);
+    b->image[REELBOOK_EDITION_AT] = b->seed % 2 == 0 ? REELBOOK_EDITION_1 : REELBOOK_EDITION_2;
     for (uint64_t reel = 0; reel < REELS; reel++)
         carry_out(b, reelbook_open(IMAGE, MAP, SCRIPT, reel, &b->used));
     for (int i = 0; i < FRAMES; i++) {

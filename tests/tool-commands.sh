@@ -23,7 +23,8 @@ try_commands() {
 frames   6
 nodes    2 used, 14 free
 deepest  level 0
-places   32, 6 used, 6 located' stat book
+places   32, 6 used, 6 located
+edition  2' stat book
     does 'closed cleanly; reels: 2, frames: 6, locate words mended: 0' recover book
     does '' retire book 0
     seq 100 260 >frames
@@ -54,7 +55,7 @@ try_help() {
     done
     for number in 0 1 2 3 4; do holds grep -q "^  $number  " all; done
     holds test "$(grep -c '^  reelbook ' all)" = "$(echo $names help --version | wc -w)"
-    does 'reelbook 3.0.1' --version
+    does 'reelbook 3.1.0' --version
     misused 'a command is missing; reelbook --help tells them'
     misused 'burn: no such command; reelbook --help tells them' burn book
     misused 'burn: no such command; reelbook --help tells them' help burn

@@ -55,11 +55,11 @@ try_damage() {
     cp good book
     poke book "$((node_at + 8))" 000 # a locate word that differs is no fault, and is counted as it is
     run stat book
-    holds test "$(tail -n 1 out)" = 'places   192, 167 used, 159 located'
+    holds grep -qx 'places   192, 167 used, 159 located' out
     cp good book
-    poke book "$image_at" 002
-    unsound 'the image is of another edition (2)'
-    refuses 'list: reel 7: the image is of another edition (2)' list book 7
+    poke book "$image_at" 003
+    unsound "the image's edition is neither 1 nor 2 (2)"
+    refuses "list: reel 7: the image's edition is neither 1 nor 2 (2)" list book 7
     poke book "$((image_at + 8))" 005
     refuses "list: book: the image's length or numbers are wrong (1)" list book 7
     cp good book

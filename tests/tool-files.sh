@@ -115,10 +115,10 @@ try_permissions() {
     holds test "$(cat protected)" = old
     chmod go-w .
     chmod u+w book unclean
-    poke unclean "$image_at" 002
+    poke unclean "$image_at" 003
     chmod a-w unclean
     run_as_other stat unclean
-    expect 2 '' 'stat: unclean: not closed cleanly, and not recovered: the image is of another edition (2)'
+    expect 2 '' "stat: unclean: not closed cleanly, and not recovered: the image's edition is neither 1 nor 2 (2)"
 }
 
 # A process has the book in use until its standard input, number 3 here, ends.

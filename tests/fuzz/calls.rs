@@ -42,8 +42,8 @@ pub fn case(seed: u64, subject: Subject, coverage: &mut Coverage) -> Result<(), 
 
 impl Case {
     fn new(mut random: Random, subject: Subject) -> Case {
-        let trees::Built { mut image, map, slots, nodes } = trees::build(&mut random);
-        let damages = if random.one_in(2) { random.between(1, 3) } else { 0 };
+        let trees::Built { mut image, map, slots, nodes, .. } = trees::build(&mut random);
+        let damages = if random.one_in(2) { random.between(1, 4) } else { 0 };
         for _ in 0..damages {
             Damage { random: &mut random, image: &mut image, slots, nodes }.once();
         }
@@ -66,9 +66,10 @@ impl Case {
         let kept = self.lend(&mut call);
         self.expected.clone_from(&self.found);
         let heads = self.found.heads.clone();
+        let edition = self.found.image.first().copied().unwrap_or(0);
         let outcome = operations::perform(&call, &mut self.expected, Fault::None);
         let found = self.subject.perform(&call, &mut self.found, self.random.word());
-        coverage.call(call.function, outcome.ending);
+        coverage.call(call.function, edition, outcome.ending);
         if outcome.handed != found || self.expected != self.found {
             return Err(report::difference(&call, &heads, (outcome.handed, &self.expected), (found, &self.found)));
         }
@@ -103,7 +104,7 @@ impl Case {
         Call { function, slots: self.slots, nodes: self.nodes, head, reel, frame: self.frame(slot) }
     }
 
-    /// A frame that the reel in this slot holds, or one near it: on the path of a node, or off it by a bit.
+    /// A frame that the reel in this slot holds, or one near it: on the path of a node, off it by a bit, or with its lower half.
     fn frame(&mut self, slot: u64) -> u64 {
         let numbers = descent(&mut self.random, &self.lent.image, self.slots, self.nodes, slot);
         let at = node_index(self.slots, numbers[numbers.len() - 1]) as usize;
@@ -112,10 +113,11 @@ impl Case {
         let place = if set >> any & 1 == 1 { any } else { u64::from(set.trailing_zeros()).min(PLACES - 1) };
         let frame = self.lent.image[at + (FRAMES + place) as usize];
         let bits = path_bits(self.lent.image[at + LEVEL_AT as usize].min(LAST_LEVEL));
-        match self.random.below(10) {
+        match self.random.below(11) {
             0 => self.random.odd_word(&[64]),
             1 => frame ^ 1 << self.random.below(64),
-            2..=6 => frame & ((1 << bits) - 1) | self.random.word() << bits,
+            2 => self.random.with_upper_half(frame),
+            3..=7 => frame & ((1 << bits) - 1) | self.random.word() << bits,
             _ => frame,
         }
     }

@@ -39,6 +39,14 @@ impl Book {
         book
     }
 
+    /// An empty book. Edition 1 is no longer what Format writes, but what Recover takes.
+    fn of_edition(subject: Subject, edition: u64, slots: u64, nodes: u64) -> Book {
+        let mut book = Book::formatted(subject, slots, nodes);
+        book.lent.image[0] = edition;
+        book.call(Recover, 0, 0);
+        book
+    }
+
     /// Answer, stores and value, as the bench program prints them; a refusal's value is the count that it handed back.
     fn call(&mut self, function: Function, reel: u64, frame: u64) -> (u64, u64, u64) {
         self.call_with(0, function, reel, frame)
@@ -112,14 +120,73 @@ fn children_of_level_30(subject: Subject) -> bool {
     below_full_path(subject, 119, full, &[1 << 57, 1 << 58]) == [(0, 116, 0), (0, 117, 0)]
 }
 
-/// Bytes 0, 1 and 2 of the root's first fingerprint word, the others as they were.
-fn fingerprints(subject: Subject) -> bool {
-    let mut book = Book::formatted(subject, 1, 1);
+/// Bytes 0 to 3 of the root's first fingerprint word, the others as they were. In edition 1 frames that agree in their low four
+/// bytes share one; in edition 2 that of 0 is 32, and the others follow by its rule.
+fn fingerprints(subject: Subject, edition: u64) -> bool {
+    let mut book = Book::of_edition(subject, edition, 1, 1);
     book.call(Open, 7, 0);
-    for frame in [0, 1, 1 << 32] {
+    for frame in [0, 1, 1 << 32, 1 << 56] {
         book.add(7, frame);
     }
-    book.node_word(0, FINGERPRINTS) == JUNK >> 24 << 24 | 144 << 16 | 113 << 8 | 144
+    let prints = if edition == 1 { [144, 113, 144, 144] } else { [32, 225, 1, 121] };
+    book.node_word(0, FINGERPRINTS) == JUNK >> 32 << 32 | u64::from(u32::from_le_bytes(prints))
+}
+
+/// Format writes edition 2, over junk and over a book of edition 1, which is then empty.
+fn format_writes_2(subject: Subject) -> bool {
+    let over_junk = Book::formatted(subject, 1, 1);
+    let mut book = Book::of_edition(subject, 1, 1, 1);
+    book.call(Open, 7, 0);
+    let before = (book.lent.image[0], book.add(7, 0).0);
+    let format = Call { function: Format, slots: 1, nodes: 1, head: 0, reel: 0, frame: 0 };
+    let answer = book.subject.perform(&format, &mut book.lent, JUNK).answer;
+    let after = (book.lent.image[0], book.call(Has, 7, 0).0);
+    over_junk.lent.image[0] == 2 && before == (1, 0) && answer == 0 && after == (2, 5)
+}
+
+/// Every operation but Format refuses other editions with 2; Carry out reads none.
+fn other_editions(subject: Subject) -> bool {
+    let book = Book::formatted(subject, 1, 1);
+    let operations = [Recover, Open, Claim, Fill, Commit, Abandon, Remove, Has, List, Retire];
+    let answer = |edition: u64, function: Function| {
+        let mut book = book.clone();
+        book.lent.image[0] = edition;
+        book.hold(0, function, 7, 0).0
+    };
+    let refused = |edition: u64| operations.iter().all(|&function| answer(edition, function) == 2);
+    let taken = |edition: u64| operations.iter().all(|&function| answer(edition, function) != 2);
+    let others = [0, 3, 4, 1 << 32 | 1, 1 << 32 | 2, 1 << 63, u64::MAX];
+    others.iter().all(|&edition| refused(edition) && answer(edition, Apply) == 3) && taken(1) && taken(2)
+}
+
+/// Frames 0 and 2^32 with the fingerprints of the edition that the book is not of: not found, and not sound.
+fn fingerprints_of_the_other(subject: Subject, edition: u64) -> bool {
+    let mut book = Book::of_edition(subject, edition, 1, 1);
+    book.call(Open, 7, 0);
+    let added = [0, 1 << 32].map(|frame| book.add(7, frame).0);
+    let found = |book: &mut Book| [0, 1 << 32].map(|frame| book.call(Has, 7, frame).2);
+    let before = (found(&mut book), book.call(Recover, 0, 0).0);
+    book.lent.image[0] = 3 - edition;
+    added == [0, 0] && before == ([1, 1], 0) && (found(&mut book), book.call(Recover, 0, 0).0) == ([0, 0], 4)
+}
+
+/// On an image of edition 1 that another had: two frames and a claim cut short. A recovery that is refused for its map, and one
+/// that ends; then the book goes on, of edition 1.
+fn start_on_edition_1(subject: Subject) -> bool {
+    let mut book = Book::of_edition(subject, 1, 2, 2);
+    book.call(Open, 7, 0);
+    let added = [book.add(7, 12).0, book.add(7, 1 << 40).0, book.claims(&[(0, 13)])[0]];
+    book.lent.heads.fill(JUNK);
+    let map = std::mem::replace(&mut book.lent.map, Buffer::of([JUNK, JUNK]));
+    let refused = book.call(Recover, 0, 0).0;
+    book.lent.map = map;
+    let recovered = (book.call(Recover, 0, 0).0, book.node_word(0, LOCATE), book.frames(7), book.lent.image[0]);
+    let (third, second) = (book.add(7, 13), book.call(Remove, 7, 1 << 40).0);
+    let goes_on = (third, second, book.call(Recover, 0, 0).0, book.frames(7), book.lent.image[0]);
+    added == [0, 0, 0]
+        && refused == 3
+        && recovered == (0, 3, [12, 1 << 40].into(), 1)
+        && goes_on == ((0, 0, 2), 0, 0, [12, 13].into(), 1)
 }
 
 /// Sizes and places of the 16th, 17th and 33rd frame; the 65th in child 0, or refused where there is one node.
@@ -166,7 +233,10 @@ fn four_heads(subject: Subject) -> bool {
 
 /// Reel 7 with frames from 0 on.
 fn reel_7(subject: Subject, slots: u64, nodes: u64, frames: u64) -> Book {
-    let mut book = Book::formatted(subject, slots, nodes);
+    with_frames(Book::formatted(subject, slots, nodes), frames)
+}
+
+fn with_frames(mut book: Book, frames: u64) -> Book {
     book.call(Open, 7, 0);
     for frame in 0..frames {
         book.add(7, frame);
@@ -241,8 +311,8 @@ fn no_places_left(subject: Subject) -> bool {
 }
 
 /// Two claims in reel 7 and two elsewhere: every crash in a branch-out below a claim, in a fill, in a commit, in an abandon.
-fn crashes_with_two_in_one_reel(subject: Subject) -> bool {
-    let mut book = reel_7(subject, 3, 5, 63);
+fn crashes_with_two_in_one_reel(subject: Subject, edition: u64) -> bool {
+    let mut book = with_frames(Book::of_edition(subject, edition, 3, 5), 63);
     let opened = [8, 9].iter().all(|&reel| book.call(Open, reel, 0).0 == 0);
     let claims = [(0, 7, 63), (2, 8, 12), (3, 9, 13)];
     let claimed = claims.iter().all(|&(head, reel, frame)| book.call_with(head, Claim, reel, frame).0 == 0);
@@ -277,8 +347,8 @@ fn every_crash(book: &mut Book, head: u64, function: Function, frame: u64) -> bo
     answer == 0 && (0..=entries.len()).all(crash_after)
 }
 
-fn case_a(subject: Subject) -> bool {
-    let mut book = Book::formatted(subject, 4, 16);
+fn case_a(subject: Subject, edition: u64) -> bool {
+    let mut book = Book::of_edition(subject, edition, 4, 16);
     let calls = [(Open, 7, 0), (Claim, 7, 12), (Fill, 0, 0), (Commit, 0, 0), (List, 7, 0), (Has, 7, 13), (Retire, 8, 0)];
     let results: Vec<_> = calls.iter().map(|&(function, reel, frame)| book.call(function, reel, frame)).collect();
     results == [(0, 7, 0), (0, 1, 0), (0, 2, 0), (0, 1, 0), (0, 0, 1), (0, 0, 0), (5, 0, 0)] && book.lent.list[0] == 12
@@ -289,7 +359,13 @@ pub fn check(name: &str, subject: Subject) -> bool {
     let results = [
         ("children of level 3", children_of_level_3(subject)),
         ("children of level 30", children_of_level_30(subject)),
-        ("fingerprints", fingerprints(subject)),
+        ("fingerprints of edition 1", fingerprints(subject, 1)),
+        ("fingerprints of edition 2", fingerprints(subject, 2)),
+        ("fingerprints of edition 2 in edition 1", fingerprints_of_the_other(subject, 2)),
+        ("fingerprints of edition 1 in edition 2", fingerprints_of_the_other(subject, 1)),
+        ("format writes edition 2", format_writes_2(subject)),
+        ("other editions", other_editions(subject)),
+        ("a start on edition 1", start_on_edition_1(subject)),
         ("growth in a pool of one node", growth(subject, 1)),
         ("growth in a pool of three", growth(subject, 3)),
         ("two free nodes but no run", no_run(subject)),
@@ -297,10 +373,12 @@ pub fn check(name: &str, subject: Subject) -> bool {
         ("several heads in one reel", heads_in_one_reel(subject)),
         ("several heads at the root", heads_at_the_root(subject)),
         ("a branch-out below a claim", below_a_claim(subject)),
-        ("crashes with two claims in one reel", crashes_with_two_in_one_reel(subject)),
+        ("crashes with two claims in one reel of edition 1", crashes_with_two_in_one_reel(subject, 1)),
+        ("crashes with two claims in one reel of edition 2", crashes_with_two_in_one_reel(subject, 2)),
         ("places left", places_left(subject)),
         ("no places left of a refused claim", no_places_left(subject)),
-        ("case A", case_a(subject)),
+        ("case A on edition 1", case_a(subject, 1)),
+        ("case A on edition 2", case_a(subject, 2)),
     ];
     for (case, _) in results.iter().filter(|(_, right)| !right) {
         println!("{}: not as specified: {}", name, case);

@@ -1,9 +1,9 @@
-//! What the fuzzing has reached: each way in which a function can end, each answer in a history, each moment of a script for a
-//! crash, a crash of each function that stores with a claim of every head open, and with several in one tree; what claims leave
-//! of their nodes.
+//! What the fuzzing has reached: on each edition, each way in which a function can end, each answer in a history, a crash of each
+//! function that stores; each way to start a history; each moment of a script for a crash, a crash of each function that stores
+//! with a claim of every head open, and with several in one tree; what claims leave of their nodes.
 use crate::model::call::{Call, Function, Function::*};
 use crate::model::ending::*;
-use crate::model::image::HEADS;
+use crate::model::image::{EDITION, FIRST_EDITION, HEADS};
 use crate::model::left::Claimed;
 use crate::model::node::LAST_LEVEL;
 use crate::model::table::Table;
@@ -18,6 +18,8 @@ pub struct Claims {
 }
 
 impl Claims {
+    pub const NONE: Claims = Claims { all: 0, in_one_tree: 0, in_this_tree: 0 };
+
     pub fn of(table: &Table, call: &Call) -> Claims {
         let in_one_tree = table.reels.keys().map(|&reel| table.claims_in(reel)).max().unwrap_or(0);
         Claims { all: table.claims(), in_one_tree, in_this_tree: table.claims_in(call.reel) }
@@ -34,10 +36,15 @@ impl Claims {
 
 #[derive(Default)]
 pub struct Coverage {
-    endings: BTreeMap<(Function, Ending), u64>,
-    answers: BTreeMap<(Function, u64), u64>,
+    /// By the image's edition too, where that counts, else `ANY`.
+    endings: BTreeMap<(Function, Ending, u64), u64>,
+    answers: BTreeMap<(Function, u64, u64), u64>,
+    /// By what came before the format or the recovery, and by what the image held.
+    starts: BTreeMap<&'static str, u64>,
     /// By function, entries of its script, and how many of these were carried out.
     crashes: BTreeMap<(Function, usize, usize), u64>,
+    /// Those in a function that was storing, by edition.
+    storing: BTreeMap<(Function, u64), u64>,
     /// Those with a claim of every head open, by the function that was storing.
     all_claimed: BTreeMap<Function, u64>,
     /// Those with several claims in one tree, by their number too.
@@ -53,12 +60,16 @@ pub struct Coverage {
     undone: u64,
     completed: u64,
     cut_recoveries: u64,
+    refused_recoveries: u64,
 }
 
+/// No edition in particular.
+const ANY: u64 = 0;
+
 const LENGTHS: &[Ending] = &[TOO_SHORT, SLOTS, NODES, LENGTH];
-const HEADER: &[Ending] = &[TOO_SHORT, SLOTS, NODES, LENGTH, EDITION];
+const HEADER: &[Ending] = &[TOO_SHORT, SLOTS, NODES, LENGTH, EDITION_0, EDITION_3, EDITION_ABOVE];
 const PATH: &[Ending] = &[OUTSIDE, LEVEL, SIZE, LOCATE_ABOVE, SET_ABOVE, NEXT_SMALL, NEXT_LAST, CHILDREN_OUTSIDE];
-const UNSOUND: &[Ending] = &[REACHED_TWICE, REEL_TWICE, OFF_PATH, HELD_TWICE, FINGERPRINT];
+const UNSOUND: &[Ending] = &[REACHED_TWICE, REEL_TWICE, OFF_PATH, HELD_TWICE, FINGERPRINT, OTHER_FINGERPRINT];
 const TAKEN: &[Ending] =
     &[CLEAR_ROOT, CLEAR_BELOW, DOUBLED_32, DOUBLED_64, BRANCHED_2, BRANCHED_4, BRANCHED_LAST, LAST_FULL, TOO_FEW, NO_RUN];
 /// Of claims with other heads at work in the reel.
@@ -91,12 +102,21 @@ fn endings(function: Function) -> Vec<Ending> {
         Commit => &[HEADER, BY_HEAD, &[HEAD_IDLE, HEAD_CLAIMED, DONE]],
         Abandon => &[HEADER, BY_HEAD, &[HEAD_IDLE, ABANDONED_CLAIMED, ABANDONED_FILLED]],
         Remove => &[HEADER, PATH, &[SCRIPT_LENGTH, NO_REEL, BUSY, NOT_HELD, REMOVED_ROOT, REMOVED_BELOW]],
-        Has => &[HEADER, PATH, &[NO_REEL, HAS_NO, HAS_YES]],
+        Has => &[HEADER, PATH, &[NO_REEL, HAS_NO, HAS_OTHER, HAS_LOWER, HAS_YES]],
         List => &[HEADER, PATH, TREES, &[SCRATCH_LENGTH, NO_REEL, LIST_SHORT]],
         Retire => &[HEADER, PATH, TREES, &[MAP_LENGTH, SCRATCH_LENGTH, SCRIPT_LENGTH, NO_REEL, BUSY]],
         Apply => &[LENGTHS, &[SCRIPT_ODD, BARRIER_VALUE, STORE_OUTSIDE, STORES_NONE, STORES_HEADER, STORES]],
     };
     lists.concat()
+}
+
+/// The editions on which a call is to end so: both where it reads them; where it does not and writes, any other too.
+fn editions(function: Function, ending: Ending) -> &'static [u64] {
+    match (function, ending.answer) {
+        (Format | Apply, 0) => &[ANY, FIRST_EDITION, EDITION],
+        (Format | Apply, _) | (_, 1 | 2) => &[ANY],
+        _ => &EDITIONS,
+    }
 }
 
 /// The answers that come in a history. 2 and 4 never do.
@@ -126,6 +146,17 @@ fn scripts(function: Function) -> &'static [usize] {
     }
 }
 
+const EDITIONS: [u64; 2] = [FIRST_EDITION, EDITION];
+
+const BY_FORMAT: &str = "with a format";
+const ON_FRAMES: &str = "on edition 1 with frames held";
+const ON_NO_FRAMES: &str = "on edition 1 without a frame";
+const PLAIN: &str = "on edition 1, the first attempt ends";
+const REFUSED: &str = "on edition 1, after a refused attempt";
+const CUT: &str = "on edition 1, after a cut attempt";
+const REFUSED_AND_CUT: &str = "on edition 1, after a refused and a cut attempt";
+const STARTS: [&str; 7] = [BY_FORMAT, ON_FRAMES, ON_NO_FRAMES, PLAIN, REFUSED, CUT, REFUSED_AND_CUT];
+
 /// The functions that store, on power that may fail.
 const STORING: [Function; 8] = [Recover, Open, Claim, Fill, Commit, Abandon, Remove, Retire];
 
@@ -148,14 +179,32 @@ const LEFTS: [&str; 5] = [NONE_AT_LAST, NONE_BELOW, ALL_ABOVE, SOME_ABOVE, NOT_A
 const SIZES: [u64; 3] = [16, 32, 64];
 
 impl Coverage {
-    /// A single call.
-    pub fn call(&mut self, function: Function, ending: Ending) {
-        *self.endings.entry((function, ending)).or_default() += 1;
+    /// A single call, on an image of this edition.
+    pub fn call(&mut self, function: Function, edition: u64, ending: Ending) {
+        let edition = if editions(function, ending).contains(&edition) { edition } else { ANY };
+        *self.endings.entry((function, ending, edition)).or_default() += 1;
     }
 
-    /// A call in a history.
-    pub fn answer(&mut self, function: Function, answer: u64) {
-        *self.answers.entry((function, answer)).or_default() += 1;
+    /// A call in a history, on a book of this edition.
+    pub fn answer(&mut self, function: Function, answer: u64, edition: u64) {
+        *self.answers.entry((function, answer, edition)).or_default() += 1;
+    }
+
+    pub fn format_start(&mut self) {
+        *self.starts.entry(BY_FORMAT).or_default() += 1;
+    }
+
+    /// A recovery of edition 1, by what came before the one that ended.
+    pub fn first_edition_start(&mut self, refused: bool, cut: bool, frames: bool) {
+        let attempts = match (refused, cut) {
+            (false, false) => PLAIN,
+            (true, false) => REFUSED,
+            (false, true) => CUT,
+            (true, true) => REFUSED_AND_CUT,
+        };
+        for key in [attempts, if frames { ON_FRAMES } else { ON_NO_FRAMES }] {
+            *self.starts.entry(key).or_default() += 1;
+        }
     }
 
     /// A claim in a history that came as far as the other heads, with the table after it.
@@ -192,12 +241,13 @@ impl Coverage {
         self.deepest = self.deepest.max(deepest);
     }
 
-    /// A crash after some of a script's entries, with so many claims open.
-    pub fn crash(&mut self, function: Function, entries: usize, cut: usize, claims: Claims) {
+    /// A crash after some of a script's entries, with so many claims open, on a book of this edition.
+    pub fn crash(&mut self, function: Function, entries: usize, cut: usize, claims: Claims, edition: u64) {
         *self.crashes.entry((function, entries, cut)).or_default() += 1;
         if entries == 0 && function != Recover {
             return;
         }
+        *self.storing.entry((function, edition)).or_default() += 1;
         if claims.all == HEADS {
             *self.all_claimed.entry(function).or_default() += 1;
         }
@@ -220,8 +270,14 @@ impl Coverage {
         self.cut_recoveries += 1;
     }
 
+    pub fn refused_recovery(&mut self) {
+        self.refused_recoveries += 1;
+    }
+
     /// One line for each function: how often it was called, and how often it gave each answer.
-    fn table(counts: &BTreeMap<(Function, u64), u64>) {
+    fn table(answers: impl Iterator<Item = (Function, u64, u64)>) {
+        let mut counts: BTreeMap<(Function, u64), u64> = BTreeMap::new();
+        answers.for_each(|(function, answer, count)| *counts.entry((function, answer)).or_default() += count);
         println!("{:8}{:>8}{}", "", "calls", (0..15).map(|answer| format!("{:>8}", answer)).collect::<String>());
         for function in Function::ALL {
             let count = |answer: u64| counts.get(&(function, answer)).copied().unwrap_or(0);
@@ -232,19 +288,19 @@ impl Coverage {
     }
 
     pub fn print_calls(&self) {
-        let mut counts = BTreeMap::new();
-        for (&(function, ending), count) in &self.endings {
-            *counts.entry((function, ending.answer)).or_default() += count;
-        }
         println!("{} calls on single images, by function and answer:", self.endings.values().sum::<u64>());
-        Coverage::table(&counts);
+        Coverage::table(self.endings.iter().map(|(key, &count)| (key.0, key.1.answer, count)));
     }
 
     pub fn print_histories(&self) {
         println!("{} operations in histories, by function and answer:", self.answers.values().sum::<u64>());
-        Coverage::table(&self.answers);
+        Coverage::table(self.answers.iter().map(|(key, &count)| (key.0, key.1, count)));
+        let first: u64 = self.answers.iter().filter(|(key, _)| key.2 == FIRST_EDITION).map(|(_, count)| count).sum();
+        println!("{} of them on edition 1; starts:", first);
+        self.starts.iter().for_each(|(key, count)| println!("{:8} {}", count, key));
         let crashes: u64 = self.crashes.values().sum();
-        println!("{} crashes, {} mixtures recovered, {} recoveries cut", crashes, self.mixtures, self.cut_recoveries);
+        let (cut, refused) = (self.cut_recoveries, self.refused_recoveries);
+        println!("{} crashes, {} mixtures recovered, {} recoveries cut, {} refused", crashes, self.mixtures, cut, refused);
         println!("{} crashes with {} claims open", self.all_claimed.values().sum::<u64>(), HEADS);
         let (together, branched) = (self.together.values().sum::<u64>(), self.branched.values().sum::<u64>());
         println!("{} crashes with several claims in one tree, {} of them in a branch-out of it", together, branched);
@@ -253,8 +309,10 @@ impl Coverage {
 
     /// What should have been reached by calls and was not, and what was and should not.
     pub fn calls_missed(&self) -> Vec<String> {
-        let all: Vec<_> = Function::ALL.iter().flat_map(|&f| endings(f).into_iter().map(move |ending| (f, ending))).collect();
-        let name = |key: &(Function, Ending)| format!("{} {} {}", key.0.name(), key.1.answer, key.1.shape);
+        let on_each = |f: Function, ending: Ending| editions(f, ending).iter().map(move |&edition| (f, ending, edition));
+        let of_each = |f: Function| endings(f).into_iter().flat_map(move |ending| on_each(f, ending));
+        let all: Vec<_> = Function::ALL.iter().flat_map(|&f| of_each(f)).collect();
+        let name = |key: &(Function, Ending, u64)| format!("{} {} {}{}", key.0.name(), key.1.answer, key.1.shape, on(key.2));
         let mut lines = missed(&all, &self.endings, name);
         let all: Vec<_> = SIZES.iter().flat_map(|&size| LEFTS.iter().map(move |&kind| (size, kind))).collect();
         lines.extend(missed(&all, &self.lefts, |key| format!("claim in a node of size {} that leaves {}", key.0, key.1)));
@@ -263,8 +321,14 @@ impl Coverage {
 
     /// The same for histories: answers, moments of scripts, crashes with all claims open.
     pub fn histories_missed(&self) -> Vec<String> {
-        let all: Vec<_> = Function::ALL.iter().flat_map(|&f| answers(f).iter().map(move |&answer| (f, answer))).collect();
-        let mut lines = missed(&all, &self.answers, |key| format!("{} {} in a history", key.0.name(), key.1));
+        let on_each = |f: Function, answer: u64| EDITIONS.iter().map(move |&edition| (f, answer, edition));
+        let of_each = |f: Function| answers(f).iter().flat_map(move |&answer| on_each(f, answer));
+        let all: Vec<_> = Function::ALL.iter().flat_map(|&f| of_each(f)).collect();
+        let name = |key: &(Function, u64, u64)| format!("{} {} in a history{}", key.0.name(), key.1, on(key.2));
+        let mut lines = missed(&all, &self.answers, name);
+        lines.extend(missed(&STARTS, &self.starts, |key| format!("a history that starts {}", key)));
+        let all: Vec<_> = STORING.iter().flat_map(|&f| EDITIONS.iter().map(move |&edition| (f, edition))).collect();
+        lines.extend(missed(&all, &self.storing, |key| format!("crash in {}{}", key.0.name(), on(key.1))));
         let moments = |f: Function| scripts(f).iter().flat_map(move |&entries| (0..=entries).map(move |cut| (f, entries, cut)));
         let all: Vec<_> = Function::ALL.iter().flat_map(|&f| moments(f)).collect();
         lines
@@ -284,6 +348,14 @@ impl Coverage {
             lines.push(format!("never reached: level {} in a history", LAST_LEVEL));
         }
         lines
+    }
+}
+
+fn on(edition: u64) -> String {
+    if edition == ANY {
+        String::new()
+    } else {
+        format!(" on edition {}", edition)
     }
 }
 

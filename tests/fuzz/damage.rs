@@ -63,15 +63,19 @@ impl Damage<'_> {
     }
 
     pub fn once(&mut self) {
-        match self.random.below(10) {
-            0 => self.next(),
-            1 => self.shared_children(),
-            2 => self.small_word(),
-            3 => self.bitmap(),
-            4 => self.fingerprint(),
-            5 => self.frame(),
-            6 | 7 => self.copy(),
-            8 => self.slot(),
+        match self.random.below(16) {
+            0 | 1 => self.next(),
+            2 => self.shared_children(),
+            3 => self.small_word(),
+            4 => self.bitmap(),
+            5 => self.above_size(),
+            6 => self.fingerprint(),
+            7 => self.other_fingerprint(),
+            8 => self.frame(),
+            9..=11 => self.copy(),
+            12 | 13 => self.slot(),
+            // The whole image is read by the other rule.
+            14 => self.image[0] = other_edition(self.image[0]),
             _ => {
                 let index = self.random.between(HEADER_WORDS, self.image.len() as u64 - 1) as usize;
                 self.image[index] = self.odd_word();
@@ -82,11 +86,24 @@ impl Damage<'_> {
     /// Children past the pool, in a cycle, or where there are none.
     fn next(&mut self) {
         let to = self.node_word(NEXT);
-        self.image[to] = match self.random.below(3) {
-            0 => self.random.between(self.nodes.saturating_sub(4), self.nodes + 1),
-            1 => self.random.between(1, self.nodes),
-            _ => self.odd_word(),
-        };
+        match self.random.below(3) {
+            0 => self.past_pool(to),
+            1 => self.image[to] = self.random.between(1, self.nodes),
+            _ => self.image[to] = self.odd_word(),
+        }
+    }
+
+    /// The children that are inside may be as they should.
+    fn past_pool(&mut self, node: usize) {
+        let next = self.random.between(self.nodes.saturating_sub(4), self.nodes + 1);
+        self.image[node] = next;
+        let below = self.image[node + LEVEL_AT as usize].wrapping_add(1);
+        let first = if self.random.one_in(2) { next.max(1) - 1 } else { self.nodes };
+        for child in first..self.nodes {
+            for (word, value) in [(NEXT, 0), (LEVEL_AT, below), (SIZE_AT, 64)] {
+                self.image[(node_index(self.slots, child) + word) as usize] = value;
+            }
+        }
     }
 
     /// A node and one beside it have the same children.
@@ -121,10 +138,31 @@ impl Damage<'_> {
         }
     }
 
+    /// A bit at or above the size of a small root.
+    fn above_size(&mut self) {
+        let at = node_index(self.slots, self.descent()[0]);
+        let word = self.random.pick(&[LOCATE, SET]);
+        let size = self.image[(at + SIZE_AT) as usize];
+        if size < PLACES {
+            let above = self.random.between(size, PLACES - 1);
+            self.image[(at + word) as usize] |= 1 << self.random.pick(&[size, above]);
+        }
+    }
+
     fn fingerprint(&mut self) {
         let word = FINGERPRINTS + self.random.below(8);
         let at = self.node_word(word);
         self.image[at] ^= 1 << self.random.below(64);
+    }
+
+    /// A held frame with the fingerprint that the other edition would have.
+    fn other_fingerprint(&mut self) {
+        let at = self.node_word(0) as u64;
+        let set = self.image[(at + SET) as usize];
+        let any = self.random.below(PLACES);
+        let place = if set >> any & 1 == 1 { any } else { u64::from(set.trailing_zeros()).min(PLACES - 1) };
+        let frame = self.image[(at + FRAMES + place) as usize];
+        self.put_fingerprint(at, place, fingerprint(other_edition(self.image[0]), frame));
     }
 
     /// Another frame in a place, with its right fingerprint or with the old one; perhaps off its path.
@@ -152,17 +190,22 @@ impl Damage<'_> {
     }
 
     fn hold(&mut self, at: u64, place: u64, frame: u64) {
-        let index = (at + FINGERPRINTS + place / 8) as usize;
         self.image[(at + FRAMES + place) as usize] = frame;
-        self.image[index] = with_byte(self.image[index], place % 8, fingerprint(frame));
+        self.put_fingerprint(at, place, fingerprint(self.image[0], frame));
         self.image[(at + SET) as usize] |= 1 << place;
     }
 
-    /// A reel number or root from another slot, or any.
+    fn put_fingerprint(&mut self, at: u64, place: u64, print: u64) {
+        let index = (at + FINGERPRINTS + place / 8) as usize;
+        self.image[index] = with_byte(self.image[index], place % 8, print);
+    }
+
+    /// A reel number or root from another slot, or any, mostly in a filled one.
     fn slot(&mut self) {
-        let word = self.random.pick(&[0, 0, 1]);
-        let to = (slot_index(self.random.below(self.slots)) + word) as usize;
-        let from = (slot_index(self.random.below(self.slots)) + word) as usize;
-        self.image[to] = if self.random.one_in(3) { self.odd_word() } else { self.image[from] };
+        let word = self.random.below(2);
+        let [to, from] = [(); 2].map(|_| some_slot(self.random, self.image, self.slots));
+        let to = if self.random.one_in(4) { self.random.below(self.slots) } else { to };
+        let index = |slot: u64| (slot_index(slot) + word) as usize;
+        self.image[index(to)] = if self.random.one_in(3) { self.odd_word() } else { self.image[index(from)] };
     }
 }

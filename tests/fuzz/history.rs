@@ -1,17 +1,18 @@
-//! Histories from a fresh format on, with crashes, held against the plain table: every answer, what Has and List read, and at any
-//! time the book as a whole.
+//! Histories, with crashes, held against the plain table: every answer, what Has and List read, and at any time the book as a
+//! whole.
 use crate::coverage::{Claims, Coverage};
 use crate::model::buffer::Buffer;
 use crate::model::call::{Call, Function, Handed, Lent};
 use crate::model::claim::node_used;
 use crate::model::image::*;
 use crate::model::left::Claimed;
-use crate::model::script::{self, Entry, BARRIER, SCRIPT_WORDS};
+use crate::model::script::{self, Entry, BARRIER};
 use crate::model::table::{Lengths, Reply, Table, Value};
 use crate::plan::Plan;
 use crate::random::Random;
-use crate::recovery::{check_book, deepest};
+use crate::recovery::deepest;
 use crate::report::describe;
+use crate::start::start;
 use crate::subject::Subject;
 
 pub struct History<'a> {
@@ -21,39 +22,18 @@ pub struct History<'a> {
     pub lent: Lent,
     pub table: Table,
     pub plan: Plan,
+    /// The edition that the image is to have: the one it started with, and 2 after a format.
+    pub edition: u64,
 }
 
 pub fn case(seed: u64, subject: Subject, coverage: &mut Coverage) -> Result<(), String> {
-    let mut random = Random::new(seed);
-    let plan = Plan::draw(&mut random);
-    let (slots, nodes) = (plan.slots, plan.nodes);
-    let mut lent = unformatted(&mut random, slots, nodes);
-    let format = Call { function: Function::Format, slots, nodes, head: 0, reel: 0, frame: 0 };
-    let answer = subject.perform(&format, &mut lent, 0).answer;
-    if answer != 0 {
-        return Err(format!("first {}: answer {}", describe(&format), answer));
-    }
-    let mut history = History { random, subject, coverage, lent, table: Table::formatted(slots, nodes), plan };
+    let mut history = start(Random::new(seed), subject, coverage)?;
     for step in 1..=history.plan.steps {
         let mut call = history.plan.call(&mut history.random, &history.table);
         history.step(&mut call).map_err(|text| format!("step {}, {}: {}", step, describe(&call), text))?;
     }
     history.coverage.history(deepest(&history.lent));
-    check_book(&history.lent, &history.table).map_err(|text| format!("after the last step: {}", text))
-}
-
-/// Buffers of any contents.
-fn unformatted(random: &mut Random, slots: u64, nodes: u64) -> Lent {
-    let zeros = random.one_in(2);
-    let mut junk = |length: u64| Buffer::of((0..length).map(|_| if zeros { 0 } else { random.word() }));
-    Lent {
-        image: junk(image_words(slots, nodes)),
-        map: junk(map_words(nodes)),
-        heads: junk(HEADS * HEAD_WORDS as u64),
-        script: junk(SCRIPT_WORDS as u64),
-        scratch: junk(map_words(nodes)),
-        list: junk(64 * nodes),
-    }
+    history.check_book().map_err(|text| format!("after the last step: {}", text))
 }
 
 /// A buffer that a call may be lent in a wrong length.
@@ -83,7 +63,7 @@ impl History<'_> {
         let branch = call.function == Function::Claim && entries.len() > 2;
         if steady || before.is_none() && !(branch && self.random.one_in(2)) {
             script::carry_out(&mut self.lent.image, &entries);
-            return if self.random.one_in(self.plan.crash) { check_book(&self.lent, &self.table) } else { Ok(()) };
+            return if self.random.one_in(self.plan.crash) { self.check_book() } else { Ok(()) };
         }
         // A crash decided on only now is in a claim, which changes no reel and leaves the stores to its script.
         let (reels, image) = before.unwrap_or_else(|| (self.table.reels.clone(), self.lent.image.clone()));
@@ -100,7 +80,7 @@ impl History<'_> {
         let due = self.due(call);
         let handed = self.subject.perform(call, &mut self.lent, self.random.word());
         let reply = self.table.perform(call, &Lengths::of(&self.lent), handed.answer);
-        self.coverage.answer(call.function, handed.answer);
+        self.coverage.answer(call.function, handed.answer, self.edition);
         if let Some((name, _)) = self.lent.named().iter().find(|(_, buffer)| !buffer.guards_hold()) {
             return Err(format!("words outside the {} are written", name));
         }
@@ -113,6 +93,10 @@ impl History<'_> {
         if let Some((which, buffer)) = own {
             *self.buffer(which) = buffer;
         }
+        if call.function == Function::Format && handed.answer == 0 {
+            self.edition = EDITION;
+        }
+        self.check_edition()?;
         Ok((handed.answer, entries))
     }
 
@@ -169,10 +153,15 @@ impl History<'_> {
             return None;
         }
         // More often for the operations that are seldom.
-        let seldom = !matches!(call.function, Function::Claim | Function::Fill | Function::Commit);
-        let which = match self.random.below(if seldom { 25 } else { 100 }) {
+        let bound = match call.function {
+            Function::Claim | Function::Fill | Function::Commit => 100,
+            Function::Format | Function::Recover | Function::Has | Function::List => 16,
+            _ => 25,
+        };
+        let which = match self.random.below(bound) {
             0 => Which::Image,
             1 => Which::Map,
+            2..=3 if call.function == Function::Format => Which::Map,
             2 => Which::Scratch,
             3 => Which::Script,
             4..=9 if call.function == Function::List => Which::List,

@@ -112,7 +112,7 @@ impl Lending<'_> {
         buffer.resize(length as usize, || random.word());
     }
 
-    /// Another edition, R or N: any, or such that the length would be right but for their ranges.
+    /// Another R or N: any, or such that the length would be right but for their ranges.
     pub fn header(&mut self, call: &mut Call) {
         let (slots, nodes) = (self.slots, self.nodes);
         let right = image_words(slots, nodes);
@@ -132,8 +132,14 @@ impl Lending<'_> {
         (call.slots, call.nodes) = (slots, nodes);
     }
 
+    /// An unknown edition: 0, 3, one that is 1 or 2 but for a higher bit, or any.
     pub fn edition(&mut self) {
-        self.lent.image[0] = self.odd_word();
+        self.lent.image[0] = match self.random.below(4) {
+            0 => 0,
+            1 => 3,
+            2 => self.random.between(1, 2) | 1 << self.random.between(2, 63),
+            _ => self.odd_word(),
+        };
     }
 
     /// A script for Apply: stores and barriers, one entry of it perhaps wrong, or of odd length.

@@ -17,6 +17,7 @@ mod recovery;
 mod report;
 mod run;
 mod spoil;
+mod start;
 mod subject;
 mod trees;
 

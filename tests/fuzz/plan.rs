@@ -5,9 +5,9 @@ use crate::model::node::{path_bits, LAST_LEVEL, PLACES};
 use crate::model::table::{Head, Table};
 use crate::random::Random;
 
-/// Frames from a small range, all with the same low bits; or such as lead down one path to level 31.
+/// Frames from a small range, all with the same low bits, and one of three upper halves; or such as lead down a path to level 31.
 enum Frames {
-    Few { bound: u64, shift: u64 },
+    Few { bound: u64, shift: u64, uppers: [u64; 3] },
     Deep { target: u64 },
 }
 
@@ -29,7 +29,9 @@ pub struct Plan {
     /// of its own where one is left.
     one_tree: Option<u64>,
     others: &'static [Function],
-    reels: Vec<u64>,
+    /// The depths of the trees that it starts with, where it starts on an image that has some.
+    pub depths: &'static [u64],
+    pub reels: Vec<u64>,
     frames: Frames,
 }
 
@@ -43,8 +45,18 @@ const OTHERS_BESIDE: [Function; 8] = [Open, Open, Remove, Remove, Remove, Retire
 
 const REELS: [u64; 7] = [u64::MAX, 0, 7, 8, 9, 10, 11];
 
+const DEPTHS: [u64; 7] = [0, 0, 0, 1, 1, 2, 3];
+
 /// A path to level 31 needs its root, three groups of two and 28 of four.
 const DEEP_NODES: u64 = 1 + 3 * 2 + 28 * 4;
+
+/// In two of three histories frames share their lower halves. High frames have none to share.
+fn few_frames(random: &mut Random, bounds: &[u64], shifts: &[u64]) -> Frames {
+    let (bound, shift) = (random.pick(bounds), random.pick(shifts));
+    let shared = !random.one_in(3) && shift < 32;
+    let uppers = [(); 3].map(|_| if shared { random.with_upper_half(0) } else { 0 });
+    Frames::Few { bound, shift, uppers }
+}
 
 impl Plan {
     pub fn draw(random: &mut Random) -> Plan {
@@ -72,8 +84,9 @@ impl Plan {
             together: false,
             one_tree: None,
             others: &OTHERS,
+            depths: &DEPTHS,
             reels: REELS[..slots as usize + 2].to_vec(),
-            frames: Frames::Few { bound: random.pick(&[4, 30, 200]), shift: random.pick(&[0, 0, 0, 1, 3, 20, 57]) },
+            frames: few_frames(random, &[4, 30, 200], &[0, 0, 0, 1, 3, 20, 57]),
         }
     }
 
@@ -88,9 +101,10 @@ impl Plan {
     /// More frames than a root holds, few of which go.
     fn growing(random: &mut Random) -> Plan {
         let slots = random.pick(&[1, 2, HEADS]);
+        let most = random.pick(&[5, 30, 30]);
         Plan {
             slots,
-            nodes: random.between(1, 30),
+            nodes: random.between(1, most),
             steps: 1200,
             crash: 100,
             every_moment: true,
@@ -99,8 +113,9 @@ impl Plan {
             together: slots == HEADS,
             one_tree: None,
             others: &OTHERS,
+            depths: &DEPTHS,
             reels: (7..7 + slots.max(2)).collect(),
-            frames: Frames::Few { bound: 10_000, shift: random.pick(&[0, 3]) },
+            frames: few_frames(random, &[10_000], &[0, 3]),
         }
     }
 
@@ -119,8 +134,9 @@ impl Plan {
             together: true,
             one_tree: Some(alone),
             others: &OTHERS_BESIDE,
+            depths: &DEPTHS,
             reels: vec![7, 8, 9],
-            frames: Frames::Few { bound: 10_000, shift },
+            frames: few_frames(random, &[10_000], &[shift]),
         }
     }
 
@@ -137,6 +153,7 @@ impl Plan {
             together: false,
             one_tree: None,
             others: &OTHERS_DEEP,
+            depths: &[0],
             reels: vec![0],
             frames: Frames::Deep { target: random.word() },
         }
@@ -151,6 +168,7 @@ impl Plan {
         let claimed = table.heads[random.below(HEADS) as usize].about();
         let frame = match (held, claimed) {
             (Some(&held), _) if matches!(function, Remove | Has) && random.one_in(2) => held,
+            (Some(&held), _) if function == Claim && random.one_in(50) => held,
             (_, Some((about, claimed))) if function == Claim && about == reel && random.one_in(10) => claimed,
             _ => frame,
         };
@@ -206,9 +224,12 @@ impl Plan {
     }
 
     fn function(&self, random: &mut Random, table: &Table, head: u64) -> Function {
-        let few_reels = self.together && (table.reels.len() as u64) < table.slots;
-        if table.reels.is_empty() || few_reels && random.one_in(8) {
+        let slots_left = (table.reels.len() as u64) < table.slots;
+        if table.reels.is_empty() || self.together && slots_left && random.one_in(8) {
             return Open;
+        }
+        if self.one_tree.is_some() && !table.reels.contains_key(&self.reels[0]) && random.one_in(2) {
+            return if slots_left { Open } else { Retire };
         }
         // All heads in one tree are seldom: then there are more of the others.
         let all = self.one_tree.is_some() && table.claims_in(self.reels[0]) == HEADS;
@@ -227,10 +248,10 @@ impl Plan {
         match self.frames {
             Frames::Few { .. } if random.one_in(60) => random.word(),
             // In one tree heads mostly go ways of their own.
-            Frames::Few { bound, shift } if self.one_tree.is_some() && !random.one_in(4) && !self.alone(table) => {
-                (HEADS * random.below(bound) + head % HEADS) << shift
+            Frames::Few { bound, shift, uppers } if self.one_tree.is_some() && !random.one_in(4) && !self.alone(table) => {
+                (HEADS * random.below(bound) + head % HEADS) << shift | random.pick(&uppers)
             }
-            Frames::Few { bound, shift } => random.below(bound) << shift,
+            Frames::Few { bound, shift, uppers } => random.below(bound) << shift | random.pick(&uppers),
             Frames::Deep { target } => {
                 // Every 64 frames fill a node of the path, and the next ones have to agree with it one level further.
                 let held = table.reels.get(&reel).map_or(0, |frames| frames.len() as u64);

@@ -40,6 +40,16 @@ impl Random {
         choices[self.below(choices.len() as u64) as usize]
     }
 
+    /// The frame with another upper half: a head and a year, one bit, or any.
+    pub fn with_upper_half(&mut self, frame: u64) -> u64 {
+        let upper = match self.below(3) {
+            0 => self.below(4) << 24 | self.between(2020, 2030),
+            1 => 1 << self.below(32),
+            _ => self.word() >> 32,
+        };
+        frame & u64::from(u32::MAX) | upper << 32
+    }
+
     /// A word of the kind that finds mistakes: small, near a power of two, near a bound, or any.
     pub fn odd_word(&mut self, bounds: &[u64]) -> u64 {
         let near = match self.below(5) {

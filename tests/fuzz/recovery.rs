@@ -9,6 +9,7 @@ use crate::model::ending::Ending;
 use crate::model::fault::Fault;
 use crate::model::image::*;
 use crate::model::node::{LEVEL_AT, LOCATE, PLACES, SET};
+use crate::model::operations::check_image;
 use crate::model::script::{carry_out, Entry, BARRIER};
 use crate::model::table::{self, Reels, Table};
 use crate::model::tree;
@@ -16,7 +17,9 @@ use crate::report::reels_differ;
 use std::collections::{BTreeSet, HashSet};
 
 const SOME_MIXTURES: u64 = 4;
-const MOST_CUTS: u64 = 3;
+const MOST_ATTEMPTS: u64 = 3;
+/// Without numbers of its own.
+const RECOVER: Call = Call { function: Function::Recover, slots: 0, nodes: 0, head: 0, reel: 0, frame: 0 };
 
 fn unsound(ending: Ending) -> String {
     format!("the image is not sound: {}", ending.shape)
@@ -30,7 +33,7 @@ struct Contents {
 }
 
 fn contents(words: &[u64]) -> Result<Contents, String> {
-    let image = Image::read(words, Fault::None).map_err(unsound)?;
+    let image = check_image(words, Fault::None).map_err(unsound)?;
     let nodes = image.sound().map_err(unsound)?.into_iter().collect();
     let mut reels = Reels::new();
     for slot in image.filled_slots() {
@@ -45,21 +48,6 @@ pub fn deepest(lent: &Lent) -> u64 {
     let (slots, nodes) = (lent.image[1], lent.image[2]);
     let level = |node: u64| lent.image[(node_index(slots, node) + LEVEL_AT) as usize];
     (0..nodes).filter(|&node| is_used(&lent.map, node)).map(level).max().unwrap_or(0)
-}
-
-/// The book is the table's. Its map has the nodes reached, and their locate words have the places held and those claimed.
-pub fn check_book(lent: &Lent, table: &Table) -> Result<(), String> {
-    let Contents { reels, nodes } = contents(&lent.image)?;
-    if reels != table.reels {
-        return Err(reels_differ(&table.reels, &reels));
-    }
-    let mut map = vec![0; lent.map.len()];
-    nodes.iter().for_each(|&node| mark_used(&mut map, node));
-    if map != lent.map[..] {
-        return Err(format!("nodes reached {:x?}, map {:x?}", map, &lent.map[..]));
-    }
-    check_heads(lent, table)?;
-    check_locate(lent, &nodes)
 }
 
 fn check_heads(lent: &Lent, table: &Table) -> Result<(), String> {
@@ -93,6 +81,33 @@ fn check_locate(lent: &Lent, nodes: &BTreeSet<u64>) -> Result<(), String> {
 }
 
 impl History<'_> {
+    pub fn check_book(&self) -> Result<(), String> {
+        self.check_edition()?;
+        self.check_contents(&contents(&self.lent.image)?)
+    }
+
+    /// The book is the table's. Its map has the nodes reached, and their locate words have the places held and those claimed.
+    fn check_contents(&self, Contents { reels, nodes }: &Contents) -> Result<(), String> {
+        let (lent, table) = (&self.lent, &self.table);
+        if *reels != table.reels {
+            return Err(reels_differ(&table.reels, reels));
+        }
+        let mut map = vec![0; lent.map.len()];
+        nodes.iter().for_each(|&node| mark_used(&mut map, node));
+        if map != lent.map[..] {
+            return Err(format!("nodes reached {:x?}, map {:x?}", map, &lent.map[..]));
+        }
+        check_heads(lent, table)?;
+        check_locate(lent, nodes)
+    }
+
+    pub fn check_edition(&self) -> Result<(), String> {
+        match self.lent.image[0] {
+            found if found == self.edition => Ok(()),
+            found => Err(format!("expected edition {}, found {}", self.edition, found)),
+        }
+    }
+
     /// In a script, with so many claims open: at every moment of it, or at one.
     pub fn crash_in_script(
         &mut self,
@@ -111,7 +126,7 @@ impl History<'_> {
         for moment in first..first + if self.plan.every_moment { moments } else { 1 } {
             let (done, left) = entries.split_at((moment % moments) as usize);
             let passed = !left.contains(&BARRIER);
-            self.coverage.crash(function, entries.len(), done.len(), claims);
+            self.coverage.crash(function, entries.len(), done.len(), claims, self.edition);
             self.crash(&Crash::after(&image, done), &before, &after, passed)
                 .map_err(|text| format!("crash after {} of {} entries: {}", done.len(), entries.len(), text))?;
         }
@@ -120,7 +135,7 @@ impl History<'_> {
 
     /// In a Recover that the history has, or between it and the driver's barrier.
     pub fn crash_in_recover(&mut self, image: &Buffer, reels: &Reels, claims: Claims) -> Result<(), String> {
-        self.coverage.crash(Function::Recover, 0, 0, claims);
+        self.coverage.crash(Function::Recover, 0, 0, claims, self.edition);
         let both = Contents { reels: reels.clone(), nodes: contents(image)?.nodes };
         self.crash(&Crash::in_recover(image, &self.lent.image), &both, &both, false)
     }
@@ -143,22 +158,27 @@ impl History<'_> {
     /// Recovers, and takes the table of before or after, whichever the image then is, whole. True if it is before's.
     fn recovered(&mut self, before: &Contents, after: &Contents, passed: bool) -> Result<bool, String> {
         self.recover()?;
+        self.check_edition()?;
         let found = contents(&self.lent.image)?;
         let undone = !passed && found == *before;
         let expected = if undone { before } else { after };
         self.table.reels.clone_from(&expected.reels);
         self.table.heads = [table::Head::Idle; HEADS as usize];
-        check_book(&self.lent, &self.table)?;
+        self.check_contents(&found)?;
         if found.nodes != expected.nodes {
             return Err(format!("nodes reached {:?}, of before {:?}, of after {:?}", found.nodes, before.nodes, after.nodes));
         }
         Ok(undone)
     }
 
-    /// Recovers, after none or some recoveries that crash.
+    /// Recovers, after none or some recoveries that crash or are refused.
     fn recover(&mut self) -> Result<(), String> {
-        let cuts = if self.random.one_in(4) { self.random.between(1, MOST_CUTS) } else { 0 };
-        for _ in 0..cuts {
+        let attempts = if self.random.one_in(4) { self.random.between(1, MOST_ATTEMPTS) } else { 0 };
+        for _ in 0..attempts {
+            if self.random.one_in(4) {
+                self.recover_refused()?;
+                continue;
+            }
             let image = self.lent.image.clone();
             self.recover_once()?;
             let crash = Crash::in_recover(&image, &self.lent.image);
@@ -169,14 +189,35 @@ impl History<'_> {
     }
 
     /// Map and records hold anything.
-    fn recover_once(&mut self) -> Result<(), String> {
+    fn lose_memory(&mut self) {
         for lost in [&mut self.lent.map, &mut self.lent.heads] {
             lost.iter_mut().for_each(|word| *word = self.random.word());
         }
-        let call = Call { function: Function::Recover, slots: 0, nodes: 0, head: 0, reel: 0, frame: 0 };
-        match self.subject.perform(&call, &mut self.lent, 0).answer {
+    }
+
+    pub fn recover_once(&mut self) -> Result<(), String> {
+        self.lose_memory();
+        match self.subject.perform(&RECOVER, &mut self.lent, 0).answer {
             0 => Ok(()),
             answer => Err(format!("recovery answers {}", answer)),
         }
+    }
+
+    /// A recovery that is lent a map or an image of another length: it is refused, and nothing is written.
+    pub fn recover_refused(&mut self) -> Result<(), String> {
+        self.lose_memory();
+        let (image, map) = (self.lent.image.clone(), self.lent.map.clone());
+        let (wrong, expected) = if self.random.one_in(3) { (&mut self.lent.image, 1) } else { (&mut self.lent.map, 3) };
+        let length = wrong.len() as u64;
+        let length = self.random.pick(&[length - 1, length + 1, 0]);
+        wrong.resize(length as usize, || 0);
+        let before = self.lent.clone();
+        let answer = self.subject.perform(&RECOVER, &mut self.lent, 0).answer;
+        if answer != expected || self.lent != before {
+            return Err(format!("a recovery to be refused with {} answers {}, or has written", expected, answer));
+        }
+        (self.lent.image, self.lent.map) = (image, map);
+        self.coverage.refused_recovery();
+        Ok(())
     }
 }

@@ -2,7 +2,8 @@
 //! see that the comparison looks there.
 use crate::model::call::{Call, Function, Function::*, Handed, Lent};
 use crate::model::image::*;
-use crate::model::node::{LOCATE, NEXT, SET};
+use crate::model::node::{fingerprint, other_edition, with_byte, LOCATE, NEXT, SET};
+use crate::subject::Subject;
 
 type Change = fn(&Call, &mut Lent, &mut Handed);
 
@@ -19,7 +20,7 @@ const fn after(function: Function, answer: u64, text: &'static str, change: Chan
 }
 
 /// Found by single calls, where every word is compared with the model's.
-pub static OF_CALLS: [Spoil; 26] = [
+pub static OF_CALLS: [Spoil; 33] = [
     after(Retire, 13, "retire answers 5 for 13", |_, _, handed| handed.answer = 5),
     after(List, 14, "list hands back a count with 14", |_, _, handed| handed.count = 1),
     after(Commit, 0, "commit hands back two words more", |_, _, handed| handed.count += 2),
@@ -46,10 +47,17 @@ pub static OF_CALLS: [Spoil; 26] = [
     after(List, 0, "list gives another frame", |_, lent, handed| another_frame(lent, handed.count)),
     after(List, 0, "list writes behind the frames", |_, lent, handed| behind_frames(lent, handed.count)),
     after(List, 0, "list writes outside of its buffer", |_, lent, _| lent.list.write_behind()),
+    after(Format, 0, "format writes edition 1", |_, lent, _| lent.image[0] = FIRST_EDITION),
+    after(Recover, 0, "recover makes edition 2 of edition 1", |_, lent, _| lent.image[0] = EDITION),
+    after(Recover, 4, "recover takes the other edition's fingerprints", by_other_edition),
+    after(Has, 0, "has finds by the other edition's fingerprint too", by_other_edition),
+    after(Has, 2, "has takes edition 3", |_, lent, handed| handed.answer = if lent.image[0] == 3 { 5 } else { 2 }),
+    after(Claim, 2, "claim hands back places left with 2", |_, _, handed| handed.left = 1),
+    after(Fill, 0, "fill folds the other edition's bytes", |call, lent, _| fold_as_other_edition(call, lent)),
 ];
 
 /// Found by histories, held against the plain table alone.
-pub static OF_HISTORIES: [Spoil; 22] = [
+pub static OF_HISTORIES: [Spoil; 30] = [
     after(Commit, 0, "commit answers 12 and is done", |_, _, handed| *handed = Handed { answer: 12, count: 0, left: 0 }),
     after(Claim, 9, "claim hands back a count with 9", |_, _, handed| handed.count = 2),
     after(Claim, 0, "claim hands back a place left less", |_, _, handed| handed.left = handed.left.saturating_sub(1)),
@@ -72,6 +80,14 @@ pub static OF_HISTORIES: [Spoil; 22] = [
     after(Recover, 0, "recover drops children that hold nothing", |_, lent, _| drop_children(lent)),
     after(Recover, 0, "recover loses a frame", |_, lent, _| *node_word(lent, 0, SET) &= !1),
     after(Format, 0, "format leaves a root", |_, lent, _| lent.image[65] = 1),
+    after(Format, 0, "format writes edition 1", |_, lent, _| lent.image[0] = FIRST_EDITION),
+    after(Recover, 0, "recover makes edition 2 of edition 1", |_, lent, _| lent.image[0] = EDITION),
+    after(Recover, 0, "recover refuses edition 1", |_, lent, handed| handed.answer = 2 * u64::from(is_first_edition(lent))),
+    after(Recover, 1, "recover makes the heads idle with 1", |_, lent, _| lent.heads.fill(0)),
+    after(Recover, 3, "recover clears the map with 3", |_, lent, _| lent.map.fill(0)),
+    after(Recover, 0, "recover of edition 1 loses a frame", |_, lent, _| lose_frame_of_edition_1(lent)),
+    after(Has, 0, "has of edition 1 says no above 2^32", |call, lent, handed| handed.count &= !above_2_32(call, lent)),
+    after(Fill, 0, "fill folds the other edition's bytes", |call, lent, _| fold_as_other_edition(call, lent)),
 ];
 
 impl Spoil {
@@ -80,6 +96,39 @@ impl Spoil {
             (self.change)(call, lent, handed);
         }
     }
+}
+
+fn is_first_edition(lent: &Lent) -> bool {
+    lent.image[0] == FIRST_EDITION
+}
+
+/// The call once more by the other edition's rule, where it refused or did not find.
+fn by_other_edition(call: &Call, lent: &mut Lent, handed: &mut Handed) {
+    if handed.count == 0 {
+        lent.image[0] = other_edition(lent.image[0]);
+        *handed = Subject::Library.perform(call, lent, 0);
+        lent.image[0] = other_edition(lent.image[0]);
+    }
+}
+
+/// The third entry of a fill stores the fingerprint.
+fn fold_as_other_edition(call: &Call, lent: &mut Lent) {
+    let Head { place, frame, .. } = Head::read(&lent.heads, call.head);
+    lent.script[5] = with_byte(lent.script[5], place % 8, fingerprint(other_edition(lent.image[0]), frame));
+}
+
+/// The lowest one of node 0.
+fn lose_frame_of_edition_1(lent: &mut Lent) {
+    if is_first_edition(lent) {
+        for word in [LOCATE, SET] {
+            let places = node_word(lent, 0, word);
+            *places &= places.wrapping_sub(1);
+        }
+    }
+}
+
+fn above_2_32(call: &Call, lent: &Lent) -> u64 {
+    u64::from(is_first_edition(lent) && call.frame >> 32 != 0)
 }
 
 fn swap_counts(handed: &mut Handed) {

@@ -1,16 +1,27 @@
-//! Images built word by word: sound trees of every depth and fullness, and chains down to level 31 in a small pool.
+//! Images of either edition built word by word: sound trees of every depth and fullness, and chains down to level 31 in a small
+//! pool.
 use crate::model::buffer::Buffer;
 use crate::model::image::*;
 use crate::model::node::*;
+use crate::model::table::Reels;
 use crate::random::Random;
 use std::collections::HashSet;
 
-/// An image with the map of the nodes that its trees use.
+/// An image with the map of the nodes that its trees use, and the frames that its reels hold.
 pub struct Built {
     pub image: Buffer,
     pub map: Buffer,
     pub slots: u64,
     pub nodes: u64,
+    pub reels: Reels,
+}
+
+/// What the trees are to have: an edition, reel numbers to choose from, or else any, depths, and the nodes they may still take.
+struct Aim<'a> {
+    edition: u64,
+    reels: &'a [u64],
+    depths: &'a [u64],
+    nodes: u64,
 }
 
 #[derive(Clone, Copy)]
@@ -46,29 +57,34 @@ const LOCATES: [Locate; 7] =
 
 struct Builder<'a> {
     random: &'a mut Random,
+    aim: Aim<'a>,
     words: Vec<u64>,
     map: Vec<u64>,
     slots: u64,
     nodes: u64,
+    reels: Reels,
 }
 
 pub fn build(random: &mut Random) -> Built {
-    let chain = random.one_in(8);
+    let chain = random.one_in(7);
     let (slots, nodes) = if chain { (random.between(1, 3), random.between(35, 44)) } else { geometry(random) };
-    let stale = random.one_in(2);
-    let words = (0..image_words(slots, nodes)).map(|_| if stale { random.word() } else { 0 }).collect();
-    let map = vec![0; map_words(nodes) as usize];
-    let mut builder = Builder { random, words, map, slots, nodes };
-    builder.words[..3].copy_from_slice(&[1, slots, nodes]);
-    for slot in 0..slots {
-        builder.store(slot_index(slot) + 1, 0);
-    }
+    let aim = Aim { edition: random.between(1, 2), reels: &[], depths: &[0, 0, 0, 1, 2, 3, 4, 6, 31], nodes };
+    let mut builder = Builder::new(random, aim, slots, nodes);
     if chain {
         builder.chain();
     } else {
         builder.trees();
     }
-    Built { image: Buffer::of(builder.words), map: Buffer::of(builder.map), slots, nodes }
+    builder.built()
+}
+
+/// A sound image of edition 1, in which most reels have these numbers and the trees these depths. Mostly nodes are left.
+pub fn first_edition(random: &mut Random, (slots, nodes): (u64, u64), reels: &[u64], depths: &[u64]) -> Built {
+    let most = if random.one_in(8) { nodes } else { random.between(1, 10) };
+    let aim = Aim { edition: FIRST_EDITION, reels, depths, nodes: most };
+    let mut builder = Builder::new(random, aim, slots, nodes);
+    builder.trees();
+    builder.built()
 }
 
 /// Mostly small; now and then of several map words, seldom large, and very seldom the largest.
@@ -86,25 +102,52 @@ fn low_bits(word: u64, bits: u64) -> u64 {
     word & ((1 << bits) - 1)
 }
 
-impl Builder<'_> {
+impl<'a> Builder<'a> {
+    /// No reel yet. What is not read is zero or stale.
+    fn new(random: &'a mut Random, aim: Aim<'a>, slots: u64, nodes: u64) -> Builder<'a> {
+        let stale = random.one_in(2);
+        let mut words: Vec<u64> = (0..image_words(slots, nodes)).map(|_| if stale { random.word() } else { 0 }).collect();
+        words[..3].copy_from_slice(&[aim.edition, slots, nodes]);
+        for slot in 0..slots {
+            words[slot_index(slot) as usize + 1] = 0;
+        }
+        Builder { random, aim, words, map: vec![0; map_words(nodes) as usize], slots, nodes, reels: Reels::new() }
+    }
+
+    fn built(self) -> Built {
+        let (image, map) = (Buffer::of(self.words), Buffer::of(self.map));
+        Built { image, map, slots: self.slots, nodes: self.nodes, reels: self.reels }
+    }
+
     fn store(&mut self, index: u64, value: u64) {
         self.words[index as usize] = value;
     }
 
+    fn reel(&mut self, slot: u64) -> u64 {
+        if !self.aim.reels.is_empty() && !self.random.one_in(8) {
+            return self.random.pick(self.aim.reels);
+        }
+        if self.random.one_in(2) {
+            slot
+        } else {
+            self.random.odd_word(&[7])
+        }
+    }
+
     fn plan(&mut self) -> Plan {
         let target = if self.random.one_in(2) { 0 } else { self.random.word() };
-        let depth = self.random.pick(&[0, 0, 1, 2, 3, 4, 6, 31]);
+        let depth = self.random.pick(self.aim.depths);
         Plan { target, depth, fill: self.random.pick(&FILLS), locate: self.random.pick(&LOCATES), held: HashSet::new() }
     }
 
     /// A tree for most of the slots, or for some of many, as long as the pool lasts.
     fn trees(&mut self) {
-        let mut reels = HashSet::new();
         let many = self.slots > 64;
         for slot in 0..self.slots.min(64) {
             let slot = if many { self.random.below(self.slots) } else { slot };
-            let reel = if self.random.one_in(2) { slot } else { self.random.odd_word(&[7]) };
-            if self.random.one_in(4) || !reels.insert(reel) {
+            let reel = self.reel(slot);
+            let taken = self.words[slot_index(slot) as usize + 1] != 0;
+            if self.random.one_in(4) || taken || self.reels.contains_key(&reel) {
                 continue;
             }
             if let Some(root) = self.take(1) {
@@ -112,6 +155,7 @@ impl Builder<'_> {
                 self.store(slot_index(slot) + 1, root + 1);
                 let mut plan = self.plan();
                 self.grow(root, 0, 0, &mut plan);
+                self.reels.insert(reel, plan.held.into_iter().collect());
             }
         }
     }
@@ -120,7 +164,8 @@ impl Builder<'_> {
     fn take(&mut self, count: u64) -> Option<u64> {
         let from = if self.random.one_in(2) { self.random.below(self.nodes) } else { 0 };
         let free = |first: u64| first + count <= self.nodes && (first..first + count).all(|node| !is_used(&self.map, node));
-        let first = (from..self.nodes).find(|&first| free(first))?;
+        let first = (from..self.nodes).find(|&first| free(first) && count <= self.aim.nodes)?;
+        self.aim.nodes -= count;
         (first..first + count).for_each(|node| mark_used(&mut self.map, node));
         Some(first)
     }
@@ -148,7 +193,7 @@ impl Builder<'_> {
     /// A path down to level 31 or near it in few nodes: groups of children overlap, which the operations on a path do not see.
     fn chain(&mut self) {
         let mut plan = self.plan();
-        plan.depth = self.random.pick(&[4, 12, 29, 30, 30, LAST_LEVEL, LAST_LEVEL, LAST_LEVEL]);
+        plan.depth = self.random.pick(&[4, 12, 29, 30, 30, 30, LAST_LEVEL, LAST_LEVEL, LAST_LEVEL]);
         let slot = self.random.below(self.slots);
         self.store(slot_index(slot), 7);
         self.store(slot_index(slot) + 1, 1);
@@ -157,7 +202,7 @@ impl Builder<'_> {
             self.node(level, level, 64, low_bits(plan.target, path_bits(level)), &mut plan);
             mark_used(&mut self.map, level);
             // Level 31 has no children; now and then they are there all the same.
-            if level < plan.depth || level == LAST_LEVEL && self.random.one_in(8) {
+            if level < plan.depth || level == LAST_LEVEL && self.random.one_in(4) {
                 self.store(node_index(self.slots, level) + NEXT, level + 2 - child(level, plan.target));
             }
         }
@@ -174,9 +219,9 @@ impl Builder<'_> {
             Fill::Dense => self.random.word() | self.random.word(),
             Fill::Full => u64::MAX,
         } & mask;
-        let mut set = 0;
+        let (mut set, mut frame) = (0, prefix);
         for place in (0..PLACES).filter(|place| wanted >> place & 1 == 1) {
-            let frame = self.frame(prefix, path_bits(level));
+            frame = self.frame(prefix, path_bits(level), frame);
             self.place(at, place, frame);
             set |= u64::from(plan.held.insert(frame)) << place;
         }
@@ -198,13 +243,16 @@ impl Builder<'_> {
     /// A frame with its fingerprint.
     fn place(&mut self, at: u64, place: u64, frame: u64) {
         let index = at + FINGERPRINTS + place / 8;
-        let prints = with_byte(self.words[index as usize], place % 8, fingerprint(frame));
+        let prints = with_byte(self.words[index as usize], place % 8, fingerprint(self.aim.edition, frame));
         self.store(index, prints);
         self.store(at + FRAMES + place, frame);
     }
 
-    /// A frame with these low bits.
-    fn frame(&mut self, prefix: u64, bits: u64) -> u64 {
+    /// A frame with these low bits; now and then it has the lower half of the last one, and in edition 1 its fingerprint.
+    fn frame(&mut self, prefix: u64, bits: u64, last: u64) -> u64 {
+        if bits <= 32 && self.random.one_in(4) {
+            return self.random.with_upper_half(last);
+        }
         let rest = if self.random.one_in(3) { self.random.below(100) } else { self.random.word() };
         prefix | rest << bits
     }

@@ -57,11 +57,27 @@ pub enum Fault {
     LeftOfParent,
     RemainderBy2,
     HalfDivisor,
+    FourBytes,
+    EightBytes,
+    UpperBytesUnread,
+    EitherRule,
+    LowerHalfCompared,
+    LookupFoldsFour,
+    FillFoldsEight,
+    RecoverFoldsFour,
+    RecoverWrites2,
+    FormatWrites1,
+    FormatKeeps1,
+    Edition3Taken,
+    Edition1Refused,
+    LowHalfOfEdition,
+    ApplyReadsEdition,
+    HeldForgotten,
 }
 
 impl Fault {
     /// Found by single calls: one buffer or answer differs from the sound model's.
-    pub const OF_CALLS: [(Fault, &'static str); 43] = [
+    pub const OF_CALLS: [(Fault, &'static str); 58] = [
         (Fault::NoSlots, "an image without slots is taken"),
         (Fault::EmptySlotRead, "an empty slot's reel number counts as open"),
         (Fault::HighestSlot, "a reel is the highest filled slot with its number"),
@@ -105,10 +121,25 @@ impl Fault {
         (Fault::LeftOfParent, "a branch-out tells the places left in the full parent"),
         (Fault::RemainderBy2, "the child of level 30 is a remainder by 2"),
         (Fault::HalfDivisor, "the child of level 17 is taken from the quotient by half its divisor"),
+        (Fault::FourBytes, "edition 2 folds four bytes"),
+        (Fault::EightBytes, "edition 1 folds eight bytes"),
+        (Fault::UpperBytesUnread, "edition 2 folds zeros for the upper four bytes"),
+        (Fault::EitherRule, "a fingerprint by either edition's rule is right"),
+        (Fault::LowerHalfCompared, "lookup compares the low four bytes of frames"),
+        (Fault::LookupFoldsFour, "lookup folds four bytes in edition 2"),
+        (Fault::FillFoldsEight, "fill folds eight bytes in edition 1"),
+        (Fault::RecoverFoldsFour, "recover folds four bytes in edition 2"),
+        (Fault::RecoverWrites2, "recover makes edition 2 of edition 1"),
+        (Fault::FormatWrites1, "format writes edition 1"),
+        (Fault::FormatKeeps1, "format keeps edition 1 where it finds it"),
+        (Fault::Edition3Taken, "edition 3 is taken"),
+        (Fault::Edition1Refused, "edition 1 is refused"),
+        (Fault::LowHalfOfEdition, "of the edition the low four bytes are read"),
+        (Fault::ApplyReadsEdition, "apply refuses an edition"),
     ];
 
     /// Found by histories with crashes, held against the plain table alone.
-    pub const OF_HISTORIES: [(Fault, &'static str); 21] = [
+    pub const OF_HISTORIES: [(Fault, &'static str); 33] = [
         (Fault::LocateTrusted, "recover takes locate for the truth"),
         (Fault::RootUnordered, "open stores the root before the barrier"),
         (Fault::ReelUnordered, "open stores the reel number after the barrier"),
@@ -130,5 +161,17 @@ impl Fault {
         (Fault::TakenLeft, "the place just taken counts as left"),
         (Fault::LeftAbovePlace, "all places above the one taken count as left"),
         (Fault::LeftOfParent, "a branch-out tells the places left in the full parent"),
+        (Fault::FourBytes, "edition 2 folds four bytes"),
+        (Fault::EightBytes, "edition 1 folds eight bytes"),
+        (Fault::UpperBytesUnread, "edition 2 folds zeros for the upper four bytes"),
+        (Fault::LowerHalfCompared, "lookup compares the low four bytes of frames"),
+        (Fault::LookupFoldsFour, "lookup folds four bytes in edition 2"),
+        (Fault::FillFoldsEight, "fill folds eight bytes in edition 1"),
+        (Fault::RecoverFoldsFour, "recover folds four bytes in edition 2"),
+        (Fault::RecoverWrites2, "recover makes edition 2 of edition 1"),
+        (Fault::FormatWrites1, "format writes edition 1"),
+        (Fault::FormatKeeps1, "format keeps edition 1 where it finds it"),
+        (Fault::Edition1Refused, "edition 1 is refused"),
+        (Fault::HeldForgotten, "the table of a start forgets frames that the image holds"),
     ];
 }

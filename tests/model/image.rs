@@ -2,6 +2,9 @@
 use super::ending::*;
 use super::fault::Fault;
 
+/// What Format writes, and what it wrote before: an image of either is read by its own rule.
+pub const EDITION: u64 = 2;
+pub const FIRST_EDITION: u64 = 1;
 pub const MAX_SLOTS: u64 = 4096;
 pub const MAX_NODES: u64 = 65536;
 pub const HEADER_WORDS: u64 = 64;
@@ -63,6 +66,10 @@ impl<'a> Image<'a> {
 
     pub fn word(&self, index: u64) -> u64 {
         self.words[index as usize]
+    }
+
+    pub fn edition(&self) -> u64 {
+        self.word(0)
     }
 
     pub fn reel(&self, slot: u64) -> u64 {

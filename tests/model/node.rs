@@ -1,7 +1,7 @@
 //! A node, its children, and the fingerprint.
 use super::ending::*;
 use super::fault::Fault;
-use super::image::Image;
+use super::image::{Image, EDITION, FIRST_EDITION};
 
 pub const NEXT: u64 = 0;
 pub const LOCATE: u64 = 1;
@@ -41,13 +41,29 @@ pub fn path_bits(level: u64) -> u64 {
     }
 }
 
-pub fn fingerprint(frame: u64) -> u64 {
+/// Edition 1 folds the four low bytes of the frame, edition 2 all eight, lowest first.
+pub fn fingerprint(edition: u64, frame: u64) -> u64 {
     let entry = |index: u64| (167 * index + 13) % 256;
+    let bytes = if edition == FIRST_EDITION { 4 } else { 8 };
     let mut hash = 0;
-    for byte in 0..4 {
+    for byte in 0..bytes {
         hash = entry(hash ^ (frame >> (8 * byte) & 255));
     }
     hash
+}
+
+/// The edition that an image is not of.
+pub fn other_edition(edition: u64) -> u64 {
+    if edition == FIRST_EDITION {
+        EDITION
+    } else {
+        FIRST_EDITION
+    }
+}
+
+/// Do two frames agree in their low four bytes? Then edition 1 has one fingerprint for both.
+pub fn same_lower_half(a: u64, b: u64) -> bool {
+    (a ^ b) << 32 == 0
 }
 
 /// The word with one of its eight bytes replaced.
@@ -58,7 +74,7 @@ pub fn with_byte(word: u64, byte: u64, value: u64) -> u64 {
 /// A node inside the pool; nothing else is known of it.
 #[derive(Clone, Copy)]
 pub struct Node<'a> {
-    image: Image<'a>,
+    pub image: Image<'a>,
     pub number: u64,
 }
 
@@ -99,9 +115,30 @@ impl<'a> Node<'a> {
     /// The places at which the lookup finds the frame, rising.
     pub fn places_of(&self, frame: u64) -> impl Iterator<Item = u64> + 'a {
         let node = *self;
-        let unread = self.image.fault == Fault::FingerprintUnread;
-        let matches = move |place: u64| node.frame(place) == frame && (unread || node.fingerprint(place) == fingerprint(frame));
-        self.held().filter(move |&place| matches(place))
+        let matches = move |place: u64| match node.image.fault {
+            Fault::FingerprintUnread => true,
+            Fault::LookupFoldsFour => node.fingerprint(place) == fingerprint(FIRST_EDITION, frame),
+            _ => node.has_right_fingerprint(place),
+        };
+        let is_frame = move |place: u64| match node.image.fault {
+            Fault::LowerHalfCompared => same_lower_half(node.frame(place), frame),
+            _ => node.frame(place) == frame,
+        };
+        self.held().filter(move |&place| is_frame(place) && matches(place))
+    }
+
+    /// Is the fingerprint in this place that of the frame there, by the image's edition?
+    pub fn has_right_fingerprint(&self, place: u64) -> bool {
+        let (frame, found) = (self.frame(place), self.fingerprint(place));
+        match self.image.fault {
+            Fault::EitherRule => [FIRST_EDITION, EDITION].iter().any(|&edition| fingerprint(edition, frame) == found),
+            _ => self.image.fingerprint(frame) == found,
+        }
+    }
+
+    /// Is it the one that the other edition would have?
+    pub fn has_other_fingerprint(&self, place: u64) -> bool {
+        self.fingerprint(place) == fingerprint(other_edition(self.image.edition()), self.frame(place))
     }
 
     /// Refusal 4 unless the node is well formed at this depth.
@@ -139,6 +176,16 @@ impl<'a> Node<'a> {
 }
 
 impl<'a> Image<'a> {
+    /// A frame's fingerprint by the image's edition. Faults of the rule are made here.
+    pub fn fingerprint(&self, frame: u64) -> u64 {
+        match self.fault {
+            Fault::FourBytes => fingerprint(FIRST_EDITION, frame),
+            Fault::EightBytes => fingerprint(EDITION, frame),
+            Fault::UpperBytesUnread => fingerprint(self.edition(), frame & u64::from(u32::MAX)),
+            _ => fingerprint(self.edition(), frame),
+        }
+    }
+
     /// The node with this number at this depth. Refusal 4 if it is malformed there.
     pub fn node(&self, number: u64, depth: u64) -> Result<Node<'a>, Ending> {
         if number >= self.nodes {

@@ -43,8 +43,24 @@ pub fn perform(call: &Call, lent: &mut Lent, fault: Fault) -> Outcome {
 /// Refusals 1 and 2.
 pub fn check_image(words: &[u64], fault: Fault) -> Result<Image<'_>, Ending> {
     let image = Image::read(words, fault)?;
-    check(words[0] == 1, EDITION)?;
+    check_edition(image.edition(), fault)?;
     Ok(image)
+}
+
+/// Refusal 2, for an edition other than 1 and 2.
+fn check_edition(edition: u64, fault: Fault) -> Result<(), Ending> {
+    let known = match fault {
+        Fault::Edition3Taken => (1..=3).contains(&edition),
+        Fault::Edition1Refused => edition == EDITION,
+        Fault::LowHalfOfEdition => [1, 2].contains(&(edition as u32)),
+        _ => edition == FIRST_EDITION || edition == EDITION,
+    };
+    let refusal = match edition {
+        0 => EDITION_0,
+        3 => EDITION_3,
+        _ => EDITION_ABOVE,
+    };
+    check(known, refusal)
 }
 
 pub fn check(holds: bool, refusal: Ending) -> Result<(), Ending> {
@@ -100,8 +116,12 @@ fn clear_heads(heads: &mut [u64], fault: Fault) {
 fn format(call: &Call, lent: &mut Lent, fault: Fault) -> Ended {
     check_length(lent.image.len(), call.slots, call.nodes, fault)?;
     check_map(&lent.map, call.nodes)?;
+    let edition = match (fault, lent.image[0]) {
+        (Fault::FormatWrites1, _) | (Fault::FormatKeeps1, FIRST_EDITION) => FIRST_EDITION,
+        _ => EDITION,
+    };
     lent.image[..HEADER_WORDS as usize].fill(0);
-    lent.image[..3].copy_from_slice(&[1, call.slots, call.nodes]);
+    lent.image[..3].copy_from_slice(&[edition, call.slots, call.nodes]);
     for slot in 0..call.slots {
         lent.image[slot_index(slot) as usize + 1] = 0;
     }
@@ -131,6 +151,9 @@ fn recover(lent: &mut Lent, fault: Fault) -> Ended {
         Fault::ThreeMended => stores.truncate(3),
         Fault::OneMendedInReel => first_of_each_reel(image, &mut stores),
         _ => (),
+    }
+    if fault == Fault::RecoverWrites2 {
+        stores.push((0, EDITION));
     }
     script::carry_out(&mut lent.image, &stores);
     clear_heads(&mut lent.heads, fault);
@@ -185,7 +208,11 @@ fn fill(call: &Call, lent: &mut Lent, fault: Fault) -> Ended {
     let (head, node) = claimed(call, lent, &[State::Claimed], fault)?;
     let at = FINGERPRINTS + head.place / 8;
     let kept = if fault == Fault::BytesLost { 0 } else { node.word(at) };
-    let prints = with_byte(kept, head.place % 8, fingerprint(head.frame));
+    let print = match fault {
+        Fault::FillFoldsEight => fingerprint(EDITION, head.frame),
+        _ => node.image.fingerprint(head.frame),
+    };
+    let prints = with_byte(kept, head.place % 8, print);
     let mut entries = vec![(node.at(FRAMES + head.place), head.frame), BARRIER, (node.at(at), prints), BARRIER];
     if fault == Fault::HeldFromFill {
         entries.extend([(node.at(SET), node.word(SET) | 1 << head.place), BARRIER]);
@@ -236,7 +263,12 @@ fn has(call: &Call, lent: &mut Lent, fault: Fault) -> Ended {
     let image = check_image(&lent.image, fault)?;
     let slot = image.slot_of(call.reel).ok_or(NO_REEL)?;
     let path = image.path(image.root(slot), call.frame)?;
-    Ok(if tree::lookup(&path, call.frame).is_some() { (HAS_YES, 1) } else { (HAS_NO, 0) })
+    Ok(match tree::lookup(&path, call.frame) {
+        Some(_) => (HAS_YES, 1),
+        None if tree::held_by_other_edition(&path, call.frame) => (HAS_OTHER, 0),
+        None if tree::held_by_lower_half(&path, call.frame) => (HAS_LOWER, 0),
+        None => (HAS_NO, 0),
+    })
 }
 
 fn shape(walk: &[Reached]) -> Ending {
@@ -281,7 +313,11 @@ fn retire(call: &Call, lent: &mut Lent, fault: Fault) -> Ended {
 }
 
 fn apply(lent: &mut Lent, fault: Fault) -> Ended {
-    let length = Image::read(&lent.image, fault)?.words.len() as u64;
+    let image = Image::read(&lent.image, fault)?;
+    let length = image.words.len() as u64;
+    if fault == Fault::ApplyReadsEdition {
+        check_edition(image.edition(), fault)?;
+    }
     check(lent.script.len() % 2 == 0, SCRIPT_ODD)?;
     let entries = script::read(&lent.script);
     for (done, &(index, value)) in entries.iter().enumerate() {

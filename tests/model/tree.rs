@@ -1,7 +1,7 @@
 //! A reel's tree: the path of a frame, the lookup, the walk over all nodes, and what a sound image is.
 use super::ending::*;
 use super::fault::Fault;
-use super::image::Image;
+use super::image::{Image, FIRST_EDITION};
 use super::node::*;
 use std::collections::HashSet;
 
@@ -94,8 +94,12 @@ fn check_frames(reached: &Reached, frames: &mut HashSet<u64>) -> Result<(), Endi
         if !(0..).zip(&reached.steps).all(|(level, &step)| child(level, frame) == step) {
             return Err(OFF_PATH);
         }
-        if reached.node.fingerprint(place) != fingerprint(frame) {
-            return Err(FINGERPRINT);
+        let right = match reached.node.image.fault {
+            Fault::RecoverFoldsFour => reached.node.fingerprint(place) == fingerprint(FIRST_EDITION, frame),
+            _ => reached.node.has_right_fingerprint(place),
+        };
+        if !right {
+            return Err(if reached.node.has_other_fingerprint(place) { OTHER_FINGERPRINT } else { FINGERPRINT });
         }
         if !frames.insert(frame) {
             return Err(HELD_TWICE);
@@ -107,6 +111,17 @@ fn check_frames(reached: &Reached, frames: &mut HashSet<u64>) -> Result<(), Endi
 /// The node on the path and the place where the lookup finds the frame: the first from the root, and there the lowest.
 pub fn lookup<'a>(path: &[Node<'a>], frame: u64) -> Option<(Node<'a>, u64)> {
     path.iter().find_map(|node| node.places_of(frame).next().map(|place| (*node, place)))
+}
+
+/// Is the frame held on the path with the other edition's fingerprint, by which no lookup finds it?
+pub fn held_by_other_edition(path: &[Node], frame: u64) -> bool {
+    let is_there = |node: &Node, place: u64| node.frame(place) == frame && node.has_other_fingerprint(place);
+    path.iter().any(|node| node.held().any(|place| is_there(node, place)))
+}
+
+/// Is one held there that has its low four bytes?
+pub fn held_by_lower_half(path: &[Node], frame: u64) -> bool {
+    path.iter().any(|node| node.held().any(|place| same_lower_half(node.frame(place), frame)))
 }
 
 /// The first node from the root with a clear locate bit below its size, and the lowest such place.

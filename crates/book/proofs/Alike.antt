@@ -11,10 +11,10 @@ use lib.ListN.{length}
 use lib.Dec.{ltb, leb}
 use borrow.Author.Tests.{ltb-false, leb-true, le-leb, lt-leb, not-false}
 use Rattle.tree.specs.Memory.{reads, isSome, Fit}
-use Rattle.tree.specs.Test.{lt, le, ne, is, _or_, holds}
+use Rattle.tree.specs.Test.{lt, le, is, _or_, holds}
 use Rattle.tree.specs.Lists.{empty}
 use Rattle.tree.specs.declared.layout.Geometry.{Geometry}
-use Rattle.tree.specs.Layout.{badImage, imageWords, editionAt}
+use Rattle.tree.specs.Layout.{badImage, imageWords, badEdition}
 use Rattle.tree.specs.Slots.{slotOf, emptySlot}
 use Rattle.tree.specs.Lookup.{pathFrom, freeRun}
 use Rattle.tree.proofs.Cases.{test, true-not-false, same-test}
@@ -71,7 +71,7 @@ module _ {s : State} {t : Table} (a : Agrees s t) where
 
   -- 1 and 2 never come
   checks : {x : Fed} {P Q : Type 0} {rs qs : List Refusal} → Paired x P Q rs qs
-      → Paired x P Q ((badImage (length (s .image)) (shape s) gives 1) ∷ (ne (memory s editionAt) 1 gives 2) ∷ rs) qs
+      → Paired x P Q ((badImage (length (s .image)) (shape s) gives 1) ∷ (badEdition (memory s) gives 2) ∷ rs) qs
   checks p = skip (image-right (a .shows)) (skip (edition-right (a .shows)) p)
 
   -- 5, and after it the reel's slot

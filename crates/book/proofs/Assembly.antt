@@ -15,7 +15,7 @@ use Rattle.book.specs.State.{State, Operation, format, recover, openReel
 use Rattle.book.specs.Perform.{granted, perform}
 use Rattle.book.specs.Table.{Table, Reel, geometry, fed, tableWork, emptyTable, allIdle}
 use Rattle.book.specs.Agrees.{Shows, Agrees}
-use Rattle.book.specs.Histories.{carriedOut, done, replied, answered-format, Interrupted, Attempts, Recovered, Follows, formatted, started, performed, before, after}
+use Rattle.book.specs.Histories.{carriedOut, done, replied, answered-format, Interrupted, Attempts, Recovered, Follows, formatted, found, started, performed, before, after}
 use Rattle.book.specs.Demands.{Demand2, Survives, Demand3}
 use Rattle.book.proofs.Performed.{work-granted, reply-granted, reply-refused}
 use Rattle.book.proofs.Demand1.{demand1}
@@ -27,6 +27,7 @@ use Rattle.book.proofs.Reading.{same-geometry}
 use Rattle.book.proofs.Alike.{alike}
 use Rattle.book.proofs.Settled.{idle-table}
 use Rattle.book.proofs.Formatted.{format-agrees, format-starts}
+use Rattle.book.proofs.Held.{held-shown, held-starts}
 use Rattle.book.proofs.Recovery.{recover-answers, interrupted-view, recovered-agrees, attempts-view, recovered-view}
 
 -- ---- what is assumed of each operation
@@ -107,6 +108,10 @@ accepted : {g : Geometry} {m : List ℕ} {rs : List Reel} → View g m rs → (w
     → perform (recover words) r .answer ≡ cond (eqb words (mapWords (geometryOf (reads m)))) 0 3
 accepted {g} {rs = rs} v words r q = rw (v .header .geometry) (recover-answers {g = g} {rs = rs} r (rw q v) words)
 
+found-accepted : (m m' : List ℕ) (t : Table) → Shows m t → Attempts m m' → (words : ℕ) (r : State) → r .image ≡ m'
+    → perform (recover words) r .answer ≡ cond (eqb words (mapWords (geometryOf (reads m')))) 0 3
+found-accepted m m' t v a = accepted (attempts-view a (seen v))
+
 whole : {m : List ℕ} (t : Table) {s' : State} → Seen m t → Recovered m s' → Agrees s' (allIdle t)
 whole t v c = rw (← idle-table {g = geometry t} t refl refl) (recovered-view c v)
 
@@ -175,6 +180,7 @@ module _ (steps : Steps) where
 
   pub agreed : {s : State} {t : Table} → Follows s t → Agrees s t
   agreed (started (formatted words slots nodes s fit h)) = format-agrees words slots nodes s fit h
+  agreed (started (found {t = t} v r)) = whole t (seen v) r
   agreed (performed f op fit) = done-agrees (agreed f) op fit
   agreed (before f op fit k c r n a) = a
   agreed (after f op fit k c r a) = a
@@ -183,4 +189,4 @@ module _ (steps : Steps) where
   demand3-from s t f = let a = agreed f in record { agrees = a; survives = survives a }
 
   pub demand2-from : Demand2
-  demand2-from = record { starts = format-starts; alike = λ s t f op fit. alike (agreed f) op fit }
+  demand2-from = record { starts = format-starts; shown = held-shown; accepted = found-accepted; starts-on = held-starts; alike = λ s t f op fit. alike (agreed f) op fit }

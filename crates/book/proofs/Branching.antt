@@ -22,13 +22,13 @@ use Rattle.book.specs.Table.{Reel}
 use Rattle.book.specs.Agrees.{Reached}
 use Rattle.book.specs.Ways.{UnreachedRun, FullPath, Beside, NewWord}
 use Rattle.book.specs.Growth.{SameNodes, Adds}
-use Rattle.book.proofs.View.{Header, View}
-use Rattle.book.proofs.Stored.{stores-set, header-set, few-nodes}
+use Rattle.book.proofs.View.{View}
+use Rattle.book.proofs.Stored.{stores-set, header-set, few-nodes, HeaderAs}
 use Rattle.book.proofs.Reels.{node-slots}
 use Rattle.book.proofs.Views.{view-linked}
 use Rattle.book.proofs.Sames.{reached-inside}
 use Rattle.book.proofs.Still.{Still, still-on}
-use Rattle.book.proofs.NewNodes.{newNodes, Made, made, either, words-torn, same-torn, still-torn}
+use Rattle.book.proofs.NewNodes.{newNodes, Made, made, either, words-torn, same-torn, rule-same, still-torn}
 use Rattle.book.proofs.SameNodes.{links-nodes}
 
 -- the nodes of a group
@@ -44,6 +44,7 @@ linkedImage g im parent d start = set (madeImage g im d start) (nextAt g parent)
 
 -- a memory m' that has a group of children besides what m has
 pub record Branches (g : Geometry) (m m' : Memory) (slot f d start : ℕ) : Type 0 where
+  pub rule : ruleOf m ≡ ruleOf m'
   pub ways : {i : ℕ} {w : List ℕ} {n : ℕ} → Reaches g m i w n → Reaches g m' i w n
   pub reels : {i : ℕ} → Filled g m i → m (reelAt i) ≡ m' (reelAt i)
   -- words of nodes reached before, but for next
@@ -140,7 +141,7 @@ module _ {g : Geometry} {im : List ℕ} {rs : List Reel} {slot f d start : ℕ} 
   stored2 : Stores m1 (nextAt g parent) (suc start) m2
   stored2 = let z : suc start ≡ start + 1 = omega arith in rw z (stores-set im1 (nextAt g parent) (start + 1) index)
 
-  header2 : Header g im2
+  header2 : HeaderAs g im1 im2
   header2 = header-set (nextAt g parent) (start + 1) (still1 .view .header) (omega arith) index
       (omega (arith, run .inside, child-laws .below d f deep, few-nodes (v .header)))
 
@@ -169,6 +170,7 @@ module _ {g : Geometry} {im : List ℕ} {rs : List Reel} {slot f d start : ℕ} 
 
   pub branches : Branches g m m2 slot f d start
   branches = record {
+    rule = rule-same g (suc d) 64 ns v unreached level-fits whole ∙ header2 .rule;
     ways = λ y. grown .reaches .1 (inl (same-laws same1 .reaches .0 y));
     reels = λ {i} b. same1 .reels b ∙ stored2 .old (reelAt i) (λ q. omega (arith, b .inside));
     words = λ j y l k. words1 y .words j (omega arith) k ∙ stored2 .old j (λ q. omega arith);
@@ -199,7 +201,7 @@ module _ {g : Geometry} {im : List ℕ} {rs : List Reel} {slot f d start : ℕ} 
   -- linked, they come, and nothing else
   pub adds : Adds im im2 64 (NewChild slot (wayOf d f) start)
   adds = record {
-    ways = rw (v .header .geometry, header2 .geometry) (branches .reaches);
-    sizes = rw (v .header .geometry, header2 .geometry) sizes-kept;
-    new-sizes = rw (header2 .geometry) (λ y. rw (y .is) (branches .size (y .child) (rw (child-laws .length-way d f) at (y .low))));
+    ways = rw (v .header .geometry, header2 .header .geometry) (branches .reaches);
+    sizes = rw (v .header .geometry, header2 .header .geometry) sizes-kept;
+    new-sizes = rw (header2 .header .geometry) (λ y. rw (y .is) (branches .size (y .child) (rw (child-laws .length-way d f) at (y .low))));
   }

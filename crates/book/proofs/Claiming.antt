@@ -23,6 +23,7 @@ use Rattle.book.specs.Ways.{SlotHas}
 use Rattle.book.proofs.Reading.{sizesOf}
 use Rattle.book.proofs.Claims.{SameClaim, head-on, agrees-of}
 use Rattle.book.proofs.Heads.{length-with, head-written, head-stays, one-target, idle-nothing, table-head-written, table-head-stays, length-with-table}
+use Rattle.tree.specs.Fingerprint.{ruleOf}
 
 -- no head is at the node
 pub record NoneAt (ws : List ℕ) (n : ℕ) : Type 0 where
@@ -47,6 +48,7 @@ pub record Lands (g : Geometry) (s : State) (t : Table) (reel f slot : ℕ) (im'
   pub shows : Shows im' t
   pub geometry : geometryOf (reads im') ≡ g
   pub reached : (k : ℕ) → Reached g (reads (s .image)) k ↔ Reached g (reads im') k
+  pub rule : ruleOf (reads (s .image)) ≡ ruleOf (reads im')
   pub carries : (x : Target) (reel f : ℕ) → Claims g (reads (s .image)) x reel f → SameClaim g (reads (s .image)) (reads im') x
   pub claims : Claims g (reads im') (targetAt slot n p f) reel f
   -- no head is at the node, and locate has the place besides those held and those claimed
@@ -95,7 +97,7 @@ module _ {s : State} {t : Table} {h reel f slot n p : ℕ} {im' : List ℕ}
   heads-agree : (k : ℕ) → k < headCount → HeadAgrees g (reads im') (headAt heads' k) (tableHead (withTableHead t h (claimed reel f)) k)
   heads-agree k b = elim (ℕ-discrete k h) [
     | yes q ↦ rw (q, this, table-head-written t h (claimed reel f) (omega (arith, a .low, a .agrees .table-heads))) (both-claimed (l .claims))
-    | no q ↦ rw (other k q, table-head-stays t h k (claimed reel f) q) (head-on (λ x r f b c. l .carries x r f c) (a .agrees .heads k b))
+    | no q ↦ rw (other k q, table-head-stays t h k (claimed reel f) q) (head-on (l .rule) (λ x r f b c. l .carries x r f c) (a .agrees .heads k b))
   ]
 
   -- no other head meets the new one

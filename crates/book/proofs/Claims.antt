@@ -9,7 +9,7 @@ use lib.ListN.{length}
 use Rattle.tree.specs.Memory.{Memory, reads, isSet, byte}
 use Rattle.tree.specs.declared.layout.Geometry.{Geometry}
 use Rattle.tree.specs.Layout.{mapWords, geometryOf, reelAt, locateAt, setAt, sizeAt, fingerprintsAt, frameAt}
-use Rattle.tree.specs.Fingerprint.{fingerprint}
+use Rattle.tree.specs.Fingerprint.{fingerprint, ruleOf}
 use Rattle.tree.specs.Node.{held, frame, storedFingerprint}
 use Rattle.tree.specs.Reach.{Reaches, FrameOf}
 use Rattle.tree.specs.Pool.{used}
@@ -22,7 +22,6 @@ use Rattle.book.specs.State.{State}
 use Rattle.book.specs.Table.{Table, TableHead, tableHead}
 use Rattle.book.specs.Agrees.{Reached, Shows, Claims, Written, HeadAgrees, both-idle, both-claimed, both-filled}
 use Rattle.book.specs.Agrees.{About, by-claim, by-fill, ClaimsPlace, Agrees}
-use Rattle.book.proofs.Stored.{same-rule}
 
 -- ---- claims
 
@@ -52,17 +51,17 @@ module _ {g : Geometry} {m m' : Memory} where
     not-held = λ x. c .not-held (subst (FrameOf g m (t .slot)) (c .of-frame) (a .frames (subst (FrameOf g m' (t .slot)) (sym (c .of-frame)) x)));
   }
 
-  pub written-on : {t : Target} {f : ℕ} → SameClaim g m m' t → Written g m t f → Written g m' t f
-  written-on {f = f} a c = record {
+  pub written-on : {t : Target} {f : ℕ} → ruleOf m ≡ ruleOf m' → SameClaim g m m' t → Written g m t f → Written g m' t f
+  written-on {f = f} e a c = record {
     frame-there = sym (a .frame) ∙ c .frame-there;
-    fingerprint-there = sym (a .fingerprint) ∙ c .fingerprint-there ∙ ap (λ r. fingerprint r f) (same-rule m m');
+    fingerprint-there = sym (a .fingerprint) ∙ c .fingerprint-there ∙ ap (λ r. fingerprint r f) e;
   }
 
-  pub head-on : {x : HeadState} {y : TableHead} → ((t : Target) (reel f : ℕ) → About t x → Claims g m t reel f → SameClaim g m m' t)
+  pub head-on : {x : HeadState} {y : TableHead} → ruleOf m ≡ ruleOf m' → ((t : Target) (reel f : ℕ) → About t x → Claims g m t reel f → SameClaim g m m' t)
       → HeadAgrees g m x y → HeadAgrees g m' x y
-  head-on h both-idle = both-idle
-  head-on h (both-claimed c) = both-claimed (claims-on (h _ _ _ by-claim c) c)
-  head-on h (both-filled c w) = let a = h _ _ _ by-fill c in both-filled (claims-on a c) (written-on a w)
+  head-on e h both-idle = both-idle
+  head-on e h (both-claimed c) = both-claimed (claims-on (h _ _ _ by-claim c) c)
+  head-on e h (both-filled c w) = let a = h _ _ _ by-fill c in both-filled (claims-on a c) (written-on e a w)
 
   -- a claim whose node's words all stay
   pub untouched : (t : Target) → SameWords g m m' (t .node) → t .place < 64 → m (reelAt (t .slot)) ≡ m' (reelAt (t .slot))

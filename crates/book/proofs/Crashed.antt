@@ -9,12 +9,13 @@ use lib.ListN.{set, length-set}
 use lib.Seq.{getD-set-same, getD-set-other, ext-getD}
 use Rattle.tree.specs.Memory.{Memory, reads, Store, stores, apply, Torn, FallsIn, after-all, here, later}
 use Rattle.tree.specs.declared.layout.Geometry.{Geometry}
-use Rattle.tree.specs.Layout.{editionAt, slotsAt, nodesAt}
 use Rattle.tree.proofs.Memory.{segment-laws}
 use Rattle.book.specs.Table.{Reel}
+use Rattle.book.specs.Editions.{SameHeader}
 use Rattle.book.proofs.View.{Header, View}
-use Rattle.book.proofs.Stored.{header-same}
+use Rattle.book.proofs.Stored.{header-same, HeaderAs, same-rule}
 use Rattle.book.proofs.Sames.{Unread, of-node, of-slot, view-fresh}
+use Rattle.tree.specs.Fingerprint.{ruleOf}
 
 -- ---- a segment of one store
 
@@ -67,13 +68,16 @@ through-each P im (s ∷ ss) h a = (
 abbrev pub PastHeader : List Store → Type 0
 PastHeader seg = (i v : ℕ) → List·Memᴰ {A = Store} (i, v) seg → (64 ≤ i) × (v < 2 ^ 64)
 
-pub header-torn : {g : Geometry} {im im' : List ℕ} {seg : List Store} → Header g im → Torn im seg im' → PastHeader seg → Header g im'
-header-torn {im = im} {im' = im'} h t p = header-same h (t .same-length)
-    (λ i. elim (t .each i) [ inl q ↦ rw q (h .fits i) | inr x ↦ p i _ x .1 ])
-    (kept editionAt (omega arith)) (kept slotsAt (omega arith)) (kept nodesAt (omega arith))
-  where
-    kept : (i : ℕ) → i < 64 → reads im i ≡ reads im' i
-    kept i l = elim (t .each i) [ inl q ↦ sym q | inr x ↦ absurd (omega (arith, p i (reads im' i) x .0)) ]
+-- such a segment keeps the header, torn or whole, and so the rule
+header-kept : {im im' : List ℕ} {seg : List Store} → Torn im seg im' → PastHeader seg → SameHeader (reads im) (reads im')
+header-kept {im' = im'} t p i l = elim (t .each i) [ inl q ↦ sym q | inr x ↦ absurd (omega (arith, p i (reads im' i) x .0)) ]
+
+pub header-torn : {g : Geometry} {im im' : List ℕ} {seg : List Store} → Header g im → Torn im seg im' → PastHeader seg → HeaderAs g im im'
+header-torn h t p =
+    header-same h (t .same-length) (λ i. elim (t .each i) [ inl q ↦ rw q (h .fits i) | inr x ↦ p i _ x .1 ]) (header-kept t p)
+
+pub rule-torn : {im im' : List ℕ} {seg : List Store} → Torn im seg im' → PastHeader seg → ruleOf (reads im) ≡ ruleOf (reads im')
+rule-torn t p = same-rule _ _ (header-kept t p)
 
 -- a segment whose words nothing reads leaves the view as it is, torn or whole
 pub unread-past : {g : Geometry} {m : Memory} {i : ℕ} → Unread g m i → 64 ≤ i

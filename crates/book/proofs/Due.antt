@@ -7,9 +7,9 @@ use Prim.Native.Nat.{ℕ}
 use native.Mathlib.Omega.{arith}
 use lib.ListN.{length}
 use Rattle.tree.specs.Memory.{reads}
-use Rattle.tree.specs.Test.{Test, le, ne, is, _or_, holds}
+use Rattle.tree.specs.Test.{Test, le, is, _or_, holds}
 use Rattle.tree.specs.declared.layout.Geometry.{Geometry}
-use Rattle.tree.specs.Layout.{badImage, editionAt}
+use Rattle.tree.specs.Layout.{badImage, badEdition}
 use Rattle.tree.specs.Fingerprint.{ruleOf}
 use Rattle.tree.specs.Slots.{slotOf}
 use Rattle.tree.specs.Lookup.{freeRun}
@@ -51,8 +51,8 @@ first-due (skip {t} {n} {rs} {ds} e d) = rw e (first-due d)
 module _ (s : State) where
   -- 1 and 2
   checks : {rs : List Refusal} {ds : List Due} → Decides rs ds
-      → Decides ((badImage (length (s .image)) (shape s) gives 1) ∷ (ne (memory s editionAt) 1 gives 2) ∷ rs) (header s ds)
-  checks d = next (image-test (length (s .image)) (shape s)) (λ a. next (plain (ne (memory s editionAt) 1)) (λ b. d))
+      → Decides ((badImage (length (s .image)) (shape s) gives 1) ∷ (badEdition (memory s) gives 2) ∷ rs) (header s ds)
+  checks d = next (image-test (length (s .image)) (shape s)) (λ a. next (plain (badEdition (memory s))) (λ b. d))
 
   -- 5, and after it the reel's slot
   reel-there : {rs : List Refusal} {ds : List Due} (reel : ℕ) → (ReelAt (shape s) (memory s) reel (slotOf (shape s) (memory s) reel) → Decides rs ds)

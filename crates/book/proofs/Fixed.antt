@@ -8,9 +8,9 @@ use native.Mathlib.Omega.{arith}
 use borrow.Author.Tests.{not-false}
 use lib.ListN.{length}
 use Rattle.tree.specs.Memory.{reads}
-use Rattle.tree.specs.Test.{ne, is}
+use Rattle.tree.specs.Test.{is}
 use Rattle.tree.specs.declared.layout.Geometry.{Geometry}
-use Rattle.tree.specs.Layout.{badImage, inRange, imageWords, editionAt, slotsAt, nodesAt, rootAt}
+use Rattle.tree.specs.Layout.{badImage, inRange, imageWords, editionAt, slotsAt, nodesAt, rootAt, badEdition}
 use Rattle.tree.specs.Fingerprint.{ruleOf}
 use Rattle.tree.specs.Slots.{emptySlot}
 use Rattle.tree.specs.Sound.{Sound}
@@ -50,7 +50,7 @@ formats words g s h =
     let l = format-words words g s h in
     let c = header-stored g in
     rw (work-granted (format words (g .slots) (g .nodes)) s h ∙ granted-format words g s) (record {
-      edition = written g (s .image) editionAt 1 (omega arith) (c .0);
+      edition = written g (s .image) editionAt 2 (omega arith) (c .0);
       slots = written g (s .image) slotsAt (g .slots) (omega arith) (c .1);
       nodes = written g (s .image) nodesAt (g .nodes) (omega arith) (c .2);
       unread = λ i a b. written g (s .image) i 0 (omega arith) (unread-stored g i a b);
@@ -69,7 +69,7 @@ recover-answer words s r =
     let d : Denies (badImage (length (s .image)) (shape s)) = omega (arith, r .image-words, r .in-range) in
     rw (answer-is, recover-refusals) (
     refused-later _ _ (denied (badImage (length (s .image)) (shape s)) d)
-    ∙ refused-later _ _ (denied (ne (memory s editionAt) 1) (r .edition))
+    ∙ refused-later _ _ (denied (badEdition (memory s)) (r .edition))
     ∙ refused-later _ _ (denied (badMap (shape s) words) (r .map-words)))
 
 unsound : (words : ℕ) (s : State) → Right words s → (perform (recover words) s .answer ≡ 4) ↔ (Sound (ruleOf (memory s)) (shape s) (memory s) → ⊥)

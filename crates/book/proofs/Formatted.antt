@@ -38,7 +38,7 @@ use Rattle.book.proofs.Settled.{idleTable, Settled, agrees-settled}
 
 -- what each word gets, where it gets any
 abbrev formatWord : Geometry → ℕ → ℕ
-formatWord g zero = 1
+formatWord g zero = 2
 formatWord g (suc zero) = g .slots
 formatWord g (suc (suc zero)) = g .nodes
 formatWord g (suc (suc (suc i))) = 0
@@ -62,7 +62,7 @@ formats g i v (List·Memᴰ·tail (List·Memᴰ·tail (List·Memᴰ·tail x))) =
 ]
 
 pub header-stored : (g : Geometry)
-    → List·Memᴰ (editionAt, 1) (formatStores g) × List·Memᴰ (slotsAt, g .slots) (formatStores g) × List·Memᴰ (nodesAt, g .nodes) (formatStores g)
+    → List·Memᴰ (editionAt, 2) (formatStores g) × List·Memᴰ (slotsAt, g .slots) (formatStores g) × List·Memᴰ (nodesAt, g .nodes) (formatStores g)
 unfolding formatStores
 header-stored g = (List·Memᴰ·head refl, List·Memᴰ·tail (List·Memᴰ·head refl), List·Memᴰ·tail (List·Memᴰ·tail (List·Memᴰ·head refl)))
 
@@ -112,7 +112,7 @@ module _ (g : Geometry) (im : List ℕ) (fit : Fit im) (range : Says (inRange g)
   unfolding inRange
   header = let h = header-stored g in record {
     fits = λ i. elim (torn-whole im (formatStores g) .each i) [ inl q ↦ rw q (fit i) | inr x ↦ rw (formats g i _ x) (word-fits i) ];
-    edition = written g im editionAt 1 (omega arith) (h .0);
+    edition = inr (written g im editionAt 2 (omega arith) (h .0));
     geometry = geometry-is (reads (blank g im)) (written g im slotsAt (g .slots) (omega arith) (h .1)) (written g im nodesAt (g .nodes) (omega arith) (h .2));
     in-range = range;
     words = apply-laws .length-apply im (stores (formatStores g)) ∙ words;

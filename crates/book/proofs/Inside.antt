@@ -13,7 +13,7 @@ use Rattle.tree.specs.Memory.{Memory, reads, isSome, Fit}
 use Rattle.tree.specs.declared.layout.Geometry.{Geometry}
 use Rattle.tree.specs.Layout.{badImage, imageWords}
 use Rattle.tree.specs.Path.{levels, fanout}
-use Rattle.tree.specs.Fingerprint.{Rule, fingerprint, ruleOf, editionOne}
+use Rattle.tree.specs.Fingerprint.{Rule}
 use Rattle.tree.specs.declared.path.Spot.{Spot}
 use Rattle.tree.specs.Lookup.{firstSpot, pathFrom, foundAt, lookup, find, freeRun}
 use Rattle.book.specs.Heads.{stateOf, headAt, targetOf}
@@ -24,7 +24,7 @@ use Rattle.book.specs.Perform.{foundSpot}
 use Rattle.tree.proofs.Cases.{test, seen, nothing, just, none-some, true-not-false}
 use Rattle.tree.proofs.Nodes.{size-most}
 use Rattle.tree.proofs.PathNodes.{Formed, PathNodes, pathFrom-nodes, found-formed, room-by}
-use Rattle.tree.proofs.Laws.{run-laws, fingerprint-laws}
+use Rattle.tree.proofs.Laws.{run-laws}
 use Rattle.book.proofs.Refusals.{Denies}
 
 -- ---- the header
@@ -96,7 +96,3 @@ target-fits heads h fits = elim (test (eqb (reads heads (5 * h)) 1)) [
   | inl e ↦ rw e (fits (5 * h + 4))
   | inr e ↦ elim (test (eqb (reads heads (5 * h)) 2)) [ inl e' ↦ rw (e, e') (fits (5 * h + 4)) | inr e' ↦ rw (e, e') (omega arith) ]
 ]
-
-pub fingerprint-lt : (m : Memory) (f : ℕ) → fingerprint (ruleOf m) f < 256
-unfolding fingerprint ruleOf editionOne
-fingerprint-lt m f = fingerprint-laws .fits (fingerprint-laws .table-once) 4 f

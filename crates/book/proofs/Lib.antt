@@ -34,8 +34,10 @@ pub mod Done
 pub mod Settled
 pub mod Mended
 pub mod Recovery
+pub mod Held
 pub mod Formatted
 pub mod Assembly
+pub mod Editions
 pub mod StepRetire
 pub mod Opening
 pub mod StepOpen
@@ -58,6 +60,7 @@ pub mod ClaimPlaced
 pub mod Growth
 pub mod Demands
 pub mod Sample
+pub mod OldBook
 pub mod Witnesses
 pub mod Stores
 pub mod Fixed

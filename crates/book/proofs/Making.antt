@@ -23,6 +23,7 @@ use Rattle.book.proofs.Claims.{SameClaim, head-on, agrees-of}
 use Rattle.book.proofs.Keeps.{within-frames}
 use Rattle.book.proofs.Still.{Still}
 use Rattle.book.proofs.Claiming.{Asked}
+use Rattle.tree.specs.Fingerprint.{ruleOf}
 
 -- the image and the map with the room made
 pub record Makes (g : Geometry) (s : State) (t : Table) (im' pool' : List ℕ) : Type 0 where
@@ -30,6 +31,7 @@ pub record Makes (g : Geometry) (s : State) (t : Table) (im' pool' : List ℕ) :
   pub map-words : length pool' ≡ length (s .pool)
   pub marks : (k : ℕ) → (used pool' k ≡ true) ↔ Reached g (reads im') k
   pub ways : {i : ℕ} {w : List ℕ} {k : ℕ} → Reaches g (reads (s .image)) i w k → Reaches g (reads im') i w k
+  pub rule : ruleOf (reads (s .image)) ≡ ruleOf (reads im')
   pub carries : (x : Target) (reel f : ℕ) → Claims g (reads (s .image)) x reel f → SameClaim g (reads (s .image)) (reads im') x
   pub locates : (k q : ℕ) → Reached g (reads im') k → q < 64
       → (isSet (reads im' (locateAt g k)) q ≡ true) ↔ ((held g (reads im') k q ≡ true) ⊎ ((i : ℕ) × ClaimsPlace (s .heads) i k q))
@@ -48,7 +50,7 @@ module _ {s : State} {t : Table} {h reel f slot : ℕ} {im' pool' : List ℕ}
     marks = l .marks;
     head-words = a .agrees .head-words;
     table-heads = a .agrees .table-heads;
-    heads = λ k b. head-on (λ x r f b c. l .carries x r f c) (a .agrees .heads k b);
+    heads = λ k b. head-on (l .rule) (λ x r f b c. l .carries x r f c) (a .agrees .heads k b);
     apart = a .agrees .apart;
     locates = l .locates;
   })

@@ -8,7 +8,7 @@ use native.Mathlib.Omega.{arith}
 use lib.ListN.{length}
 use Rattle.tree.specs.Memory.{Memory, reads, byte, Fit}
 use Rattle.tree.specs.declared.layout.Geometry.{Geometry}
-use Rattle.tree.specs.Layout.{editionAt, slotsAt, nodesAt, reelAt, rootAt, nextAt, locateAt, setAt, levelAt, sizeAt, fingerprintsAt, frameAt}
+use Rattle.tree.specs.Layout.{reelAt, rootAt, nextAt, locateAt, setAt, levelAt, sizeAt, fingerprintsAt, frameAt}
 use Rattle.tree.specs.Node.{wellFormed}
 use Rattle.tree.specs.Same.{Same}
 use Rattle.tree.proofs.Laws.{node-laws}
@@ -75,5 +75,5 @@ pub mended-view : {g : Geometry} {im im' : List ℕ} {rs : List Reel} → View g
 mended-view {im' = im'} v l a =
     let h = v .header in
     let fits : Fit im' = λ i. elim (a .each i) [ inl q ↦ rw q (h .fits i) | inr x ↦ rw (x .is) (h .fits _) ] in
-    view-same v (header-same h l fits (kept a editionAt (λ k. omega arith)) (kept a slotsAt (λ k. omega arith)) (kept a nodesAt (λ k. omega arith)))
+    view-same v (header-same h l fits (λ i b. kept a i (λ k. omega arith)))
     (mended-same a) (λ s w n r. mended-formed a (length w) n (v .sound .well-formed r))

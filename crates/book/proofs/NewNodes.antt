@@ -16,7 +16,8 @@ use Rattle.book.specs.Perform.{newNode}
 use Rattle.book.specs.Table.{Reel}
 use Rattle.book.specs.Agrees.{Reached}
 use Rattle.book.proofs.View.{Header, View}
-use Rattle.book.proofs.Stored.{node-inside}
+use Rattle.tree.specs.Fingerprint.{ruleOf}
+use Rattle.book.proofs.Stored.{same-rule, node-inside}
 use Rattle.book.proofs.Sames.{of-node}
 use Rattle.book.proofs.Crashed.{view-torn}
 use Rattle.book.proofs.Keeps.{within-same}
@@ -97,6 +98,9 @@ module _ (g : Geometry) (level size : ℕ) where
 
     pub same-torn : Same g (reads im) (reads im')
     same-torn = same-words (λ j h. elim (either j) [ inl q ↦ q | inr y ↦ absurd (omega (arith, y .2)) ]) (λ s w n x. words-torn x)
+
+    pub rule-same : ruleOf (reads im) ≡ ruleOf (reads im')
+    rule-same = same-rule (reads im) (reads im') (λ i l. elim (either i) [ inl q ↦ q | inr y ↦ absurd (omega (arith, y .2)) ])
 
     value-fits : (k : ℕ) → k < 5 → getD (0 ∷ 0 ∷ 0 ∷ level ∷ size ∷ []) k 0 < 2 ^ 64
     value-fits zero h = omega arith

@@ -16,6 +16,7 @@ use Rattle.tree.specs.Same.{SameLinks, SameWords, Stores}
 use Rattle.tree.proofs.Cases.{true-not-false}
 use Rattle.tree.proofs.Same.{filled-on, filled-back, reaches-on, reaches-back}
 use Rattle.tree.proofs.Words.{beside-node, beside-slots}
+use Rattle.book.specs.Editions.{SameHeader}
 use Rattle.book.proofs.Keeps.{Within}
 
 -- a place's two bits, its frame and its fingerprint
@@ -27,6 +28,7 @@ pub record SamePlace (g : Geometry) (m m' : Memory) (n p : ℕ) : Type 0 where
 
 -- all but place p of node n is the same
 pub record OnePlace (g : Geometry) (m m' : Memory) (n p : ℕ) : Type 0 where
+  pub header : SameHeader m m'
   pub links : SameLinks g m m'
   pub reels : {s : ℕ} → Filled g m s → m (reelAt s) ≡ m' (reelAt s)
   pub sizes : (j : ℕ) → m (sizeAt g j) ≡ m' (sizeAt g j)
@@ -34,6 +36,7 @@ pub record OnePlace (g : Geometry) (m m' : Memory) (n p : ℕ) : Type 0 where
 
 pub one-after-other : {g : Geometry} {m m' m'' : Memory} {n p : ℕ} → OnePlace g m m' n p → OnePlace g m' m'' n p → OnePlace g m m'' n p
 one-after-other a b = record {
+  header = λ i l. a .header i l ∙ b .header i l;
   links = record { roots = λ s h. a .links .roots s h ∙ b .links .roots s h; next = λ x. a .links .next x ∙ b .links .next (reaches-on (a .links) x) };
   reels = λ x. a .reels x ∙ b .reels (filled-on (a .links) x);
   sizes = λ j. a .sizes j ∙ b .sizes j;
@@ -72,6 +75,7 @@ module _ {g : Geometry} {m m' : Memory} {i v : ℕ} (n k : ℕ) (low : 0 < k) (h
 
   store-place : {p : ℕ} → k ≢ 4 → ((q : ℕ) → q < 64 → q ≢ p → SamePlace g m m' n q) → OnePlace g m m' n p
   store-place d h = record {
+    header = λ j l. t .old j (λ q. omega arith);
     links = store-links;
     reels = store-reels;
     sizes = λ j. t .old (sizeAt g j) (λ q. d (omega arith));

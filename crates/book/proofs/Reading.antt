@@ -11,10 +11,10 @@ use lib.ListN.{length, getD, length-map}
 use lib.Dec.{eqb}
 use borrow.Author.Tests.{eqb-true, eq-eqb}
 use Rattle.tree.specs.Memory.{Memory, reads, isSome}
-use Rattle.tree.specs.Test.{ne, holds}
+use Rattle.tree.specs.Test.{holds}
 use Rattle.tree.specs.Lists.{Distinct, onto}
 use Rattle.tree.specs.declared.layout.Geometry.{Geometry}
-use Rattle.tree.specs.Layout.{badImage, inRange, editionAt, geometryOf, reelAt, rootAt}
+use Rattle.tree.specs.Layout.{badImage, inRange, geometryOf, reelAt, rootAt, badEdition}
 use Rattle.tree.specs.Path.{wayOf}
 use Rattle.tree.specs.Fingerprint.{ruleOf}
 use Rattle.tree.specs.Slots.{Filled, filledSlots, reelsPresent, slotOf, emptySlot}
@@ -146,8 +146,8 @@ module _ {image : List ℕ} {t : Table} (v : Shows image t) where
   unfolding badImage inRange
   image-right = denied (badImage (length image) (sizesOf image)) (v .in-range, v .words)
 
-  pub edition-right : holds (ne (reads image editionAt) 1) ≡ false
-  edition-right = denied (ne (reads image editionAt) 1) (v .edition)
+  pub edition-right : holds (badEdition (reads image)) ≡ false
+  edition-right = denied (badEdition (reads image)) (v .edition)
 
   pub same-geometry : sizesOf image ≡ geometry t
   same-geometry = ap₂ (λ a b. record { slots = a; nodes = b }) (v .slots) (v .nodes)

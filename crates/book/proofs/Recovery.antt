@@ -11,9 +11,9 @@ use lib.ListN.{length}
 use lib.Dec.{eqb}
 use borrow.Author.Tests.{eqb-true, eqb-false, ne-eqb, not-true}
 use Rattle.tree.specs.Memory.{Memory, reads, Store, stores, apply}
-use Rattle.tree.specs.Test.{ne, is}
+use Rattle.tree.specs.Test.{is}
 use Rattle.tree.specs.declared.layout.Geometry.{Geometry}
-use Rattle.tree.specs.Layout.{badImage, inRange, mapWords, editionAt, geometryOf, locateAt, setAt}
+use Rattle.tree.specs.Layout.{badImage, inRange, mapWords, geometryOf, locateAt, setAt, badEdition}
 use Rattle.tree.specs.Fingerprint.{Rule, ruleOf}
 use Rattle.tree.specs.Sound.{Sound}
 use Rattle.tree.specs.Lists.{Distinct}
@@ -121,7 +121,7 @@ module _ (g : Geometry) (im : List ℕ) where
 
 pub recover-refusals : (words : ℕ) (r : State) → refusals (recover words) r ≡
     (badImage (length (r .image)) (geometryOf (reads (r .image))) gives 1)
-    ∷ (ne (reads (r .image) editionAt) 1 gives 2)
+    ∷ (badEdition (reads (r .image)) gives 2)
     ∷ (badMap (geometryOf (reads (r .image))) words gives 3)
     ∷ (is (not (isSound (ruleOf (reads (r .image))) (geometryOf (reads (r .image))) (reads (r .image)))) gives 4)
     ∷ []
@@ -143,7 +143,7 @@ recover-answers {g} r v words =
       | inl e ↦ rw e (passed-all _ (good-image h, (h .edition, (eqb-true words (mapWords g) e, (sound, tt)))))
       | inr e ↦ rw e (
           refused-later _ _ (denied (badImage (length (r .image)) g) (good-image h))
-          ∙ refused-later _ _ (denied (ne (m editionAt) 1) (h .edition))
+          ∙ refused-later _ _ (denied (badEdition m) (h .edition))
           ∙ refused-here _ _ (said (badMap g words) (eqb-false words (mapWords g) e)))
     ])
 

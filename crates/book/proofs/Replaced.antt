@@ -29,6 +29,7 @@ use Rattle.book.proofs.Heads.{length-with, head-written, head-stays, on
 use Rattle.book.proofs.Claims.{SameClaim, head-on, AgreesBy}
 use Rattle.book.proofs.Reels.{same-reached}
 use Rattle.book.proofs.OnePlace.{OnePlace}
+use Rattle.book.proofs.Stored.{same-rule}
 
 -- ---- claims, where one place changes
 
@@ -119,7 +120,7 @@ module _ {g : Geometry} {s : State} {t : Table} {h : ℕ} {x : Target} (a : Agre
       (frames : (slot f : ℕ) → ((slot ≡ x .slot) × (f ≡ x .frame) → ⊥) → FrameOf g (reads im') slot f → FrameOf g (reads (s .image)) slot f) where
     -- the claims of the other heads stay
     others : (k : ℕ) → k < headCount → k ≢ h → HeadAgrees g (reads im') (headAt (s .heads) k) (tableHead t k)
-    others k l e = head-on (λ b reel f z c.
+    others k l e = head-on (same-rule _ _ (o .header)) (λ b reel f z c.
         beside-claim d o c (λ q. e (a .apart k h l low z about (inl (q .0))))
         (frames (b .slot) (b .frame) (λ q. e (a .apart k h l low z about (inr q))))) (a .heads k l)
 

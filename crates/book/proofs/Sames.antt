@@ -24,8 +24,8 @@ use Rattle.tree.proofs.Nodes.{wellFormed-facts, size-most}
 use Rattle.tree.proofs.Words.{same-next, same-formed, same-frames, beside-node, beside-slots}
 use Rattle.book.specs.Agrees.{Reached}
 use Rattle.book.specs.Table.{Reel}
-use Rattle.book.proofs.View.{Header, View}
-use Rattle.book.proofs.Stored.{stores-set, header-set, node-inside}
+use Rattle.book.proofs.View.{View}
+use Rattle.book.proofs.Stored.{stores-set, header-set, node-inside, HeaderAs}
 use Rattle.book.proofs.Views.{view-same}
 
 -- ---- one word of a reached node, not its next
@@ -189,6 +189,6 @@ module _ {g : Geometry} {m m' : Memory} (a : (i : ℕ) → (m i ≡ m' i) ⊎ Un
   pub same-read : Same g m m'
   same-read = record { links = record { roots = read-root; next = λ x. same-next (read-node x) }; reels = read-reel; holds = λ x. same-frames (read-node x) }
 
-pub view-fresh : {g : Geometry} {im im' : List ℕ} {rs : List Reel} → View g im rs → Header g im'
+pub view-fresh : {g : Geometry} {im im' : List ℕ} {rs : List Reel} → View g im rs → HeaderAs g im im'
     → ((i : ℕ) → (reads im i ≡ reads im' i) ⊎ Unread g (reads im) i) → View g im' rs
 view-fresh v h a = view-same v h (same-read a) (λ s w n x. sym (same-formed (read-node a x) (length w)) ∙ v .sound .well-formed x)

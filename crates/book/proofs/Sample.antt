@@ -10,7 +10,7 @@ use Rattle.tree.specs.MemoryComputed.{field, withField, bit, isSet, withBit, by
 use Rattle.tree.specs.Memory.{Fit}
 use Rattle.tree.specs.Layout.{badImage, geometryOf}
 use Rattle.tree.specs.Lists.{upTo, range, keep, every, hasKey, distinct}
-use Rattle.tree.specs.Fingerprint.{fingerprint, editionOne, folded, tableEntry, ruleOf}
+use Rattle.tree.specs.Fingerprint.{fingerprint, folded, tableEntry, ruleFor, ruleOf}
 use Rattle.tree.specs.Node.{formed, wellFormed, sizeAllowed}
 use Rattle.tree.specs.Slots.{filled, filledSlots, slotOf, emptySlot}
 use Rattle.tree.specs.Lookup.{firstSpot, path, pathFrom, clearAt, clearSpot, matches, foundAt, lookup, find, isFreeRun, freeRun}
@@ -45,7 +45,7 @@ words-fit [] w i = omega arith
 words-fit (n ∷ ns) w zero = w .0
 words-fit (n ∷ ns) w (suc i) = words-fit ns (w .1) i
 
-zeros-fit : (n : ℕ) → Fit (replicate n 0)
+pub zeros-fit : (n : ℕ) → Fit (replicate n 0)
 zeros-fit zero i = omega arith
 zeros-fit (suc n) zero = omega arith
 zeros-fit (suc n) (suc i) = zeros-fit n i
@@ -92,7 +92,7 @@ pub record Computed : Type 0 where
   pub all-idle : perform (recover 1) allClaimed .work .after .heads ≡ replicate 20 0
 
 pub computed : Computed
-unfolding allClaimed run tableAfter reply tableRefusals tableWork emptyTable isPresent framesIn anyTableHead isHeld framesOf starred.formatted range upTo keep perform granted leaves clears refusals badImage refusal geometryOf formatStores openScript roomScript claimScript fillScript apply segmented stores first marked isSet withBit byte withByte field withField bit slotOf emptySlot filled freeRun isFreeRun mark headAt stateOf wordsOf withHead anyHead pathFrom path wellFormed formed sizeAllowed clearSpot clearAt firstSpot roomOn find lookup foundAt matches fingerprint editionOne folded tableEntry ruleOf children subtree tree allTrees filledSlots walkable inPlace isSound heldPlaces distinct hasKey every recoverStores flatMap
+unfolding allClaimed run tableAfter reply tableRefusals tableWork emptyTable isPresent framesIn anyTableHead isHeld framesOf starred.formatted range upTo keep perform granted leaves clears refusals badImage refusal geometryOf formatStores openScript roomScript claimScript fillScript apply segmented stores first marked isSet withBit byte withByte field withField bit slotOf emptySlot filled freeRun isFreeRun mark headAt stateOf wordsOf withHead anyHead pathFrom path wellFormed formed sizeAllowed clearSpot clearAt firstSpot roomOn find lookup foundAt matches fingerprint folded tableEntry ruleFor ruleOf children subtree tree allTrees filledSlots walkable inPlace isSound heldPlaces distinct hasKey every recoverStores flatMap
 computed = record {
   table = refl;
   no-fifth = refl;

@@ -122,6 +122,7 @@ module _ {s : State} {t : Table} {slot f d start : ℕ} {im2 : List ℕ} (a : Ag
     map-words = pool-laws .length-mark-all (s .pool) ns;
     marks = marks;
     ways = b .ways;
+    rule = b .rule;
     carries = carries;
     locates = locates;
   }

@@ -28,7 +28,7 @@ use Rattle.book.specs.Table.{Table, claimed, withTableHead}
 use Rattle.book.specs.Agrees.{Reached, Claims, Agrees}
 use Rattle.book.specs.Ways.{Beside}
 use Rattle.book.proofs.View.{View}
-use Rattle.book.proofs.Stored.{stores-set}
+use Rattle.book.proofs.Stored.{stores-set, same-rule}
 use Rattle.book.proofs.Sames.{node-formed, reached-inside, view-locate}
 use Rattle.book.proofs.Showing.{shows-view, view-shows}
 use Rattle.book.proofs.Reading.{sizesOf, claim-inside}
@@ -123,6 +123,7 @@ module _ {s : State} {t : Table} {h reel f slot n p : ℕ} (d : ℕ) (a : Asked 
     shows = view-shows (still-clear .view) (a .agrees .shows .slots) (a .agrees .shows .nodes);
     geometry = still-clear .view .header .geometry;
     reached = λ k. same-reached (same .links);
+    rule = same-rule m m' (λ j l. stored .old j (λ q. omega arith));
     carries = carries;
     claims = claims;
     unclaimed = none-there;

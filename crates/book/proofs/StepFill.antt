@@ -15,6 +15,7 @@ use Rattle.tree.specs.Same.{Stores}
 use Rattle.tree.proofs.Cases.{true-not-false}
 use Rattle.tree.proofs.Memory.{byte-laws}
 use Rattle.tree.proofs.Same.{filled-on, reaches-on}
+use Rattle.tree.proofs.Fingerprints.{fingerprint-laws}
 use Rattle.book.specs.declared.Target.{Target}
 use Rattle.book.specs.declared.HeadState.{HeadState}
 use Rattle.book.specs.declared.HeadState.the-variants as heads
@@ -31,7 +32,6 @@ use Rattle.book.proofs.Step.{Step}
 use Rattle.book.proofs.Stored.{same-rule, stores-set, node-inside}
 use Rattle.book.proofs.Sames.{view-frame, view-fingerprint}
 use Rattle.book.proofs.Showing.{shows-view}
-use Rattle.book.proofs.Inside.{fingerprint-lt}
 use Rattle.book.proofs.Keeps.{Within, within-on, within-frames, within-keeping}
 use Rattle.book.proofs.OnePlace.{OnePlace, one-after-other, frame-place, frame-within, fingerprint-place, fingerprint-within}
 use Rattle.book.proofs.Replaced.{claim-formed, claim-low, retabled, filled-in}
@@ -113,11 +113,11 @@ module _ {g : Geometry} {im : List ℕ} {rs : List Reel} {x : Target} {reel f : 
       subst (λ w. View g (set framed (fingerprintsAt g (x .node) (x .place)) (withByte w (x .place % 8) (fingerprint (ruleOf (reads im)) (x .frame)))) rs)
       (sym same-prints)
       (view-fingerprint framed-view (reaches-on (framed-place .links) (c .on-path)) (x .place) (fingerprint (ruleOf (reads im)) (x .frame)) low
-      (ap (λ w. isSet w (x .place)) (sym (framed-stores .old (setAt g (x .node)) (λ q. omega arith))) ∙ c .not-set) (fingerprint-lt (reads im) (x .frame)))
+      (ap (λ w. isSet w (x .place)) (sym (framed-stores .old (setAt g (x .node)) (λ q. omega arith))) ∙ c .not-set) (fingerprint-laws .rule-fits (reads im) (x .frame)))
 
   place : OnePlace g (reads im) (reads written) (x .node) (x .place)
   place = one-after-other framed-place (fingerprint-place (x .node) (x .place) low stored (λ j d.
-      byte-laws .with-keeps _ (x .place % 8) _ j (fingerprint-lt (reads im) (x .frame)) d ∙ ap (λ w. byte w j) same-prints))
+      byte-laws .with-keeps _ (x .place % 8) _ j (fingerprint-laws .rule-fits (reads im) (x .frame)) d ∙ ap (λ w. byte w j) same-prints))
 
   within : Within g (reads im) (reads written)
   within = within-on framed-within (fingerprint-within (x .node) (x .place) low stored)
@@ -151,8 +151,8 @@ module _ {g : Geometry} {im : List ℕ} {rs : List Reel} {x : Target} {reel f : 
     frame-there = sym (stored .old (frameAt g (x .node) (x .place)) (λ q. omega (arith, low))) ∙ framed-stores .new ∙ c .of-frame;
     fingerprint-there =
         ap (λ w. byte w (x .place % 8)) (stored .new)
-        ∙ byte-laws .with-puts _ (x .place % 8) _ (fingerprint-lt (reads im) (x .frame))
-        ∙ ap₂ fingerprint (same-rule (reads im) (reads written)) (c .of-frame);
+        ∙ byte-laws .with-puts _ (x .place % 8) _ (fingerprint-laws .rule-fits (reads im) (x .frame))
+        ∙ ap₂ fingerprint (same-rule (reads im) (reads written) (place .header)) (c .of-frame);
   }
 
 pub step-fill : {s : State} {t : Table} → Agrees s t → (script h : ℕ) → Fit (arguments (fill script h))

@@ -30,13 +30,13 @@ use Rattle.book.specs.Agrees.{Reached, Shows, Claims, ClaimsPlace, Agree
 use Rattle.book.specs.Histories.{carriedOut}
 use Rattle.book.specs.Ways.{SlotHas, LowestRun}
 use Rattle.book.specs.Growth.{SameNodes, Adds, OpenGrows}
-use Rattle.book.proofs.View.{Header, View}
-use Rattle.book.proofs.Stored.{stores-set, header-set, few-nodes}
+use Rattle.book.proofs.View.{View}
+use Rattle.book.proofs.Stored.{stores-set, header-set, few-nodes, HeaderAs}
 use Rattle.book.proofs.Reels.{frames-to}
 use Rattle.book.proofs.Views.{view-opened}
 use Rattle.book.proofs.Sames.{Unread, of-node, of-slot, read-reel, read-node, same-read}
 use Rattle.book.proofs.Showing.{shows-view, view-shows}
-use Rattle.book.proofs.Crashed.{Through, torn-one, apply-one, view-torn}
+use Rattle.book.proofs.Crashed.{Through, torn-one, apply-one, view-torn, rule-torn, unread-past}
 use Rattle.book.proofs.Reading.{sizesOf, claim-inside}
 use Rattle.book.proofs.Keeps.{keeps-of, step-of}
 use Rattle.book.proofs.Claims.{SameClaim, untouched, head-on, about-claim, locates-on, agrees-of}
@@ -149,7 +149,7 @@ module _ {s : State} {t : Table} {slot n reel : ℕ} (a : Agrees s t) (o : Openi
       let y = stores-set written (rootAt slot) (n + 1) root-inside in
       record { new = y .new ∙ z; old = y .old }
 
-  header : Header g rooted
+  header : HeaderAs g written rooted
   header =
       let l = few-nodes (v .header) in
       header-set (rootAt slot) (n + 1) (torn-view whole .header) (omega arith) root-inside (omega arith)
@@ -164,7 +164,7 @@ module _ {s : State} {t : Table} {slot n reel : ℕ} (a : Agrees s t) (o : Openi
   reel-kept {s'} b = read-reel (differ whole) b ∙ stored .old (reelAt s') (λ q. omega arith)
 
   keeps-rooted : Keeps (s .heads) (s .image) rooted
-  keeps-rooted = keeps-of v header (record { reels = λ b c. reel-kept b; held = λ x. inl (torn-same whole .holds .1 (change .holds .0 x)) })
+  keeps-rooted = keeps-of v (header .header) (record { reels = λ b c. reel-kept b; held = λ x. inl (torn-same whole .holds .1 (change .holds .0 x)) })
 
   -- what is reached: what was, and the new node
   reached-on : {s' k : ℕ} {w : List ℕ} → Reaches g m s' w k → Reaches g (reads rooted) s' w k
@@ -227,12 +227,12 @@ module _ {s : State} {t : Table} {slot n reel : ℕ} (a : Agrees s t) (o : Openi
   ]
 
   agrees-rooted : Agrees (record { image = rooted; pool = mark (s .pool) n; heads = s .heads }) (withReels t (record { number = reel; frames = [] } ∷ t .reels))
-  agrees-rooted = agrees-of (header .geometry) shows-rooted (record {
+  agrees-rooted = agrees-of (header .header .geometry) shows-rooted (record {
     map-words = pool-laws .length-mark (s .pool) n ∙ a .map-words;
     marks = marks;
     head-words = a .head-words;
     table-heads = a .table-heads;
-    heads = λ h l. head-on (λ x r f i c. same-claim x r f c) (a .heads h l);
+    heads = λ h l. head-on (rule-torn whole (λ i x z. (unread-past (unread i x z .0), unread i x z .1)) ∙ header .rule) (λ x r f i c. same-claim x r f c) (a .heads h l);
     apart = a .apart;
     locates = locates;
   })
@@ -277,9 +277,9 @@ module _ {s : State} {t : Table} {slot n reel : ℕ} (a : Agrees s t) (o : Openi
 
   adds : Adds (s .image) rooted 16 (NewRoot slot n)
   adds = record {
-    ways = rw (header .geometry) reaches-rooted;
-    sizes = rw (header .geometry) sizes-kept;
-    new-sizes = rw (header .geometry) (λ y. rw (y .is) size-rooted);
+    ways = rw (header .header .geometry) reaches-rooted;
+    sizes = rw (header .header .geometry) sizes-kept;
+    new-sizes = rw (header .header .geometry) (λ y. rw (y .is) size-rooted);
   }
 
   has-reel : SlotHas g (reads rooted) reel slot
@@ -291,7 +291,7 @@ module _ {s : State} {t : Table} {slot n reel : ℕ} (a : Agrees s t) (o : Openi
   open-nodes : LowestRun g m 1 n → Nodes (s .image) (openScript g slot n reel) (λ im'. OpenGrows (s .image) im' reel)
   unfolding openScript
   open-nodes l = nodes-through (two-segments (s .image) first (rootAt slot) (n + 1))
-      (record { slot = slot; node = n; was-empty = o .empty; lowest = l; of-reel = rw (header .geometry) has-reel; adds = adds }) (
+      (record { slot = slot; node = n; was-empty = o .empty; lowest = l; of-reel = rw (header .header .geometry) has-reel; adds = adds }) (
         λ im y. inl (torn-nodes y),
         (
           λ im y. elim (torn-one y) [ inl q ↦ inl (rw q (torn-nodes whole)) | inr q ↦ inr (nodes-equal q) ],

@@ -36,7 +36,7 @@ use Rattle.book.proofs.Refusals.{passes}
 use Rattle.book.proofs.Performed.{answer-is}
 use Rattle.book.proofs.View.{View}
 use Rattle.book.proofs.Step.{Step}
-use Rattle.book.proofs.Stored.{stores-set, header-set, node-inside}
+use Rattle.book.proofs.Stored.{stores-set, header-set, node-inside, same-rule}
 use Rattle.book.proofs.Reels.{same-reached}
 use Rattle.book.proofs.Views.{view-removed}
 use Rattle.book.proofs.Sames.{view-locate}
@@ -167,7 +167,7 @@ module _ {g : Geometry} {s : State} {t : Table} {rs : List Reel} {slot f : ℕ} 
     marks = λ n. (λ q. same-reached (place v x y .links) .0 (a .marks n .0 q), λ c. a .marks n .1 (same-reached (place v x y .links) .1 c));
     head-words = a .head-words;
     table-heads = a .table-heads;
-    heads = λ h l. head-on (λ b reel f' z c.
+    heads = λ h l. head-on (same-rule _ _ (place v x y .header)) (λ b reel f' z c.
         beside-claim (v .sound) (place v x y) c (other-place c) (within-frames (within v x y))) (a .heads h l);
     apart = a .apart;
     locates = λ n p c. locates n p (same-reached (place v x y .links) .1 c);

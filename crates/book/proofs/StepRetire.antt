@@ -34,8 +34,8 @@ use Rattle.book.specs.Ways.{SlotHas}
 use Rattle.book.specs.Growth.{shapeIn, Drops}
 use Rattle.book.proofs.Refusals.{passes}
 use Rattle.book.proofs.Performed.{answer-is}
-use Rattle.book.proofs.View.{Header, View}
-use Rattle.book.proofs.Stored.{stores-set, header-set}
+use Rattle.book.proofs.View.{View}
+use Rattle.book.proofs.Stored.{stores-set, header-set, HeaderAs}
 use Rattle.book.proofs.Reels.{frames-to}
 use Rattle.book.proofs.Views.{view-retired}
 use Rattle.book.proofs.Showing.{shows-view, view-shows}
@@ -102,7 +102,7 @@ module _ {s : State} {t : Table} (a : Agrees s t) (slot : ℕ) (b : Filled (size
   stored : Stores m (rootAt slot) 0 (reads cleared)
   stored = stores-set (s .image) (rootAt slot) 0 inside
 
-  header : Header g cleared
+  header : HeaderAs g (s .image) cleared
   header = header-set (rootAt slot) 0 (v .header) (omega arith) inside (omega arith)
 
   change : Retired (ruleOf m) g m (reads cleared) slot
@@ -118,7 +118,7 @@ module _ {s : State} {t : Table} (a : Agrees s t) (slot : ℕ) (b : Filled (size
   shows-cleared reel q = view-shows (rw q at (view-retired v header b stored)) (a .shows .slots) (a .shows .nodes)
 
   keeps-cleared : Keeps (s .heads) (s .image) cleared
-  keeps-cleared = keeps-of v header (record { reels = λ {s = s'} x y. reel-kept s'; held = λ x. inl (change .holds .0 x .0) })
+  keeps-cleared = keeps-of v (header .header) (record { reels = λ {s = s'} x y. reel-kept s'; held = λ x. inl (change .holds .0 x .0) })
 
   other-slot : {x : Target} (h : ℕ) → h < headCount → About x (headAt (s .heads) h) → x .slot ≢ slot
   other-slot {x} h l o q = true-not-false (any-head (names slot) (s .heads) .1 (h, l, names-about slot _ .1 (x, o, q))) idle
@@ -146,12 +146,12 @@ module _ {s : State} {t : Table} (a : Agrees s t) (slot : ℕ) (b : Filled (size
 
   agrees-cleared : (reel : ℕ) → m (reelAt slot) ≡ reel
       → Agrees (record { image = cleared; pool = pool; heads = s .heads }) (withReels t (keep (λ r. not (eqb (r .number) reel)) (t .reels)))
-  agrees-cleared reel q = agrees-of (header .geometry) (shows-cleared reel q) (record {
+  agrees-cleared reel q = agrees-of (header .header .geometry) (shows-cleared reel q) (record {
     map-words = pool-laws .length-unmark-all (s .pool) _ ∙ a .map-words;
     marks = marks;
     head-words = a .head-words;
     table-heads = a .table-heads;
-    heads = λ h l. head-on (same-claim h l) (a .heads h l);
+    heads = λ h l. head-on (header .rule) (same-claim h l) (a .heads h l);
     apart = a .apart;
     locates = λ n p r l. let y = change .reaches .0 (r .there) .0 in locates-on p (words n) (a .locates n p (record { slot = r .slot; way = r .way; there = y }) l);
   })
@@ -162,8 +162,8 @@ module _ {s : State} {t : Table} (a : Agrees s t) (slot : ℕ) (b : Filled (size
   -- the slot's nodes go, and no other
   drops : Drops (s .image) cleared slot
   drops = record {
-    ways = rw (header .geometry) (change .reaches);
-    sizes = rw (header .geometry) sizes-kept;
+    ways = rw (header .header .geometry) (change .reaches);
+    sizes = rw (header .header .geometry) sizes-kept;
   }
 
 pub grows-retire : {s : State} {t : Table} → Agrees s t → (words scratch script reel : ℕ) → perform (retire words scratch script reel) s .answer ≡ 0

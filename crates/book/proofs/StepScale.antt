@@ -24,7 +24,7 @@ use Rattle.book.specs.Ways.{Beside}
 use Rattle.book.specs.Growth.{SameNodes, Doubles}
 use Rattle.book.proofs.View.{View}
 use Rattle.book.proofs.Rooms.{root-way}
-use Rattle.book.proofs.Stored.{stores-set, node-inside}
+use Rattle.book.proofs.Stored.{stores-set, node-inside, same-rule}
 use Rattle.book.proofs.Sames.{node-formed, reached-inside, view-size}
 use Rattle.book.proofs.Showing.{shows-view}
 use Rattle.book.proofs.Crashed.{AfterEach, through-each}
@@ -85,6 +85,7 @@ module _ {s : State} {t : Table} {h reel f slot n : ℕ} (a : Asked s t h reel f
     map-words = refl;
     marks = λ k. let u = a .agrees .marks k in (λ e. same-reached (same .links) .0 (u .0 e), λ r. u .1 (same-reached (same .links) .1 r));
     ways = λ z. same-laws same .reaches .0 z;
+    rule = same-rule m m' (λ j l. stored .old j (λ q. omega arith));
     carries = carries;
     locates = λ k q r b.
         rw (← stored .old (locateAt g k) (λ z. omega arith), ← stored .old (setAt g k) (λ z. omega arith))

@@ -1,5 +1,5 @@
 -- Images after a store: what is read of them, and their headers.
-use mathlib.Core.Path.{_≡_, refl, sym, _∙_}
+use mathlib.Core.Path.{_≡_, sym, _∙_, ap}
 use mathlib.Core.List.{List}
 use Prim.Native.Nat.{ℕ, _+_, _^_, _≤_, _<_}
 use native.Mathlib.Omega.{arith}
@@ -9,14 +9,15 @@ use lib.Seq.{getD-set-same, getD-set-other}
 use Rattle.tree.specs.Memory.{Memory, reads, Fit}
 use Rattle.tree.specs.declared.layout.Geometry.{Geometry}
 use Rattle.tree.specs.Layout.{inRange, editionAt, slotsAt, nodesAt, geometryOf, rootAt, nodeAt}
-use Rattle.tree.specs.Fingerprint.{ruleOf}
+use Rattle.tree.specs.Fingerprint.{ruleFor, ruleOf}
 use Rattle.tree.specs.Same.{Stores}
+use Rattle.book.specs.Editions.{SameHeader}
 use Rattle.book.proofs.View.{Header}
 
--- one rule reads all images
-pub same-rule : (m m' : Memory) → ruleOf m ≡ ruleOf m'
+-- memories with the same header are read by one rule
+pub same-rule : (m m' : Memory) → SameHeader m m' → ruleOf m ≡ ruleOf m'
 unfolding ruleOf
-same-rule m m' = refl
+same-rule m m' h = ap ruleFor (h editionAt (omega arith))
 
 pub same-geometry : (m m' : Memory) → m slotsAt ≡ m' slotsAt → m nodesAt ≡ m' nodesAt → geometryOf m ≡ geometryOf m'
 unfolding geometryOf
@@ -32,22 +33,28 @@ fits-set im i v f h l j = elim (ℕ-discrete j i) [ yes q ↦ rw (q, getD-set-sa
 
 -- ---- headers
 
--- an image of the same length that fits and has the same words 0 to 2
-pub header-same : {g : Geometry} {im im' : List ℕ} → Header g im → length im' ≡ length im → Fit im' → reads im editionAt ≡ reads im' editionAt
-    → reads im slotsAt ≡ reads im' slotsAt → reads im nodesAt ≡ reads im' nodesAt → Header g im'
-header-same {im = im} {im' = im'} h l f e s n = record {
-  fits = f;
-  edition = sym e ∙ h .edition;
-  geometry = sym (same-geometry (reads im) (reads im') s n) ∙ h .geometry;
-  in-range = h .in-range;
-  words = l ∙ h .words;
+-- an image's header, and that it is read by the rule of another image
+pub record HeaderAs (g : Geometry) (im im' : List ℕ) : Type 0 where
+  pub header : Header g im'
+  pub rule : ruleOf (reads im) ≡ ruleOf (reads im')
+
+-- an image of the same length that fits and has the same words 0 to 63
+pub header-same : {g : Geometry} {im im' : List ℕ} → Header g im → length im' ≡ length im → Fit im' → SameHeader (reads im) (reads im') → HeaderAs g im im'
+header-same {im = im} {im' = im'} h l f e = record {
+  header = record {
+    fits = f;
+    edition = rw (← e editionAt (omega arith)) (h .edition);
+    geometry = sym (same-geometry (reads im) (reads im') (e slotsAt (omega arith)) (e nodesAt (omega arith))) ∙ h .geometry;
+    in-range = h .in-range;
+    words = l ∙ h .words;
+  };
+  rule = same-rule (reads im) (reads im') e;
 }
 
-pub header-set : {g : Geometry} {im : List ℕ} (i v : ℕ) → Header g im → 64 ≤ i → i < length im → v < 2 ^ 64 → Header g (set im i v)
+pub header-set : {g : Geometry} {im : List ℕ} (i v : ℕ) → Header g im → 64 ≤ i → i < length im → v < 2 ^ 64 → HeaderAs g im (set im i v)
 header-set {im = im} i v h l k f =
     let t = stores-set im i v k in
-    header-same h (length-set im i v) (fits-set im i v (h .fits) k f) (t .old editionAt (λ q. omega arith)) (t .old slotsAt (λ q. omega arith))
-    (t .old nodesAt (λ q. omega arith))
+    header-same h (length-set im i v) (fits-set im i v (h .fits) k f) (λ j b. t .old j (λ q. omega arith))
 
 pub few-nodes : {g : Geometry} {im : List ℕ} → Header g im → g .nodes ≤ 65536
 unfolding inRange

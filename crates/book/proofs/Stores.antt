@@ -26,6 +26,7 @@ use Rattle.tree.proofs.Memory.{bit-laws, byte-laws, first-laws}
 use Rattle.tree.proofs.Cases.{true-not-false, seen, nothing, just}
 use Rattle.tree.proofs.Lookup.{of-index, match-facts}
 use Rattle.tree.proofs.Laws.{child-laws, path-laws, spot-laws, run-laws, pool-laws}
+use Rattle.tree.proofs.Fingerprints.{fingerprint-laws}
 use Rattle.book.specs.declared.Target.{Target}
 use Rattle.book.specs.declared.HeadState.the-variants as heads
 use Rattle.book.specs.Heads.{headCount, headAt, wordsOf, withHead, targetOf}
@@ -37,7 +38,6 @@ use Rattle.book.specs.Stores.{BitOn, BitOff, Recorded, noTarget, FirstMa
 use Rattle.book.proofs.Refusals.{passes}
 use Rattle.book.proofs.Performed.{answer-is, work-granted}
 use Rattle.book.proofs.Heads.{word-written, word-stays, claimed-is, filled-is, about-target}
-use Rattle.book.proofs.Inside.{fingerprint-lt}
 use Rattle.book.proofs.DueWords.{reel-slot}
 use Rattle.book.proofs.StepRetire.{tree-nodes}
 use Rattle.book.proofs.Rooms.{RoomIs, room-is, at-split, in-front}
@@ -136,7 +136,7 @@ fills script h s l e =
     let p = passes (refusals op s) (omega arith) (sym (answer-is op s) ∙ e) in
     let t = targetOf (headAt (s .heads) h) in
     let q = claimed-is (headAt (s .heads) h) (not-false _ (p .1 .1 .1 .1 .0)) in
-    let b = fingerprint-lt (memory s) (t .frame) in
+    let b = fingerprint-laws .rule-fits (memory s) (t .frame) in
     let i = fingerprintsAt (shape s) (t .node) (t .place) in
     let w = work-granted op s e in
     record {

@@ -14,12 +14,13 @@ use Rattle.tree.specs.Slots.{Filled}
 use Rattle.tree.specs.Reach.{FrameOf}
 use Rattle.tree.specs.Sound.{Sound}
 use Rattle.book.specs.Table.{Reel}
+use Rattle.book.specs.Agrees.{IsEdition}
 use Rattle.book.specs.Ways.{SlotHas}
 
 -- an image of geometry g: its words fit, its header is right
 pub record Header (g : Geometry) (image : List ℕ) : Type 0 where
   pub fits : Fit image
-  pub edition : reads image editionAt ≡ 1
+  pub edition : IsEdition (reads image editionAt)
   pub geometry : geometryOf (reads image) ≡ g
   pub in-range : Says (inRange g)
   pub words : length image ≡ imageWords g

@@ -22,15 +22,15 @@ use Rattle.tree.proofs.Reach.{slot-filled, one-node}
 use Rattle.tree.proofs.Same.{filled-on, filled-back}
 use Rattle.tree.proofs.Laws.{same-laws, change-laws}
 use Rattle.book.specs.Table.{Reel, changeFrames, joined, without}
-use Rattle.book.proofs.View.{Header, OnceListed, SameReels, View}
-use Rattle.book.proofs.Stored.{same-rule}
+use Rattle.book.proofs.View.{OnceListed, SameReels, View}
+use Rattle.book.proofs.Stored.{HeaderAs}
 use Rattle.book.proofs.ReelLists.{joined-members, joined-once, without-members, without-once, once-more, once-others, once-change}
 use Rattle.book.proofs.Reels.{SameSlots, frames-to, reels-same, reels-changed, node-slots, new-number, reels-opened, reels-retired}
 
-module _ {g : Geometry} {im im' : List ℕ} {rs : List Reel} (v : View g im rs) (h : Header g im') where
+module _ {g : Geometry} {im im' : List ℕ} {rs : List Reel} (v : View g im rs) (h : HeaderAs g im im') where
   -- the view again, from its parts; the rule is the same
   view-of : {rs' : List Reel} → Sound (ruleOf (reads im)) g (reads im') → OnceListed rs' → SameReels g (reads im') rs' → View g im' rs'
-  view-of d o e = record { header = h; sound = rw (same-rule (reads im') (reads im)) d; once = o; same = e }
+  view-of d o e = record { header = h .header; sound = rw (← h .rule) d; once = o; same = e }
 
   pub view-same : Same g (reads im) (reads im')
       → ((s : ℕ) (w : List ℕ) (n : ℕ) → Reaches g (reads im) s w n → wellFormed g (reads im') (length w) n ≡ true) → View g im' rs

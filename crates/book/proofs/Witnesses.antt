@@ -26,6 +26,7 @@ use Rattle.book.specs.Demands.{Demand3}
 use Rattle.book.specs.Heads.{headCount}
 use Rattle.book.specs.Witnesses.{CommitCut, allClaimed, fourOpen, FourClaims, GoesOn, Witnesses}
 use Rattle.book.proofs.Performed.{work-granted}
+use Rattle.book.proofs.OldBook.{old-book}
 use Rattle.book.proofs.Sample.{words-fit, computed, four-follows, told-apart, other-geometry}
 
 -- ---- power lost within an operation
@@ -178,5 +179,6 @@ witnesses-from kept = record {
   mixed = λ s words image. cut-itself image (λ u. elim u [ ]);
   second-crash = second-crash;
   goes-on = goes-on kept;
+  old-book = old-book;
   other-geometry = other-geometry;
 }

@@ -13,6 +13,7 @@ use Rattle.tree.specs.Lists.{range}
 use Rattle.tree.specs.Path.{fanout}
 use Rattle.tree.specs.Fingerprint.{fingerprint, ruleOf}
 use Rattle.tree.specs.declared.path.Spot.{Spot}
+use Rattle.tree.proofs.Fingerprints.{fingerprint-laws}
 use Rattle.book.specs.declared.Target.{Target}
 use Rattle.tree.specs.declared.path.Room.{Room}
 use Rattle.tree.specs.declared.path.Room.the-variants.{Clear, ScaleUp, BranchOut}
@@ -22,7 +23,7 @@ use Rattle.tree.proofs.Lists.{in-range}
 use Rattle.tree.proofs.Memory.{bit-laws, byte-laws}
 use Rattle.tree.proofs.Laws.{child-laws}
 use Rattle.book.proofs.Entries.{Each, each-flatMap}
-use Rattle.book.proofs.Inside.{Sized, SpotInside, RoomInside, fanout-few, fingerprint-lt}
+use Rattle.book.proofs.Inside.{Sized, SpotInside, RoomInside, fanout-few}
 
 -- a store to one of some words, of a value below 2^64
 abbrev pub Writes : ℕ → Store → Type 0
@@ -76,7 +77,7 @@ module _ {words : ℕ} {g : Geometry} (z : Sized words g) where
     unfolding fillScript
     good-fill t a b c =
         let v = byte-laws .with-fits (m (fingerprintsAt g (t .node) (t .place))) (t .place % 8) (fingerprint (ruleOf m) (t .frame)) 64
-        (fingerprint-lt m (t .frame)) (omega arith) (fits _) in
+        (fingerprint-laws .rule-fits m (t .frame)) (omega arith) (fits _) in
         record { each = omega arith; few = omega arith }
 
     pub good-commit : (n p : ℕ) → n < g .nodes → p < 64 → Good words (bitOn m (setAt g n) p ∷ [])

@@ -37,10 +37,14 @@ pub record Reached (g : Geometry) (m : Memory) (n : ℕ) : Type 0 where
   pub way : List ℕ
   pub there : Reaches g m slot way n
 
+-- there are editions 1 and 2
+abbrev pub IsEdition : ℕ → Type 0
+IsEdition e = (e ≡ 1) ⊎ (e ≡ 2)
+
 -- an image shows a table: a sound image of its geometry, with exactly its reels and of each exactly its frames
 pub record Shows (image : List ℕ) (t : Table) : Type 0 where
   pub fits : Fit image
-  pub edition : reads image editionAt ≡ 1
+  pub edition : IsEdition (reads image editionAt)
   pub in-range : Says (inRange (geometryOf (reads image)))
   pub words : length image ≡ imageWords (geometryOf (reads image))
   pub slots : geometryOf (reads image) .slots ≡ t .slots

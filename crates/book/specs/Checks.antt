@@ -7,7 +7,7 @@ use lib.ListN.{length}
 use Rattle.tree.specs.Memory.{Memory, reads, isSome}
 use Rattle.tree.specs.Test.{Test, lt, le, ne, is, _and_, _or_, holds}
 use Rattle.tree.specs.declared.layout.Geometry.{Geometry}
-use Rattle.tree.specs.Layout.{badImage, mapWords, editionAt, geometryOf}
+use Rattle.tree.specs.Layout.{badImage, badEdition, mapWords, geometryOf}
 use Rattle.tree.specs.Fingerprint.{ruleOf}
 use Rattle.tree.specs.Slots.{slotOf, emptySlot}
 use Rattle.tree.specs.Path.{child}
@@ -34,7 +34,7 @@ badScript words = lt words 50
 abbrev pub checked : List ℕ → Test → List Refusal → List Refusal
 checked image buffers rest =
     let m = reads image in
-    (badImage (length image) (geometryOf m) gives 1) ∷ (ne (m editionAt) 1 gives 2) ∷ (buffers gives 3) ∷ rest
+    (badImage (length image) (geometryOf m) gives 1) ∷ (badEdition m gives 2) ∷ (buffers gives 3) ∷ rest
 
 -- 4 in Fill, Commit and Abandon: node or place is outside
 abbrev pub outside : Geometry → Target → Test

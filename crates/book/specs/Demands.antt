@@ -19,9 +19,10 @@ use Rattle.book.specs.State.{State, Operation, format, recover, openReel
 use Rattle.book.specs.Perform.{perform}
 use Rattle.book.specs.CarryOut.{carry, carried}
 use Rattle.book.specs.Table.{Table, nothing, tableRefusals, allIdle}
-use Rattle.book.specs.Agrees.{EachOnce, About, Agrees}
+use Rattle.book.specs.Agrees.{EachOnce, Shows, About, Agrees}
+use Rattle.book.specs.Held.{tableOf}
 use Rattle.book.specs.Ways.{Takes, SlotHas, Lacks, InTheWay}
-use Rattle.book.specs.Histories.{done, replied, Interrupted, Attempts, Recovered, Next, Follows}
+use Rattle.book.specs.Histories.{done, replied, Interrupted, Attempts, Recovered, Next, Starts, Follows}
 
 -- ---- 1: over any state, an operation is answered or refused; a refusal hands out nothing and leaves everything
 
@@ -91,6 +92,16 @@ pub record Demand2 : Type 0 where
   -- a format is answered over any memory, map and heads where numbers and lengths are right, so that histories start
   pub starts : (g : Geometry) (s : State) → Says (inRange g) → length (s .image) ≡ imageWords g
       → perform (format (mapWords g) (g .slots) (g .nodes)) s .answer ≡ 0
+  -- an image that a recovery accepts, with whatever map and heads, shows the table of the frames held there
+  pub shown : (words : ℕ) (s : State) → Fit (s .image) → perform (recover words) s .answer ≡ 0
+      → Shows (s .image) (tableOf (s .image))
+  -- where an image shows a table, recovery is answered, or refused 3 for a map of another length, however often it was refused or
+  -- interrupted there before
+  pub accepted : (m m' : List ℕ) (t : Table) → Shows m t → Attempts m m' → (words : ℕ) (r : State) → r .image ≡ m'
+      → perform (recover words) r .answer ≡ cond (eqb words (mapWords (geometryOf (reads m')))) 0 3
+  -- so histories start on every image that a recovery accepts, with the one that ends, from the frames held there
+  pub starts-on : (words : ℕ) (s : State) → Fit (s .image) → perform (recover words) s .answer ≡ 0
+      → (s' : State) → Recovered (s .image) s' → Starts s' (tableOf (s .image))
   pub alike : (s : State) (t : Table) → Follows s t → (op : Operation) → Fit (arguments op) → Alike op s t
 
 -- ---- 3: every history agrees with its table, through every crash

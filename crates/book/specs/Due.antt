@@ -55,9 +55,10 @@ WrongMap g words = words ≢ (g .nodes + 63) / 64
 abbrev pub ShortScript : (words : ℕ) → Type 0
 ShortScript words = words < 50
 
--- 1 and 2 first: the image by its own R and N; its edition
+-- 1 and 2 first: the image by its own R and N; its edition, neither 1 nor 2
 abbrev pub header : State → List Due → List Due
-header s ds = (1 when (RightImage (length (s .image)) (shape s) → ⊥)) ∷ (2 when (memory s editionAt ≢ 1)) ∷ ds
+header s ds =
+    (1 when (RightImage (length (s .image)) (shape s) → ⊥)) ∷ (2 when ((memory s editionAt ≢ 1) × (memory s editionAt ≢ 2))) ∷ ds
 
 -- ---- heads, by their words
 

@@ -17,7 +17,7 @@ use Rattle.book.specs.Heads.{headCount}
 use Rattle.book.specs.State.{State, format, recover, openReel, claim, fill, commit, abandon, remove, retire, query, has, memory, shape}
 use Rattle.tree.specs.Recovery.{recoverStores}
 use Rattle.book.specs.Perform.{perform}
-use Rattle.book.specs.Agrees.{Reached}
+use Rattle.book.specs.Agrees.{Reached, IsEdition}
 use Rattle.book.specs.Stores.{ClaimWrites, FillStores, CommitStores, AbandonStores, RemoveStores, RetireStores, HasSays}
 
 -- ---- Format
@@ -25,7 +25,7 @@ use Rattle.book.specs.Stores.{ClaimWrites, FillStores, CommitStores, Aba
 -- an answered format, from a state to a state
 pub record FormatWrites (g : Geometry) (s s' : State) : Type 0 where
   -- words 0 to 63
-  pub edition : memory s' editionAt ≡ 1
+  pub edition : memory s' editionAt ≡ 2
   pub slots : memory s' slotsAt ≡ g .slots
   pub nodes : memory s' nodesAt ≡ g .nodes
   pub unread : (i : ℕ) → 3 ≤ i → i < 64 → memory s' i ≡ 0
@@ -65,7 +65,7 @@ pub record RecoverWrites (s s' : State) : Type 0 where
 pub record Right (words : ℕ) (s : State) : Type 0 where
   pub in-range : Says (inRange (shape s))
   pub image-words : length (s .image) ≡ imageWords (shape s)
-  pub edition : memory s editionAt ≡ 1
+  pub edition : IsEdition (memory s editionAt)
   pub map-words : words ≡ mapWords (shape s)
 
 -- ---- Open

@@ -8,7 +8,7 @@ use Rattle.tree.specs.Memory.{reads, segmented, apply, CrashImage, passed, Fit}
 use Rattle.book.specs.State.{State, Operation, format, recover, arguments, Work, memory}
 use Rattle.book.specs.Perform.{perform}
 use Rattle.book.specs.Table.{Table, Reply, fed, reply, emptyTable, allIdle}
-use Rattle.book.specs.Agrees.{Agrees}
+use Rattle.book.specs.Agrees.{Shows, Agrees}
 
 -- the state that work leaves once its script is carried out
 abbrev pub carriedOut : Work → State
@@ -35,7 +35,7 @@ pub record Interrupted (op : Operation) (s : State) (k : ℕ) (m' : List ℕ) : 
   pub old-or-new : (i : ℕ) → (reads itself i ≡ memory s i) ⊎ (reads itself i ≡ memory (perform op s .work .after) i)
   pub script : CrashImage itself (segmented (perform op s .work .script)) k m'
 
--- recoveries after a crash that were refused, or interrupted themselves, each with any map and any heads: from image to image
+-- recoveries that were refused, or interrupted themselves, each with any map and any heads: from image to image
 pub data Attempts : List ℕ → List ℕ → Type 0 where
   none-yet : {m : List ℕ} → Attempts m m
   refused : {m m' : List ℕ} (words : ℕ) (s : State) → s .image ≡ m → perform (recover words) s .answer ≢ 0
@@ -58,13 +58,16 @@ pub data Next (s : State) : State → Type 0 where
   performed : (op : Operation) → Fit (arguments op) → Next s (done op s)
   crashed : {s' : State} {m : List ℕ} (op : Operation) → Fit (arguments op) → (k : ℕ) → Interrupted op s k m → Recovered m s' → Next s s'
 
--- what a history starts with: a format that is answered, over any memory, map and heads
+-- what a history starts with: a format that is answered, over any memory, map and heads; or an image of either edition that shows a
+-- table, and a recovery that ends, after any that were refused or interrupted
 pub data Starts : State → Table → Type 0 where
   formatted : (words slots nodes : ℕ) (s : State) → Fit (s .image) → perform (format words slots nodes) s .answer ≡ 0
       → Starts (done (format words slots nodes) s) (emptyTable slots nodes)
+  found : {s : State} {m : List ℕ} {t : Table} → Shows m t → Recovered m s → Starts s (allIdle t)
 
--- a history so far, by the state and the table that it has come to. At a crash the table becomes the one before, while a barrier was left to pass, or the one after: whichever the
--- recovered book shows then. The history goes on with that one, and no later event can change it.
+-- a history so far, by the state and the table that it has come to. At a crash the table becomes the one before, while a barrier was
+-- left to pass, or the one after: whichever the recovered book shows then. The history goes on with that one, and no later event can
+-- change it.
 pub data Follows : State → Table → Type 0 where
   started : {s : State} {t : Table} → Starts s t → Follows s t
   performed : {s : State} {t : Table} → Follows s t → (op : Operation) → Fit (arguments op)

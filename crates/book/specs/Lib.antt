@@ -5,8 +5,10 @@ pub mod Checks
 pub mod Perform
 pub mod Table
 pub mod Agrees
+pub mod Held
 pub mod CarryOut
 pub mod Histories
+pub mod Editions
 pub mod Ways
 pub mod Demands
 pub mod Growth

@@ -29,10 +29,10 @@ use Rattle.book.specs.Checks.{placeIn, targetIn, refusals}
 
 -- ---- what is written
 
--- Format: words 0 to 63, and all roots 0
+-- Format: words 0 to 63, those of edition 2, and all roots 0
 unfoldable pub formatStores : Geometry → List Store
 formatStores g =
-    (0, 1) ∷ (1, g .slots) ∷ (2, g .nodes)
+    (0, 2) ∷ (1, g .slots) ∷ (2, g .nodes)
     ∷ (map (λ i. (i, 0)) (range 3 61) ++ map (λ s. (rootAt s, 0)) (upTo (g .slots)))
 
 -- a node made anew: next, locate and set 0, its level, its size

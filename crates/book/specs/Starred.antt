@@ -9,7 +9,7 @@ use Rattle.tree.specs.Memory.{reads}
 use Rattle.tree.specs.Layout.{nextAt, sizeAt}
 use Rattle.tree.specs.Lists.{upTo, every}
 use Rattle.tree.specs.Path.{child}
-use Rattle.tree.specs.Fingerprint.{fingerprint, editionOne}
+use Rattle.tree.specs.Fingerprint.{fingerprint, ruleFor}
 use Rattle.book.specs.declared.Target.{Target}
 use Rattle.book.specs.Heads.{headAt, targetOf}
 use Rattle.book.specs.State.{State, Operation, format, openReel, claim, fill, commit, retire, memory, shape}
@@ -78,8 +78,12 @@ unfoldable pub starred : List (ℕ × ℕ)
 starred =
     -- level 3: frames 8, 16, 24 go to children 1, 2, 3; level 30: 2^57 to 1, 2^58 to 2
     (child 3 8, 1) ∷ (child 3 16, 2) ∷ (child 3 24, 3) ∷ (child 30 (2 ^ 57), 1) ∷ (child 30 (2 ^ 58), 2)
-    -- fingerprint of 0 is 144, of 1 is 113, of 2^32 is 144
-    ∷ (fingerprint editionOne 0, 144) ∷ (fingerprint editionOne 1, 113) ∷ (fingerprint editionOne (2 ^ 32), 144)
+    -- in edition 1 the fingerprint of 0 is 144, of 1 is 113, of 2^32 is 144
+    ∷ (fingerprint (ruleFor 1) 0, 144) ∷ (fingerprint (ruleFor 1) 1, 113) ∷ (fingerprint (ruleFor 1) (2 ^ 32), 144)
+    -- in edition 2 that of 0 is 32; and, worked out from the rule, those of 1, 2^32, 2^56 and of the frame with bytes 1 to 8
+    ∷ (fingerprint (ruleFor 2) 0, 32)
+    ∷ (fingerprint (ruleFor 2) 1, 225) ∷ (fingerprint (ruleFor 2) (2 ^ 32), 1) ∷ (fingerprint (ruleFor 2) (2 ^ 56), 121)
+    ∷ (fingerprint (ruleFor 2) 578437695752307201, 136)
     -- 16th frame: place 15, size 16; 17th: size 32, place 16; 33rd: size 64, place 32
     ∷ (target (next 1 15) .place, 15) ∷ (rootSize (next 1 15), 16)
     ∷ (target (next 1 16) .place, 16) ∷ (rootSize (next 1 16), 32)

@@ -3,18 +3,18 @@
 use mathlib.Core.Path.{_≡_}
 use mathlib.Core.Logic.{_⊎_}
 use mathlib.Core.List.{List, [], _∷_, map}
-use Prim.Native.Nat.{ℕ, _<_}
+use Prim.Native.Nat.{ℕ, _+_, _*_, _^_, _<_}
 use lib.ListN.{length, set, replicate}
-use Rattle.tree.specs.Memory.{reads, segmented, passed, Fit}
-use Rattle.tree.specs.Layout.{reelAt, locateAt}
+use Rattle.tree.specs.Memory.{reads, Store, stores, segmented, apply, passed, Fit}
+use Rattle.tree.specs.Layout.{editionAt, reelAt, locateAt}
 use Rattle.tree.specs.Slots.{emptySlot}
 use Rattle.book.specs.declared.HeadState.the-variants.{Claimed, Filled}
 use Rattle.book.specs.Heads.{headCount, headAt}
-use Rattle.book.specs.State.{State, Operation, format, recover, openReel, claim, fill, commit, arguments, memory, shape}
+use Rattle.book.specs.State.{State, Operation, format, recover, openReel, claim, fill, commit, query, has, arguments, memory, shape}
 use Rattle.book.specs.Perform.{perform}
-use Rattle.book.specs.Table.{Table, Reel, claimed, filled, emptyTable, allIdle}
+use Rattle.book.specs.Table.{Table, Reel, idle, claimed, filled, emptyTable, allIdle}
 use Rattle.book.specs.Agrees.{Agrees}
-use Rattle.book.specs.Histories.{replied, Interrupted, Attempts, Recovered, Follows}
+use Rattle.book.specs.Histories.{done, replied, Interrupted, Attempts, Recovered, Follows}
 use Rattle.book.specs.Starred.{run, formatted, withFrames}
 
 -- ---- a crash in Commit
@@ -104,6 +104,41 @@ pub record GoesOn (m : List ℕ) : Type 0 where
   pub recovered : Recovered m state
   pub follows : Follows state table
 
+-- ---- a history that starts on an image of edition 1
+
+-- the words of an image with one slot and one node: reel 7 holds frame 2^32 with fingerprint 144, which is edition 1's, and a claim
+-- cut short has left the locate bit of place 1
+abbrev pub heldWords : (edition : ℕ) → List Store
+heldWords edition =
+    (0, edition) ∷ (1, 1) ∷ (2, 1) ∷ (64, 7) ∷ (65, 1) ∷ (67, 3) ∷ (68, 1) ∷ (70, 16) ∷ (74, 144) ∷ (82, 2 ^ 32) ∷ []
+
+-- with a map and heads that mean nothing
+unfoldable pub heldBook : (edition : ℕ) → State
+heldBook edition = record { image = apply (replicate 146 0) (stores (heldWords edition)); pool = 9 ∷ []; heads = replicate 20 9 }
+
+abbrev pub oldBook : State
+oldBook = done (recover 1) (heldBook 1)
+
+abbrev pub oneFrame : Table
+oneFrame = record { slots = 1; nodes = 1; reels = record { number = 7; frames = 2 ^ 32 ∷ [] } ∷ []; heads = replicate headCount idle }
+
+pub record OldBook : Type 0 where
+  -- a recovery is answered there, and a history starts with that frame; Has says yes
+  pub recovers : perform (recover 1) (heldBook 1) .answer ≡ 0
+  pub history : Follows oldBook oneFrame
+  pub says-yes : perform (query (has 7 (2 ^ 32))) oldBook .work .handed .value ≡ 1
+  -- Fill folds four bytes there: frame 0 gets 144, at place 1; in a book just formatted it gets 32
+  pub fills : perform (fill 50 0) (done (claim 1 50 0 7 0) oldBook) .work .script ≡ ((83, 0) ∷ []) ∷ ((74, 144 + 144 * 256) ∷ []) ∷ []
+  pub fills-new : perform (fill 50 0) (run (openReel 1 50 7 ∷ claim 1 50 0 7 0 ∷ []) (formatted 1 1)) .work .script
+      ≡ ((82, 0) ∷ []) ∷ ((74, 32) ∷ []) ∷ []
+  -- a format in this history makes it one of edition 2
+  pub goes-on : Follows (done (format 1 1 1) oldBook) (emptyTable 1 1)
+  pub anew : memory (done (format 1 1 1) oldBook) editionAt ≡ 2
+  -- the same words as edition 2: Has is answered, and says no; a recovery is refused
+  pub asked : perform (query (has 7 (2 ^ 32))) (heldBook 2) .answer ≡ 0
+  pub says-no : perform (query (has 7 (2 ^ 32))) (heldBook 2) .work .handed .value ≡ 0
+  pub unsound : perform (recover 1) (heldBook 2) .answer ≡ 4
+
 -- ---- Format in mid-history
 
 -- a format to another geometry of the same image length, 226 words
@@ -135,5 +170,7 @@ pub record Witnesses : Type 0 where
   -- after any crash and any attempts some recovery ends, and the history goes on
   pub goes-on : (s : State) (t : Table) → Follows s t → (op : Operation) → Fit (arguments op) → (k : ℕ) (m m' : List ℕ) → Interrupted op s k m
       → Attempts m m' → GoesOn m'
+  -- a history may start on an image of edition 1
+  pub old-book : OldBook
   -- a format to another geometry may come in mid-history
   pub other-geometry : OtherGeometry

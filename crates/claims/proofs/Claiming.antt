@@ -21,7 +21,7 @@ use Rattle.tree.specs.Path.{fanout}
 use Rattle.tree.specs.declared.path.Spot.{Spot}
 use Rattle.tree.specs.declared.path.Room.{Room}
 use Rattle.tree.specs.declared.path.Room.the-variants.{Clear, ScaleUp, BranchOut}
-use Rattle.tree.specs.Fingerprint.{editionOne, ruleOf}
+use Rattle.tree.specs.Fingerprint.{ruleOf}
 use Rattle.tree.specs.Lookup.{pathFrom, lookup, lookupOn, find}
 use Rattle.tree.specs.Room.{roomOn, placesLeft, needs, atLevel31}
 use Rattle.tree.specs.Pool.{markAll}
@@ -86,13 +86,13 @@ module _ (g : Geometry) (m : Memory) (s f : ℕ) where
   vacancyOn o = let r = roomOn g m o in vacancy r (placesLeft g m r)
 
   pub placement-says : (x : Placement) → x ≡ placementFrom g m s f → Says pathBad frameHeld (vacancyOn (pathFrom g m s f)) x
-  unfolding placementFrom placementOn find ruleOf
+  unfolding placementFrom placementOn find
   placement-says x e = rw e (on (pathFrom g m s f))
     where
       on : (o : Option (List ℕ))
-          → Says (holds (noPath o or is (atLevel31 (roomOn g m o)))) (isSome (lookupOn editionOne g m f o)) (vacancyOn o) (onPath Malformed (placementOn g m f) o)
+          → Says (holds (noPath o or is (atLevel31 (roomOn g m o)))) (isSome (lookupOn (ruleOf m) g m f o)) (vacancyOn o) (onPath Malformed (placementOn g m f) o)
       on none = refl
-      on (some ns) = by-tests (atLevel31 (roomOn g m (some ns))) (isSome (lookup editionOne g m f ns)) (vacancyOn (some ns))
+      on (some ns) = by-tests (atLevel31 (roomOn g m (some ns))) (isSome (lookup (ruleOf m) g m f ns)) (vacancyOn (some ns))
 
   -- the room's numbers are inside
   room-fits : (v : Vacancy) → Free v ≡ placementFrom g m s f → RoomInside g m (v .room) × (atLevel31 (v .room) ≡ false)

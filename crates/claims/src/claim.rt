@@ -30,6 +30,7 @@ use book::HEADS;
 use book::Head;
 use book::HeadState;
 use book::Target;
+use nodes::fingerprint::fingerprint;
 use nodes::reels::slot_of;
 use operations::answer::HeadAnswer;
 use operations::answer::Refusal;
@@ -268,7 +269,7 @@ pub fn claim(
     if let Admission::Refused(why) = admit(heads, head, g, slot) {
         return refused(why);
     }
-    let vacancy = match room_for(image, g, slot, frame) {
+    let vacancy = match room_for(image, g, slot, frame, fingerprint(image, frame)) {
         Placement::Malformed => return refused(Refusal::Malformed),
         Placement::Full => return refused(Refusal::Malformed),
         Placement::Held => return refused(Refusal::FrameHeld),

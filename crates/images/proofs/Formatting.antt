@@ -55,12 +55,12 @@ module _ (at : ℕ → ℕ) where
 -- ---- the stores in turn
 
 abbrev pub headerStores : Geometry → List Store
-headerStores g = (0, 1) ∷ (1, g .slots) ∷ (2, g .nodes) ∷ zeros (λ i. i) (range 3 61)
+headerStores g = (0, 2) ∷ (1, g .slots) ∷ (2, g .nodes) ∷ zeros (λ i. i) (range 3 61)
 
 pub header-first : (g : Geometry) (im : List ℕ)
-    → apply (set (set (set im 0 1) 1 (g .slots)) 2 (g .nodes)) (stores (zeros (λ i. i) (range 3 61))) ≡ apply im (stores (headerStores g))
+    → apply (set (set (set im 0 2) 1 (g .slots)) 2 (g .nodes)) (stores (zeros (λ i. i) (range 3 61))) ≡ apply im (stores (headerStores g))
 header-first g im =
-    segment-laws .apply-stores (set (set (set im 0 1) 1 (g .slots)) 2 (g .nodes)) (zeros (λ i. i) (range 3 61))
+    segment-laws .apply-stores (set (set (set im 0 2) 1 (g .slots)) 2 (g .nodes)) (zeros (λ i. i) (range 3 61))
     ∙ sym (segment-laws .apply-stores im (headerStores g))
 
 pub header-then-roots : (g : Geometry) (im : List ℕ)

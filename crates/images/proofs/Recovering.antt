@@ -11,7 +11,7 @@ use Rattle.tree.specs.Memory.{reads, stores, apply}
 use Rattle.tree.specs.Test.{is}
 use Rattle.tree.specs.declared.layout.Geometry.{Geometry}
 use Rattle.tree.specs.Layout.{mapWords, geometryOf}
-use Rattle.tree.specs.Fingerprint.{editionOne, ruleOf}
+use Rattle.tree.specs.Fingerprint.{ruleOf}
 use Rattle.tree.specs.Subtree.{allTrees, nodesOf, listed}
 use Rattle.tree.specs.Check.{isSound}
 use Rattle.tree.specs.Recovery.{recoverStores}
@@ -40,11 +40,11 @@ module _ (im pool heads : List ℕ) where
 
   -- 4
   abbrev laterTests : Geometry → List Refusal
-  laterTests g = (is (not (isSound editionOne g (reads im))) gives 4) ∷ []
+  laterTests g = (is (not (isSound (ruleOf (reads im)) g (reads im))) gives 4) ∷ []
 
   tests : refusal (refusals op start)
       ≡ refusal (checked im (buffersBad im (Words (length pool)) Absent Absent) (laterTests (geometryOf (reads im))))
-  unfolding refusals ruleOf
+  unfolding refusals
   tests = same-checks im _ _ _ (sym (or-false _))
 
   pub recover-early : {v : Verdict} {why : enums.Refusal} → v ≡ checksOn im (some pool) none none → v ≡ Refused why
@@ -52,9 +52,9 @@ module _ (im pool heads : List ℕ) where
   recover-early = ended-early op start noBuffers (Words (length pool)) Absent Absent (laterTests (geometryOf (reads im))) tests
 
   -- r says whether the image is sound; image and map are what recovering it left
-  module _ (g : Geometry) (p : Checked im (some pool) none none g) (r : Bool) (r-is : r ≡ isSound editionOne g (reads im)) (im' pool' : List ℕ)
-      (image-is : im' ≡ cond (isSound editionOne g (reads im)) (apply im (stores (recoverStores g (reads im)))) im)
-      (pool-is : pool' ≡ cond (isSound editionOne g (reads im)) (mapOf g (nodesOf (allTrees g (reads im)))) (clearMap (mapWords g))) where
+  module _ (g : Geometry) (p : Checked im (some pool) none none g) (r : Bool) (r-is : r ≡ isSound (ruleOf (reads im)) g (reads im)) (im' pool' : List ℕ)
+      (image-is : im' ≡ cond (isSound (ruleOf (reads im)) g (reads im)) (apply im (stores (recoverStores g (reads im)))) im)
+      (pool-is : pool' ≡ cond (isSound (ruleOf (reads im)) g (reads im)) (mapOf g (nodesOf (allTrees g (reads im)))) (clearMap (mapWords g))) where
     later : refusal (refusals op start) ≡ refusal (laterTests g)
     later = tests ∙ tests-left im (some pool) none none p laterTests
 

@@ -18,16 +18,16 @@ use tree::layout::bad_image;
 use tree::layout::map_words;
 use tree::layout::root_at;
 
-// Words 0 to 63: edition, R, N, and zeros.
+// Words 0 to 63: edition 2, R, N, and zeros.
 fn put_header(image: &mut [u64], g: Geometry)
     requires { ⌜ Sized (now image) g ⌝ }
     ensures { λ _. ⌜
         now (image .exit)
         ≡ apply (now (image .entry))
-        (stores ((0, 1) ∷ (1, g .slots) ∷ (2, g .nodes) ∷ map (λ i. (i, 0)) (range 3 61)))
+        (stores ((0, 2) ∷ (1, g .slots) ∷ (2, g .nodes) ∷ map (λ i. (i, 0)) (range 3 61)))
         ⌝ }
 {
-    image[0] = 1;
+    image[0] = 2;
     image[1] = g.slots as u64;
     image[2] = g.nodes as u64;
     let mut i = 3;

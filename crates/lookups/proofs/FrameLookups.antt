@@ -10,7 +10,7 @@ use Rattle.tree.specs.Memory.{Memory, reads, isSome, segmented, written}
 use Rattle.tree.specs.Test.{is}
 use Rattle.tree.specs.declared.layout.Geometry.{Geometry}
 use Rattle.tree.specs.declared.path.Spot.{Spot}
-use Rattle.tree.specs.Fingerprint.{editionOne, ruleOf}
+use Rattle.tree.specs.Fingerprint.{ruleOf}
 use Rattle.tree.specs.Lookup.{pathFrom, lookup, find}
 use Rattle.tree.specs.Subtree.{listed}
 use Rattle.paths.specs.declared.descent.Found.{Found}
@@ -48,12 +48,11 @@ module _ (g : Geometry) (m : Memory) (s f : ℕ) {x : Found} (e : x ≡ foundFro
       as-found none = refl
       as-found (some t) = refl
 
-      on : (o : Option (List ℕ)) → not (isSome o) ≡ isMalformed (onPath Malformed (λ ns. foundAs (lookup editionOne g m f ns)) o)
+      on : (o : Option (List ℕ)) → not (isSome o) ≡ isMalformed (onPath Malformed (λ ns. foundAs (lookup (ruleOf m) g m f ns)) o)
       on none = refl
-      on (some ns) = as-found (lookup editionOne g m f ns)
+      on (some ns) = as-found (lookup (ruleOf m) g m f ns)
 
   found-spot : find (ruleOf m) g m s f ≡ spotIn y
-  unfolding ruleOf
   found-spot = rw (sym q ∙ e) (find-spot g m s f)
 
 -- a place that it found is inside

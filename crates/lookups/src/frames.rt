@@ -12,6 +12,7 @@ ghost use Rattle.operations.specs.HeadLists.{headsIn};
 ghost use Rattle.operations.specs.Ends.{buffers, noBuffers, state, ended, ends};
 use book::HEADS;
 use book::Head;
+use nodes::fingerprint::fingerprint;
 use nodes::reels::slot_of;
 use operations::answer::Answer;
 use operations::answer::Refusal;
@@ -46,7 +47,7 @@ pub fn has(image: &[u64], reel: u64, frame: u64) -> Answer
     if g.slots <= slot {
         return Answer::Refused(Refusal::NoReel);
     }
-    match find(image, g, slot, frame) {
+    match find(image, g, slot, frame, fingerprint(image, frame)) {
         Found::Malformed => Answer::Refused(Refusal::Malformed),
         Found::Absent => Answer::Done(0),
         Found::At(_) => Answer::Done(1),
@@ -103,7 +104,7 @@ pub fn remove(
     if is_busy(heads, slot) {
         return Answer::Refused(Refusal::Busy);
     }
-    match find(image, g, slot, frame) {
+    match find(image, g, slot, frame, fingerprint(image, frame)) {
         Found::Malformed => Answer::Refused(Refusal::Malformed),
         Found::Absent => Answer::Refused(Refusal::FrameNotHeld),
         Found::At(t) => {

@@ -18,7 +18,7 @@ use Rattle.tree.specs.Test.{Test, lt, le, eq, _and_, _or_, holds}
 use Rattle.tree.specs.Layout.{nextAt, locateAt, setAt, levelAt, sizeAt}
 use Rattle.tree.specs.Node.{sizeAllowed, formed, wellFormed}
 use Rattle.tree.specs.Path.{fanout}
-use Rattle.tree.specs.Fingerprint.{folded, tableEntry, fingerprint, editionOne}
+use Rattle.tree.specs.Fingerprint.{folded, tableEntry, fingerprint, ruleFor, ruleOf}
 use Rattle.tree.proofs.Fingerprints.{fingerprint-laws}
 use Rattle.tree.proofs.Cases.{not-false}
 use Rattle.tree.proofs.Tests.{says}
@@ -41,9 +41,18 @@ module _ (k f : ℕ) {h b : ℕ} (p : h ≡ folded tableEntry k f) (q : b ≡ by
   unfolding folded
   folded-step s = rw (add-one, ← p, ← q) s
 
-pub fingerprint-small : {h : ℕ} (f : ℕ) → h ≡ fingerprint editionOne f → h < 256
-unfolding fingerprint editionOne
-fingerprint-small f e = folded-small 4 f e
+-- a fold begins with 0
+pub begun : (f : ℕ) → 0 ≡ folded tableEntry 0 f
+unfolding folded
+begun f = refl
+
+-- and over as many bytes as the image's edition folds, it is a frame's fingerprint there
+pub by-rule : (m : Memory) (f : ℕ) {bytes h : ℕ} → bytes ≡ ruleOf m .bytes → h ≡ folded tableEntry bytes f → h ≡ fingerprint (ruleOf m) f
+unfolding fingerprint ruleFor ruleOf
+by-rule m f b e = rw b at e
+
+pub fingerprint-small : {h : ℕ} (m : Memory) (f : ℕ) → h ≡ fingerprint (ruleOf m) f → h < 256
+fingerprint-small m f e = rw e (fingerprint-laws .rule-fits m f)
 
 -- ---- nodes
 

@@ -11,7 +11,7 @@ use Rattle.memory.specs.Words.{Memory, isSet, withoutBit, byte, EqualBytes}
 use Rattle.memory.proofs.Laws.{bit-laws, no-bit, first-laws, equal-bit, equal-beside, or-bits, half-bits}
 use Rattle.tree.specs.declared.layout.Geometry.{Geometry}
 use Rattle.tree.specs.Layout.{nodeAt, setAt, frameAt}
-use Rattle.tree.specs.Fingerprint.{editionOne, fingerprint}
+use Rattle.tree.specs.Fingerprint.{fingerprint, ruleOf}
 use Rattle.tree.specs.Node.{storedFingerprint}
 use Rattle.tree.specs.Lookup.{matches, foundAt}
 use Rattle.tree.proofs.Cases.{true-not-false, not-false, true-and, and-true as both-true}
@@ -99,13 +99,13 @@ packed-all g m n b c a p h =
 
 module _ (g : Geometry) (m : Memory) (f n : ℕ) where
   abbrev match : ℕ → Bool
-  match p = matches editionOne g m f n p
+  match p = matches (ruleOf m) g m f n p
 
   -- where the fingerprint is the frame's, set bit and frame decide
   pub match-held : (p : ℕ) {set x : ℕ} {s : Bool} → set ≡ m (setAt g n) → x ≡ m (frameAt g n p)
-      → storedFingerprint g m n p ≡ fingerprint editionOne f → s ≡ isSet set p → s && eqb x f ≡ match p
+      → storedFingerprint g m n p ≡ fingerprint (ruleOf m) f → s ≡ isSet set p → s && eqb x f ≡ match p
   unfolding matches
-  match-held p a b e h = rw (h, a, b, eq-eqb (storedFingerprint g m n p) (fingerprint editionOne f) e, and-true) refl
+  match-held p a b e h = rw (h, a, b, eq-eqb (storedFingerprint g m n p) (fingerprint (ruleOf m) f) e, and-true) refl
 
   -- what the loop knows: the lowest match so far, and that every match below it is among those left
   pub record Seeking (left lowest : ℕ) : Type 0 where
@@ -113,15 +113,15 @@ module _ (g : Geometry) (m : Memory) (f n : ℕ) where
     within : lowest ≤ 64
     hit : lowest < 64 → match lowest ≡ true
     unseen : (p : ℕ) → p < lowest → match p ≡ true → isSet left (turned p) ≡ true
-    pub print : (i : ℕ) → i < 64 → isSet left i ≡ true → storedFingerprint g m n (turned i) ≡ fingerprint editionOne f
+    pub print : (i : ℕ) → i < 64 → isSet left i ≡ true → storedFingerprint g m n (turned i) ≡ fingerprint (ruleOf m) f
 
-  pub seek-all : (b c : ℕ) → c < 2 ^ 64 → b ≡ fingerprint editionOne f
+  pub seek-all : (b c : ℕ) → c < 2 ^ 64 → b ≡ fingerprint (ruleOf m) f
       → ((p : ℕ) → p < 64 → isSet c (turned p) ≡ eqb (storedFingerprint g m n p) b) → Seeking c 64
   seek-all b c h e a = record {
     fits = h;
     within = omega arith;
     hit = λ l. absurd (omega arith);
-    unseen = λ p l t. a p l ∙ eq-eqb (storedFingerprint g m n p) b (match-facts editionOne g m f n p .0 t .1 .1 ∙ sym e);
+    unseen = λ p l t. a p l ∙ eq-eqb (storedFingerprint g m n p) b (match-facts (ruleOf m) g m f n p .0 t .1 .1 ∙ sym e);
     print = λ i l t. eqb-true (storedFingerprint g m n (turned i)) b
         (sym (a (turned i) (omega arith)) ∙ ap (isSet c) (turned-back i l) ∙ t) ∙ e;
   }
@@ -155,14 +155,14 @@ module _ (g : Geometry) (m : Memory) (f n : ℕ) where
     seek-on h = moves left lowest i lowest s (omega arith) (s .hit) (λ a l. true-not-false (true-and (e ∙ a) (lt-ltb (turned i) lowest l)) h)
 
   -- no place has the fingerprint
-  pub seek-none : (b : ℕ) → b ≡ fingerprint editionOne f → ((p : ℕ) → p < 64 → eqb (storedFingerprint g m n p) b ≡ false) → 64 ≡ foundAt editionOne g m f n
+  pub seek-none : (b : ℕ) → b ≡ fingerprint (ruleOf m) f → ((p : ℕ) → p < 64 → eqb (storedFingerprint g m n p) b ≡ false) → 64 ≡ foundAt (ruleOf m) g m f n
   unfolding foundAt
   seek-none b e a =
       first-laws match 64 .stops 64 (omega arith)
-      (λ p l. not-false (λ t. true-not-false (eq-eqb (storedFingerprint g m n p) b (match-facts editionOne g m f n p .0 t .1 .1 ∙ sym e)) (a p l)))
+      (λ p l. not-false (λ t. true-not-false (eq-eqb (storedFingerprint g m n p) b (match-facts (ruleOf m) g m f n p .0 t .1 .1 ∙ sym e)) (a p l)))
       (λ l. absurd (omega arith))
 
-  pub seek-end : (left lowest : ℕ) → left ≡ 0 → Seeking left lowest → lowest ≡ foundAt editionOne g m f n
+  pub seek-end : (left lowest : ℕ) → left ≡ 0 → Seeking left lowest → lowest ≡ foundAt (ruleOf m) g m f n
   unfolding foundAt
   seek-end left lowest z s =
       first-laws match 64 .stops lowest (s .within)

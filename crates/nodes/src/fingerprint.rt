@@ -1,13 +1,17 @@
 // Fingerprints: the table, in which every byte occurs once, and a frame's fold over it.
 ghost use mathlib.Core.Path.{_≡_};
-ghost use Prim.Native.Nat.{_%_, _<_};
-ghost use Rattle.memory.specs.Words.{withByte};
-ghost use Rattle.tree.specs.Fingerprint.{tableEntry, theTable, editionOne, fingerprint};
+ghost use Prim.Native.Nat.{_%_, _≤_, _<_};
+ghost use lib.ListN.{length};
+ghost use Rattle.memory.specs.Words.{reads, withByte};
+ghost use Rattle.tree.specs.Fingerprint.{tableEntry, theTable, folded, fingerprint, ruleOf};
 use memory::words::byte_of;
 use memory::words::with_byte;
+use tree::layout::edition;
 
-// How many bytes of a frame are folded, lowest first.
-const BYTES: u32 = 4;
+// How many bytes of a frame are folded, lowest first: in every edition the low ones, in edition 1 no more.
+const LOW_BYTES: u32 = 4;
+
+const ALL_BYTES: u32 = 8;
 
 const TABLE: [u8; 256] = [
     13,
@@ -276,18 +280,39 @@ pub fn table() -> [u8; 256]
     TABLE
 }
 
-// A frame's fingerprint by a table that is lent.
-pub fn fold(table: &[u8], frame: u64) -> u64
-    requires { ⌜ now table ≡ theTable ⌝ }
-    ensures { λ r. ⌜ r ≡ fingerprint editionOne frame ⌝ }
+// How many bytes of a frame the image's edition folds: edition 1 the four low ones, edition 2 all eight.
+fn bytes_folded(image: &[u64]) -> u32
+    requires { ⌜ 0 < length (now image) ⌝ }
+    ensures { λ r. ⌜ (r ≡ ruleOf (reads (now (image .entry))) .bytes) × (4 ≤ r) × (r ≤ 8) ⌝ }
 {
-    let mut h: u64 = 0;
-    let mut k: u32 = 0;
-    while k < BYTES {
+    if edition(image) == 1 {
+        return LOW_BYTES;
+    }
+    ALL_BYTES
+}
+
+// A fold goes on from a byte up to another, by a table that is lent.
+fn fold_on(table: &[u8], h: u64, frame: u64, from: u32, to: u32) -> u64
+    requires { ⌜ (now table ≡ theTable) × (from ≤ to) × (to ≤ 8) × (h ≡ folded tableEntry from frame) ⌝ }
+    ensures { λ r. ⌜ r ≡ folded tableEntry to frame ⌝ }
+{
+    let mut h = h;
+    let mut k = from;
+    while k < to {
         h = table[(h ^ byte_of(frame, k)) as usize] as u64;
         k += 1;
     }
     h
+}
+
+// A frame's fingerprint in an image, by a table that is lent. The low bytes are a fixed number of steps, which the compiler
+// unrolls; what the edition adds comes after.
+pub fn fold(image: &[u64], table: &[u8], frame: u64) -> u64
+    requires { ⌜ (0 < length (now image)) × (now table ≡ theTable) ⌝ }
+    ensures { λ r. ⌜ r ≡ fingerprint (ruleOf (reads (now (image .entry)))) frame ⌝ }
+{
+    let low = fold_on(table, 0, frame, 0, LOW_BYTES);
+    fold_on(table, low, frame, LOW_BYTES, bytes_folded(image))
 }
 
 // An entry of the table, by its rule.
@@ -298,22 +323,34 @@ fn entry(i: u64) -> u64
     (167 * i + 13) % 256
 }
 
-// A frame's fingerprint, where it is the only one to be folded: to lay the table out would cost more than its four entries.
-pub fn fingerprint(frame: u64) -> u64
-    ensures { λ r. ⌜ r ≡ fingerprint editionOne frame ⌝ }
+// A fold goes on from a byte up to another, by the table's rule.
+fn fold_on_by_rule(h: u64, frame: u64, from: u32, to: u32) -> u64
+    requires { ⌜ (from ≤ to) × (to ≤ 8) × (h ≡ folded tableEntry from frame) ⌝ }
+    ensures { λ r. ⌜ r ≡ folded tableEntry to frame ⌝ }
 {
-    let mut h: u64 = 0;
-    let mut k: u32 = 0;
-    while k < BYTES {
+    let mut h = h;
+    let mut k = from;
+    while k < to {
         h = entry(h ^ byte_of(frame, k));
         k += 1;
     }
     h
 }
 
-// The fingerprint word of a place with the frame's fingerprint in it, its seven other bytes kept.
-pub fn fingerprint_word(word: u64, place: usize, frame: u64) -> u64
-    ensures { λ r. ⌜ r ≡ withByte word (place % 8) (fingerprint editionOne frame) ⌝ }
+// A frame's fingerprint in an image, where it is the only one to be folded: to lay the table out would cost more than its
+// entries.
+pub fn fingerprint(image: &[u64], frame: u64) -> u64
+    requires { ⌜ 0 < length (now image) ⌝ }
+    ensures { λ r. ⌜ r ≡ fingerprint (ruleOf (reads (now (image .entry)))) frame ⌝ }
 {
-    with_byte(word, (place % 8) as u32, fingerprint(frame))
+    let low = fold_on_by_rule(0, frame, 0, LOW_BYTES);
+    fold_on_by_rule(low, frame, LOW_BYTES, bytes_folded(image))
+}
+
+// The fingerprint word of a place with the frame's fingerprint in it, its seven other bytes kept.
+pub fn fingerprint_word(image: &[u64], word: u64, place: usize, frame: u64) -> u64
+    requires { ⌜ 0 < length (now image) ⌝ }
+    ensures { λ r. ⌜ r ≡ withByte word (place % 8) (fingerprint (ruleOf (reads (now (image .entry)))) frame) ⌝ }
+{
+    with_byte(word, (place % 8) as u32, fingerprint(image, frame))
 }

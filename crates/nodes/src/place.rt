@@ -5,7 +5,7 @@ ghost use Prim.Native.Nat.{ℕ, _+_, _*_, _/_, _%_, _<_};
 ghost use lib.Dec.{eqb};
 ghost use Rattle.memory.specs.Words.{reads, isSet};
 ghost use Rattle.tree.specs.Layout.{Sized, setAt};
-ghost use Rattle.tree.specs.Fingerprint.{editionOne, fingerprint};
+ghost use Rattle.tree.specs.Fingerprint.{fingerprint, ruleOf};
 ghost use Rattle.tree.specs.Node.{storedFingerprint};
 ghost use Rattle.tree.specs.Lookup.{matches, foundAt};
 use memory::words::equal_bytes;
@@ -60,9 +60,9 @@ fn is_match(image: &[u64], g: Geometry, n: usize, frame: u64, set: u64, p: usize
         × (n < g .nodes)
         × (p < 64)
         × (set ≡ reads (now image) (setAt g n))
-        × (storedFingerprint g (reads (now image)) n p ≡ fingerprint editionOne frame)
+        × (storedFingerprint g (reads (now image)) n p ≡ fingerprint (ruleOf (reads (now image))) frame)
         ⌝ }
-    ensures { λ r. ⌜ r ≡ matches editionOne g (reads (now (image .entry))) frame n p ⌝ }
+    ensures { λ r. ⌜ r ≡ matches (ruleOf (reads (now (image .entry)))) g (reads (now (image .entry))) frame n p ⌝ }
 {
     is_set(set, p as u32) & (frame_of(image, g, n, p) == frame)
 }
@@ -70,8 +70,8 @@ fn is_match(image: &[u64], g: Geometry, n: usize, frame: u64, set: u64, p: usize
 // The lowest place of a node of the pool that holds the frame, or 64. The few places that have its fingerprint are tested
 // in any order. The caller has the fingerprint, once for all nodes of a path.
 pub fn found_place(image: &[u64], g: Geometry, n: usize, frame: u64, print: u64) -> usize
-    requires { ⌜ Sized (now image) g × (n < g .nodes) × (print ≡ fingerprint editionOne frame) ⌝ }
-    ensures { λ r. ⌜ r ≡ foundAt editionOne g (reads (now (image .entry))) frame n ⌝ }
+    requires { ⌜ Sized (now image) g × (n < g .nodes) × (print ≡ fingerprint (ruleOf (reads (now image))) frame) ⌝ }
+    ensures { λ r. ⌜ r ≡ foundAt (ruleOf (reads (now (image .entry)))) g (reads (now (image .entry))) frame n ⌝ }
 {
     if !has_print(image, g, n, print) {
         return 64;

@@ -11,9 +11,9 @@ use lib.Dec.{eqb}
 use lib.Seq.{take-append-seam}
 use borrow.Author.Tests.{eqb-true, eqb-false, ne-eqb}
 use Rattle.tree.specs.Memory.{reads, encode, decode, segmented, carryOut, Inside}
-use Rattle.tree.specs.Test.{ne, holds}
+use Rattle.tree.specs.Test.{holds}
 use Rattle.tree.specs.declared.layout.Geometry.{Geometry}
-use Rattle.tree.specs.Layout.{badImage, mapWords, editionAt, geometryOf}
+use Rattle.tree.specs.Layout.{badImage, mapWords, geometryOf, badEdition}
 use Rattle.tree.specs.Subtree.{listed}
 use Rattle.tree.proofs.Memory.{script-laws, segment-laws}
 use Rattle.tree.proofs.Cases.{test}
@@ -25,6 +25,7 @@ use Rattle.book.specs.CarryOut.{carry}
 use Rattle.book.specs.Table.{Table, emptyTable, tableWork, reply}
 use Rattle.book.specs.Demands.{Leaves, as-before, map-cleared}
 use Rattle.book.specs.Histories.{done, replied, Follows, formatted, started, performed}
+use Rattle.book.proofs.Held.{at-once}
 use Rattle.book.proofs.Demands.{demand1, demand2, scripts}
 use Rattle.book.proofs.Done.{done-same}
 use Rattle.book.proofs.Performed.{answer-is, work-granted, work-refused}
@@ -138,7 +139,7 @@ module _ (op : Operation) (s : State) (b : Buffers) (h : perform op s .answer �
 
 -- the first that holds of the three checks, where the third does
 earlyNumber : List ℕ → ℕ
-earlyNumber image = cond (holds (badImage (length image) (geometryOf (reads image)))) 1 (cond (holds (ne (reads image editionAt) 1)) 2 3)
+earlyNumber image = cond (holds (badImage (length image) (geometryOf (reads image)))) 1 (cond (holds (badEdition (reads image))) 2 3)
 
 -- an operation is refused with a number of at most 3, whatever the map has
 record Early (op : Operation) (image heads : List ℕ) : Type 0 where
@@ -156,7 +157,7 @@ checks-only : {op : Operation} {heads : List ℕ} (image : List ℕ) → ((pool 
 unfolding earlyNumber
 checks-only image is = record {
   number = earlyNumber image;
-  low = one-of (holds (badImage (length image) (geometryOf (reads image)))) (holds (ne (reads image editionAt) 1));
+  low = one-of (holds (badImage (length image) (geometryOf (reads image)))) (holds (badEdition (reads image)));
   is = is;
 }
 
@@ -369,5 +370,9 @@ chain = record {
       let op = format words slots nodes in
       let h' : perform op s .answer ≡ 0 = sym (answer-ends op s b) ∙ sym (ap (λ (x : Ends). x .answer) q) ∙ h in
       rw (q, told op s b fit .step) (started (formatted words slots nodes s (fit .image) h'));
+  starts-on = λ words s b e fit q h.
+      let op = recover words in
+      let h' : perform op s .answer ≡ 0 = sym (answer-ends op s b) ∙ sym (ap (λ (x : Ends). x .answer) q) ∙ h in
+      rw (q, told op s b fit .step) (started (demand2 .starts-on words s (fit .image) h' (done op s) (at-once words s h')));
   goes-on = called-goes-on;
 }

@@ -1,5 +1,5 @@
 -- A driver's whole history, proved: its cuts are those of histories, its calls of recover the recoveries there.
-use mathlib.Core.Path.{_≡_, refl, sym, _∙_, ap}
+use mathlib.Core.Path.{_≡_, refl, sym, _∙_, ap, subst}
 use mathlib.Core.Logic.{inl, inr, _≢_}
 use mathlib.Core.Option.{some}
 use mathlib.Core.List.{List, []}
@@ -17,15 +17,16 @@ use Rattle.book.specs.State.{State, Operation, recover, Work}
 use Rattle.book.specs.Checks.{refusals}
 use Rattle.book.specs.Perform.{granted, leaves, perform}
 use Rattle.book.specs.Table.{Table}
-use Rattle.book.specs.Histories.{carriedOut, done, replied, Steady, answered-format, Interrupted, Attempts, Recovered, Follows, before, after}
+use Rattle.book.specs.Histories.{carriedOut, done, replied, Steady, answered-format, Interrupted, Attempts, Recovered, Follows, found, started, before, after}
 use Rattle.book.specs.Histories.{none-yet as no-attempt, refused as refused-attempt, interrupted as interrupted-attempt}
 use Rattle.book.proofs.Demands.{demand1, demand2, demand3, placed, growth}
 use Rattle.book.proofs.Performed.{work-granted}
 use Rattle.book.proofs.Done.{refused-image}
 use Rattle.book.proofs.Recovery.{recover-writes}
+use Rattle.book.proofs.Held.{idle-held}
 use Rattle.operations.specs.Ends.{Buffers, noBuffers, state, Ends, ends}
 use Rattle.operations.specs.Chain.{counted, wordsIn, Fits, OtherBuffer, another-length, to-format, Called, with-its-map, with-another}
-use Rattle.operations.specs.Driver.{CutShort, RecoverEnds, Retries, none-yet, refused, cut-short, Recovers, Whole, as-before, as-after, Driven, formats, calls, loses-power, Survives, Stands, Driver}
+use Rattle.operations.specs.Driver.{CutShort, RecoverEnds, Retries, none-yet, refused, cut-short, Recovers, Whole, as-before, as-after, Driven, formats, finds, calls, loses-power, Survives, Stands, Driver}
 use Rattle.operations.proofs.Chain.{no-entries, nothing-over, answer-ends, after-ends, one-to-three, sent-back, chain}
 
 -- ---- power lost
@@ -158,6 +159,7 @@ module _ {op : Operation} {s : State} {t : Table} {b : Buffers} {e : Ends} {k : 
 
 follows : {s : State} {t : Table} → Driven s t → Follows s t
 follows (formats words slots nodes s b e fit q h) = chain .starts words slots nodes s b e fit q h
+follows (finds v r) = started (found v (recovers-recovered r))
 follows (calls {s} {t} d op b e fit c) = chain .goes-on op s t b e (follows d) fit c .follows
 follows (loses-power d op b e fit call k c r w) = whole-follows (follows d) fit call c r w
 
@@ -262,6 +264,12 @@ recovered-recovers r =
 pub driver : Driver
 driver = record {
   stands = stands;
+  starts-on = λ image map heads e fit q h s r.
+      let answered = sym (answer-ends (recover (length map)) (state image map heads) noBuffers) ∙ sym (ap (λ (x : Ends). x .answer) q) ∙ h in
+      subst (Driven s) (idle-held image) (finds (demand2 .shown (length map) (state image map heads) fit answered) r);
+  accepted = λ m m' map heads t e v r q.
+      ap (λ (x : Ends). x .answer) q ∙ answer-ends (recover (length map)) (state m' map heads) noBuffers
+      ∙ demand2 .accepted m m' t v (retries-attempts r) (length map) (state m' map heads) refl;
   all-met = record {
     cuts = λ op s b e k m fit q c. interrupted-cut (rw q (performs op s b fit)) c;
     retries = λ m m' a. attempts-retries a;

@@ -9,9 +9,9 @@ use native.Mathlib.Omega.{arith}
 use lib.ListN.{length}
 use borrow.Author.Tests.{ne-eqb, le-ltb}
 use Rattle.tree.specs.Memory.{reads}
-use Rattle.tree.specs.Test.{Test, ne, _or_, holds}
+use Rattle.tree.specs.Test.{Test, _or_, holds}
 use Rattle.tree.specs.declared.layout.Geometry.{Geometry}
-use Rattle.tree.specs.Layout.{Sized, badImage, editionAt, geometryOf}
+use Rattle.tree.specs.Layout.{Sized, badImage, geometryOf, badEdition}
 use Rattle.tree.proofs.Cases.{test}
 use Rattle.book.specs.Refusals.{Refusal, refusal}
 use Rattle.book.specs.State.{State, Operation, format, recover, openReel, claim, fill, commit, abandon, remove, retire, query, scratchAfter}
@@ -80,14 +80,14 @@ module _ (image : List ℕ) (map scratch script : Buffer) where
   pub record PassedAll (g : Geometry) : Type 0 where
     pub geometry : g ≡ shapeOf image
     pub image-fine : holds (badImage (length image) (shapeOf image)) ≡ false
-    pub edition-fine : holds (ne (reads image editionAt) 1) ≡ false
+    pub edition-fine : holds (badEdition (reads image)) ≡ false
     pub buffers-fine : holds buffersBad ≡ false
 
   pub passed : {g : Geometry} → Passed g ≡ firstChecks image map scratch script → PassedAll g
   unfolding firstChecks
   passed {g} q = elim (test (holds (badImage (length image) (shapeOf image)))) [
     | inl a ↦ passed-refused (rw a at q)
-    | inr a ↦ elim (test (holds (ne (reads image editionAt) 1))) [
+    | inr a ↦ elim (test (holds (badEdition (reads image)))) [
       | inl b ↦ passed-refused (rw (a, b) at q)
       | inr b ↦ elim (test (holds buffersBad)) [
         | inl c ↦ passed-refused (rw (a, b, c) at q)
@@ -109,7 +109,7 @@ module _ (image : List ℕ) (map scratch script : Buffer) where
   unfolding firstChecks refusal
   refused-first q = elim (test (holds (badImage (length image) (shapeOf image)))) [
     | inl a ↦ rw (refused-same (rw a at q)) (record { number = λ rest. rw a refl; most = omega arith })
-    | inr a ↦ elim (test (holds (ne (reads image editionAt) 1))) [
+    | inr a ↦ elim (test (holds (badEdition (reads image)))) [
       | inl b ↦ rw (refused-same (rw (a, b) at q)) (record { number = λ rest. rw (a, b) refl; most = omega arith })
       | inr b ↦ elim (test (holds buffersBad)) [
         | inl c ↦ rw (refused-same (rw (a, b, c) at q)) (record { number = λ rest. rw (a, b, c) refl; most = omega arith })
@@ -172,17 +172,17 @@ module _ (image : List ℕ) (map scratch script : Buffer) (g : Geometry) (is : g
   unfolding firstChecks
   image-bad a = rw (← is, a) refl
 
-  pub edition-bad : holds (badImage (length image) g) ≡ false → holds (ne (reads image editionAt) 1) ≡ true
+  pub edition-bad : holds (badImage (length image) g) ≡ false → holds (badEdition (reads image)) ≡ true
       → Refused enum.Edition ≡ firstChecks image map scratch script
   unfolding firstChecks
   edition-bad a b = rw (← is, a, b) refl
 
-  pub buffer-bad : holds (badImage (length image) g) ≡ false → holds (ne (reads image editionAt) 1) ≡ false
+  pub buffer-bad : holds (badImage (length image) g) ≡ false → holds (badEdition (reads image)) ≡ false
       → holds (mapBad g map or mapBad g scratch or scriptBad script) ≡ true → Refused enum.Buffer ≡ firstChecks image map scratch script
   unfolding firstChecks
   buffer-bad a b c = rw (← is, a, b, c) refl
 
-  pub none-bad : holds (badImage (length image) g) ≡ false → holds (ne (reads image editionAt) 1) ≡ false
+  pub none-bad : holds (badImage (length image) g) ≡ false → holds (badEdition (reads image)) ≡ false
       → holds (mapBad g map or mapBad g scratch or scriptBad script) ≡ false → Passed g ≡ firstChecks image map scratch script
   unfolding firstChecks
   none-bad a b c = rw (← is, a, b, c) refl

@@ -15,6 +15,7 @@ use Rattle.book.specs.Perform.{perform}
 use Rattle.book.specs.CarryOut.{carry, carried}
 use Rattle.book.specs.Table.{Table, emptyTable}
 use Rattle.book.specs.Agrees.{EachOnce}
+use Rattle.book.specs.Held.{tableOf}
 use Rattle.book.specs.Demands.{Leaves}
 use Rattle.book.specs.Histories.{done, replied, Follows}
 use Rattle.operations.specs.Ends.{Buffers, state, Ends, ended, ends}
@@ -140,5 +141,7 @@ pub record Chain : Type 0 where
       → e ≡ ends op (state image pool heads) b → Unread op image heads b e
   pub starts : (words slots nodes : ℕ) (s : State) (b : Buffers) (e : Ends) → Fits (format words slots nodes) s
       → e ≡ ends (format words slots nodes) s b → e .answer ≡ 0 → Follows (next (format words slots nodes) e) (emptyTable slots nodes)
+  pub starts-on : (words : ℕ) (s : State) (b : Buffers) (e : Ends) → Fits (recover words) s
+      → e ≡ ends (recover words) s b → e .answer ≡ 0 → Follows (next (recover words) e) (tableOf (s .image))
   pub goes-on : (op : Operation) (s : State) (t : Table) (b : Buffers) (e : Ends) → Follows s t → Fits op s → (c : Called op s b e)
       → GoesOn op s t e (afterCall c)

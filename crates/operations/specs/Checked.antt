@@ -4,9 +4,9 @@ use mathlib.Core.List.{List}
 use Prim.Native.Nat.{ℕ}
 use lib.ListN.{length}
 use Rattle.tree.specs.Memory.{reads}
-use Rattle.tree.specs.Test.{Test, is, ne, _or_, holds}
+use Rattle.tree.specs.Test.{Test, is, _or_, holds}
 use Rattle.tree.specs.declared.layout.Geometry.{Geometry}
-use Rattle.tree.specs.Layout.{badImage, editionAt, geometryOf}
+use Rattle.tree.specs.Layout.{badImage, badEdition, geometryOf}
 use Rattle.book.specs.Checks.{badMap, badScript}
 use Rattle.operations.specs.declared.checks.Buffer.{Buffer}
 use Rattle.operations.specs.declared.checks.Buffer.the-variants.{Absent, Words}
@@ -28,5 +28,5 @@ unfoldable pub firstChecks : List ℕ → (map scratch script : Buffer) → Verd
 firstChecks image map scratch script =
     let g = geometryOf (reads image) in
     cond (holds (badImage (length image) g)) (Refused refusals.Image)
-    (cond (holds (ne (reads image editionAt) 1)) (Refused refusals.Edition)
+    (cond (holds (badEdition (reads image))) (Refused refusals.Edition)
     (cond (holds (mapBad g map or mapBad g scratch or scriptBad script)) (Refused refusals.Buffer) (Passed g)))

@@ -12,7 +12,8 @@ use Rattle.tree.specs.Memory.{reads, Entry, decode, CrashImage, passed, Fit}
 use Rattle.tree.specs.Layout.{mapWords, geometryOf}
 use Rattle.book.specs.State.{State, Operation, format, recover, arguments}
 use Rattle.book.specs.Table.{Table, emptyTable, allIdle}
-use Rattle.book.specs.Agrees.{Agrees}
+use Rattle.book.specs.Agrees.{Shows, Agrees}
+use Rattle.book.specs.Held.{tableOf}
 use Rattle.book.specs.Histories.{replied, Steady, Interrupted, Attempts, Recovered, Follows}
 use Rattle.book.specs.Demands.{Alike, Places}
 use Rattle.book.specs.Growth.{Growing}
@@ -38,7 +39,8 @@ pub record CutShort (op : Operation) (s : State) (e : Ends) (k : ℕ) (m : List 
 abbrev pub RecoverEnds : (image map heads : List ℕ) → Ends → Type 0
 RecoverEnds image map heads e = e ≡ ends (recover (length map)) (state image map heads) noBuffers
 
--- power is back: calls of recover that are refused, or in which power is lost once more, from image to image. Map and heads hold anything
+-- power is back, or an image is found: calls of recover that are refused, or in which power is lost, from image to image. Map and heads
+-- hold anything
 pub data Retries : (image image' : List ℕ) → Type 0 where
   none-yet : {m : List ℕ} → Retries m m
   refused : {m m' : List ℕ} (map heads : List ℕ) (e : Ends) → RecoverEnds m map heads e → e .answer ≢ 0
@@ -70,6 +72,8 @@ pub data Driven : State → Table → Type 0 where
   -- a format that is answered, over any memory, any map and any heads
   formats : (words slots nodes : ℕ) (s : State) (b : Buffers) (e : Ends) → Fits (format words slots nodes) s
       → e ≡ ends (format words slots nodes) s b → e .answer ≡ 0 → Driven (next (format words slots nodes) e) (emptyTable slots nodes)
+  -- an image of either edition that shows a table, and recover called until it answers 0
+  finds : {m : List ℕ} {s : State} {t : Table} → Shows m t → Recovers m s → Driven s (allIdle t)
   -- any operation, answered or refused; the words that it handed out are carried out
   calls : {s : State} {t : Table} → Driven s t → (op : Operation) (b : Buffers) (e : Ends) → Fits op s → (c : Called op s b e)
       → Driven (afterCall c) (replied op s t .work .after)
@@ -114,4 +118,10 @@ pub record AllMet : Type 0 where
 -- until this answers 0, stands with its table, wherever it has come to
 pub record Driver : Type 0 where
   pub stands : (s : State) (t : Table) → Driven s t → Stands s t
+  -- where it finds an image that recover accepts, it may start there, with the one that ends, from the frames held there
+  pub starts-on : (image map heads : List ℕ) (e : Ends) → Fit image → RecoverEnds image map heads e → e .answer ≡ 0
+      → (s : State) → Recovers image s → Driven s (tableOf image)
+  -- and however often recover was refused or cut short there, it comes to answer 0
+  pub accepted : (m m' map heads : List ℕ) (t : Table) (e : Ends) → Shows m t → Retries m m' → RecoverEnds m' map heads e
+      → e .answer ≡ cond (eqb (length map) (mapWords (geometryOf (reads m')))) 0 3
   pub all-met : AllMet

@@ -16,7 +16,7 @@ use Rattle.tree.specs.Layout.{nextAt, sizeAt}
 use Rattle.tree.specs.Path.{child}
 use Rattle.tree.specs.Node.{wellFormed}
 use Rattle.tree.specs.declared.path.Spot.{Spot}
-use Rattle.tree.specs.Fingerprint.{editionOne}
+use Rattle.tree.specs.Fingerprint.{ruleOf}
 use Rattle.tree.specs.Lookup.{spot, before, path, pathFrom, firstSpot, clearAt, clearSpot, foundAt, lookup, lookupOn, find}
 use Rattle.tree.proofs.Cases.{test}
 use Rattle.tree.proofs.Nodes.{children-inside}
@@ -145,7 +145,7 @@ pub record Searches (found : List ℕ → Option Spot) (search bound : ℕ → �
   pub is : (ns : List ℕ) → found ns ≡ firstSpot search bound ns
 
 module _ (g : Geometry) (m : Memory) where
-  pub lookups : (f : ℕ) → Searches (lookup editionOne g m f) (foundAt editionOne g m f) (λ n. 64)
+  pub lookups : (f : ℕ) → Searches (lookup (ruleOf m) g m f) (foundAt (ruleOf m) g m f) (λ n. 64)
   unfolding lookup
   lookups f = record { is = λ ns. refl }
 
@@ -199,19 +199,19 @@ as-found : (o : Option Spot) → o ≡ spotIn (foundAs o)
 as-found none = refl
 as-found (some t) = refl
 
-pub find-spot : (g : Geometry) (m : Memory) (s f : ℕ) → find editionOne g m s f ≡ spotIn (foundFrom g m s f)
+pub find-spot : (g : Geometry) (m : Memory) (s f : ℕ) → find (ruleOf m) g m s f ≡ spotIn (foundFrom g m s f)
 unfolding find foundFrom
 find-spot g m s f = on-path (pathFrom g m s f)
   where
-    on-path : (o : Option (List ℕ)) → lookupOn editionOne g m f o ≡ spotIn (onPath Malformed (λ ns. foundAs (lookup editionOne g m f ns)) o)
+    on-path : (o : Option (List ℕ)) → lookupOn (ruleOf m) g m f o ≡ spotIn (onPath Malformed (λ ns. foundAs (lookup (ruleOf m) g m f ns)) o)
     on-path none = refl
-    on-path (some ns) = as-found (lookup editionOne g m f ns)
+    on-path (some ns) = as-found (lookup (ruleOf m) g m f ns)
 
 module _ (g : Geometry) (m : Memory) (s f : ℕ) where
   pub found-malformed : pathFrom g m s f ≡ none → Malformed ≡ foundFrom g m s f
   unfolding foundFrom
   found-malformed e = rw e refl
 
-  pub found-end : {ns : List ℕ} {o : Option Spot} {r : Found} → pathFrom g m s f ≡ some ns → o ≡ lookup editionOne g m f ns → r ≡ foundAs o → r ≡ foundFrom g m s f
+  pub found-end : {ns : List ℕ} {o : Option Spot} {r : Found} → pathFrom g m s f ≡ some ns → o ≡ lookup (ruleOf m) g m f ns → r ≡ foundAs o → r ≡ foundFrom g m s f
   unfolding foundFrom
   found-end e a q = rw e (q ∙ ap foundAs a)

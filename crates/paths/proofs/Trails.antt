@@ -9,7 +9,7 @@ use lib.ListN.{length, length-append}
 use Rattle.memory.specs.Words.{Memory}
 use Rattle.tree.specs.declared.layout.Geometry.{Geometry}
 use Rattle.tree.specs.declared.path.Spot.{Spot}
-use Rattle.tree.specs.Fingerprint.{editionOne}
+use Rattle.tree.specs.Fingerprint.{ruleOf}
 use Rattle.tree.specs.Slots.{rootOf}
 use Rattle.tree.specs.Lookup.{path, pathFrom, lookup}
 use Rattle.tree.specs.Room.{lastOf}
@@ -42,7 +42,7 @@ trail-malformed g m seek e s f h = rw h refl
 
 pub trail-end : {g : Geometry} {m : Memory} (seek : Bool) {e s f : ℕ} {ns : List ℕ} {d n : ℕ} {found clear : Seen} {left : ℕ} → Along g m e s f ns d n
     → path g m (32 - e) e s f ≡ some (ns ++ n ∷ [])
-    → spotOf found ≡ lookup editionOne g m f (ns ++ n ∷ [])
+    → spotOf found ≡ lookup (ruleOf m) g m f (ns ++ n ∷ [])
     → spotOf clear ≡ clearIf g m seek (ns ++ n ∷ [])
     → left ≡ leftOf g m (spotOf clear)
     → Ended n d found clear left ≡ trailFrom g m seek e s f
@@ -60,7 +60,7 @@ pub record EndsAt (g : Geometry) (m : Memory) (seek : Bool) (s f n d : ℕ) (x y
   pub last : n ≡ lastOf nodes
   pub formed : Formed g m n
   pub level : d ≡ length nodes - 1
-  pub found : spotOf x ≡ lookup editionOne g m f nodes
+  pub found : spotOf x ≡ lookup (ruleOf m) g m f nodes
   pub clear : spotOf y ≡ clearIf g m seek nodes
   pub left : l ≡ leftOf g m (clearIf g m seek nodes)
 
@@ -78,7 +78,7 @@ module _ (g : Geometry) (m : Memory) (seek : Bool) (s f : ℕ) where
     last = refl;
     formed = last-formed g m (pathFrom-nodes g m s f ns q);
     level = omega arith;
-    found = spot-seen (lookup editionOne g m f ns);
+    found = spot-seen (lookup (ruleOf m) g m f ns);
     clear = spot-seen (clearIf g m seek ns);
     left = refl;
   }

@@ -8,7 +8,7 @@ use Rattle.memory.specs.Apply.{isSome}
 use Rattle.tree.specs.declared.layout.Geometry.{Geometry}
 use Rattle.tree.specs.declared.path.Spot.{Spot}
 use Rattle.tree.specs.declared.path.Room.{Room}
-use Rattle.tree.specs.Fingerprint.{editionOne}
+use Rattle.tree.specs.Fingerprint.{ruleOf}
 use Rattle.tree.specs.Lookup.{pathFrom, lookup}
 use Rattle.tree.specs.Room.{roomOn, placesLeft, atLevel31}
 use Rattle.paths.specs.declared.descent.Found.{Found}
@@ -28,7 +28,7 @@ foundAs (some t) = found.At t
 
 -- the lookup of a frame from a slot
 unfoldable pub foundFrom : Geometry → Memory → (slot frame : ℕ) → Found
-foundFrom g m s f = onPath found.Malformed (λ ns. foundAs (lookup editionOne g m f ns)) (pathFrom g m s f)
+foundFrom g m s f = onPath found.Malformed (λ ns. foundAs (lookup (ruleOf m) g m f ns)) (pathFrom g m s f)
 
 -- a room, with the places left in its node once the place is taken
 abbrev pub vacancy : Room → (left : ℕ) → Vacancy
@@ -40,7 +40,7 @@ abbrev pub placementAs : Vacancy → (found : Option Spot) → Placement
 placementAs v found = cond (atLevel31 (v .room)) placement.Full (cond (isSome found) placement.Held (placement.Free v))
 
 unfoldable pub placementOn : Geometry → Memory → (frame : ℕ) → List ℕ → Placement
-placementOn g m f ns = let r = roomOn g m (some ns) in placementAs (vacancy r (placesLeft g m r)) (lookup editionOne g m f ns)
+placementOn g m f ns = let r = roomOn g m (some ns) in placementAs (vacancy r (placesLeft g m r)) (lookup (ruleOf m) g m f ns)
 
 unfoldable pub placementFrom : Geometry → Memory → (slot frame : ℕ) → Placement
 placementFrom g m s f = onPath placement.Malformed (placementOn g m f) (pathFrom g m s f)

@@ -14,7 +14,7 @@ use Rattle.tree.specs.declared.path.Room.the-variants.{Clear, ScaleUp, BranchOu
 use Rattle.tree.specs.Layout.{nextAt, sizeAt}
 use Rattle.tree.specs.Path.{child}
 use Rattle.tree.specs.Node.{childOf}
-use Rattle.tree.specs.Fingerprint.{editionOne}
+use Rattle.tree.specs.Fingerprint.{ruleOf}
 use Rattle.tree.specs.Lookup.{spot, path, lookup, clearSpot}
 use Rattle.tree.specs.Room.{lastOf, leftAt}
 use Rattle.paths.specs.declared.descent.Step.{Step}
@@ -78,7 +78,7 @@ clearIf g m seek ns = cond seek (clearSpot g m ns) none
 unfoldable pub trailOn : Geometry → Memory → (seek : Bool) → (level frame : ℕ) → List ℕ → Trail
 trailOn g m seek d f ns =
     let clear = clearIf g m seek ns in
-    Ended (lastOf ns) (d + length ns - 1) (seenAs (lookup editionOne g m f ns)) (seenAs clear) (leftOf g m clear)
+    Ended (lastOf ns) (d + length ns - 1) (seenAs (lookup (ruleOf m) g m f ns)) (seenAs clear) (leftOf g m clear)
 
 -- and along a frame's path from a node of level d on
 unfoldable pub trailFrom : Geometry → Memory → (seek : Bool) → (level node frame : ℕ) → Trail

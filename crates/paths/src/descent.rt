@@ -5,7 +5,7 @@ ghost use mathlib.Core.List.{[], _∷_};
 ghost use Prim.Native.Nat.{_^_, _/_, _<_, _≤_};
 ghost use Rattle.memory.specs.Words.{reads};
 ghost use Rattle.tree.specs.Layout.{Sized, locateAt, sizeAt};
-ghost use Rattle.tree.specs.Fingerprint.{editionOne, fingerprint};
+ghost use Rattle.tree.specs.Fingerprint.{fingerprint, ruleOf};
 ghost use Rattle.tree.specs.Node.{wellFormed};
 ghost use Rattle.tree.specs.Slots.{Filled, rootOf};
 ghost use Rattle.tree.specs.Lookup.{lookup};
@@ -13,7 +13,6 @@ ghost use Rattle.tree.specs.Room.{atLevel31};
 ghost use Rattle.paths.specs.Answers.{foundAs, foundFrom, placementAs, placementFrom};
 ghost use Rattle.paths.specs.Descent.{stepFrom, spotOf, numbered, TellsLeft, orElse, clearIf, trailFrom};
 ghost use Rattle.paths.specs.Descent.{roomAt, vacancyIn};
-use nodes::fingerprint::fingerprint;
 use nodes::node::clear_place;
 use nodes::node::well_formed;
 use nodes::place::found_place;
@@ -110,8 +109,12 @@ fn seen_by(number: usize) -> Seen
 
 // What was found so far, or else the place of a node that holds the frame.
 fn found_on(image: &[u64], g: Geometry, n: usize, frame: u64, print: u64, found: usize) -> usize
-    requires { ⌜ Sized (now image) g × (n < g .nodes) × (print ≡ fingerprint editionOne frame) ⌝ }
-    ensures { λ r. ⌜ numbered r ≡ orElse (numbered found) (lookup editionOne g (reads (now (image .entry))) frame (n ∷ [])) ⌝ }
+    requires { ⌜ Sized (now image) g × (n < g .nodes) × (print ≡ fingerprint (ruleOf (reads (now image))) frame) ⌝ }
+    ensures { λ r. ⌜
+        numbered r
+        ≡ orElse (numbered found)
+        (lookup (ruleOf (reads (now (image .entry)))) g (reads (now (image .entry))) frame (n ∷ []))
+        ⌝ }
 {
     if found != 0 {
         return found;
@@ -161,7 +164,7 @@ pub fn walk(
     print: u64,
     seek: bool,
 ) -> Trail
-    requires { ⌜ Sized (now image) g × (level ≤ 31) × (print ≡ fingerprint editionOne frame) ⌝ }
+    requires { ⌜ Sized (now image) g × (level ≤ 31) × (print ≡ fingerprint (ruleOf (reads (now image))) frame) ⌝ }
     ensures { λ r. ⌜ r ≡ trailFrom g (reads (now (image .entry))) seek level n frame ⌝ }
 {
     let mut n = n;
@@ -192,13 +195,17 @@ pub fn walk(
     }
 }
 
-// The walk along a frame's path from a filled slot.
-fn walk_from(image: &[u64], g: Geometry, slot: usize, frame: u64, seek: bool) -> Trail
-    requires { ⌜ Sized (now image) g × Filled g (reads (now image)) slot ⌝ }
+// The walk along a frame's path from a filled slot. Here and below the caller has the frame's fingerprint.
+fn walk_from(image: &[u64], g: Geometry, slot: usize, frame: u64, print: u64, seek: bool) -> Trail
+    requires { ⌜
+        Sized (now image) g
+        × Filled g (reads (now image)) slot
+        × (print ≡ fingerprint (ruleOf (reads (now image))) frame)
+        ⌝ }
     ensures { λ r. ⌜ r ≡ trailFrom g (reads (now (image .entry))) seek 0 (rootOf (reads (now (image .entry))) slot) frame ⌝ }
 {
     let root = root_of(image, g, slot) as usize;
-    walk(image, g, 0, root - 1, frame, fingerprint(frame), seek)
+    walk(image, g, 0, root - 1, frame, print, seek)
 }
 
 // The lookup's answer at the end of a path.
@@ -212,11 +219,15 @@ fn found_as(found: Seen) -> Found
 }
 
 // The lookup of a frame from a filled slot. It seeks no clear place.
-pub fn find(image: &[u64], g: Geometry, slot: usize, frame: u64) -> Found
-    requires { ⌜ Sized (now image) g × Filled g (reads (now image)) slot ⌝ }
+pub fn find(image: &[u64], g: Geometry, slot: usize, frame: u64, print: u64) -> Found
+    requires { ⌜
+        Sized (now image) g
+        × Filled g (reads (now image)) slot
+        × (print ≡ fingerprint (ruleOf (reads (now image))) frame)
+        ⌝ }
     ensures { λ r. ⌜ r ≡ foundFrom g (reads (now (image .entry))) slot frame ⌝ }
 {
-    match walk_from(image, g, slot, frame, false) {
+    match walk_from(image, g, slot, frame, print, false) {
         Trail::Malformed => Found::Malformed,
         Trail::Ended {
             node: _,
@@ -284,11 +295,15 @@ fn placement_as(vacancy: Vacancy, found: Seen) -> Placement
 }
 
 // What a claim of a frame finds from a filled slot.
-pub fn room_for(image: &[u64], g: Geometry, slot: usize, frame: u64) -> Placement
-    requires { ⌜ Sized (now image) g × Filled g (reads (now image)) slot ⌝ }
+pub fn room_for(image: &[u64], g: Geometry, slot: usize, frame: u64, print: u64) -> Placement
+    requires { ⌜
+        Sized (now image) g
+        × Filled g (reads (now image)) slot
+        × (print ≡ fingerprint (ruleOf (reads (now image))) frame)
+        ⌝ }
     ensures { λ r. ⌜ r ≡ placementFrom g (reads (now (image .entry))) slot frame ⌝ }
 {
-    match walk_from(image, g, slot, frame, true) {
+    match walk_from(image, g, slot, frame, print, true) {
         Trail::Malformed => Placement::Malformed,
         Trail::Ended {
             node,

@@ -12,7 +12,7 @@ use Rattle.memory.specs.Words.{Memory, reads}
 use Rattle.tree.specs.Lists.{upTo, keep, every, distinct}
 use Rattle.tree.specs.declared.layout.Geometry.{Geometry}
 use Rattle.tree.specs.Layout.{mapWords, reelAt}
-use Rattle.tree.specs.Fingerprint.{editionOne}
+use Rattle.tree.specs.Fingerprint.{ruleOf}
 use Rattle.tree.specs.Slots.{filled, filledSlots, slotOf}
 use Rattle.tree.specs.Subtree.{nodesOf, tree, allTrees}
 use Rattle.tree.specs.Check.{walkable, inPlace, isSound}
@@ -45,7 +45,7 @@ module _ (g : Geometry) (m : Memory) where
 
   -- a filled slot is its reel's, its tree's nodes are well formed, and each frame is where the lookup finds it
   abbrev isPlaced : ℕ → Bool
-  isPlaced s = every (inPlace editionOne g m s) (tree g m s)
+  isPlaced s = every (inPlace (ruleOf m) g m s) (tree g m s)
 
   abbrev slotPasses : ℕ → Bool
   slotPasses s = isOwn s && (every (isFormed g m) (tree g m s) && isPlaced s)
@@ -87,7 +87,7 @@ module _ (g : Geometry) (m : Memory) where
   unfolding filledSlots
   walked-filled pool = rw (← all-stops) (walked-slots (upTo (g .slots)) pool)
 
-  walked-all : walkedSlots g m (upTo (g .slots)) (clearMap (mapWords g)) ≡ kept (isSound editionOne g m) (mapOf g (nodesOf (allTrees g m)))
+  walked-all : walkedSlots g m (upTo (g .slots)) (clearMap (mapWords g)) ≡ kept (isSound (ruleOf m) g m) (mapOf g (nodesOf (allTrees g m)))
   unfolding isSound walkable
   walked-all =
       let reels = distinct (λ s. m (reelAt s)) (filledSlots g m) in
@@ -107,5 +107,5 @@ module _ (g : Geometry) (m : Memory) where
 
 module _ (g : Geometry) (image : List ℕ) where
   pub slots-law : walkedSlots g (reads image) (upTo (g .slots)) (clearMap (mapWords g))
-      ≡ kept (isSound editionOne g (reads image)) (mapOf g (nodesOf (allTrees g (reads image))))
+      ≡ kept (isSound (ruleOf (reads image)) g (reads image)) (mapOf g (nodesOf (allTrees g (reads image))))
   slots-law = walked-all g (reads image)

@@ -17,7 +17,7 @@ use Rattle.memory.specs.Crash.{apply}
 use Rattle.memory.proofs.Laws.{apply-laws, settles}
 use Rattle.tree.specs.declared.layout.Geometry.{Geometry}
 use Rattle.tree.specs.Layout.{Sized, nodeAt, locateAt, setAt}
-use Rattle.tree.specs.Fingerprint.{editionOne}
+use Rattle.tree.specs.Fingerprint.{ruleOf}
 use Rattle.tree.specs.Subtree.{Visit, nodesOf, allTrees}
 use Rattle.tree.specs.Check.{walkable, isSound}
 use Rattle.tree.specs.Recovery.{recoverStores}
@@ -148,7 +148,7 @@ module _ (g : Geometry) (image : List ℕ) where
   unfolding nodeAbout
   only-about i n q = omega arith
 
-  sound-walkable : isSound editionOne g (reads image) ≡ true → walkable g (reads image) (allTrees g (reads image)) ≡ true
+  sound-walkable : isSound (ruleOf (reads image)) g (reads image) ≡ true → walkable g (reads image) (allTrees g (reads image)) ≡ true
   unfolding isSound
   sound-walkable h = and-true _ _ (and-true _ _ h .0) .0
 
@@ -168,7 +168,7 @@ module _ (g : Geometry) (image : List ℕ) where
       let t = Memᴰ·of-map (λ v. v .node) (allTrees g (reads image)) x in
       rw (← t .2) (Memᴰ·map (λ v. (locateAt g (v .node), reads image (setAt g (v .node)))) (keeps _ (t .1) (rw (ne-eqb _ _ (rw (← t .2) at d)) refl)))
 
-  module _ (sized : Sized image g) (h : isSound editionOne g (reads image) ≡ true) where
+  module _ (sized : Sized image g) (h : isSound (ruleOf (reads image)) g (reads image) ≡ true) where
     abbrev ns : List ℕ
     ns = nodesOf (allTrees g (reads image))
 

@@ -13,7 +13,7 @@ use Rattle.memory.specs.Crash.{apply}
 use Rattle.tree.specs.declared.layout.Geometry.{Geometry}
 use Rattle.tree.specs.Lists.{range, upTo, every}
 use Rattle.tree.specs.Layout.{mapWords, Sized, reelAt}
-use Rattle.tree.specs.Fingerprint.{editionOne}
+use Rattle.tree.specs.Fingerprint.{ruleOf}
 use Rattle.tree.specs.Slots.{filled, Filled, slotOf}
 use Rattle.tree.specs.Subtree.{tree, allTrees, nodesOf}
 use Rattle.tree.specs.Check.{isSoundTree, inPlace, isSound}
@@ -48,7 +48,7 @@ module _ (g : Geometry) (m : Memory) (s : ℕ) (pool : List ℕ) (lowest : ℕ) 
       pub tree-sound : length pool ≡ mapWords g → isSoundTree g m s ≡ true
       tree-sound l = walked-sound g m s pool l (rw (not-false r through) at walk)
 
-      pub tree-walked : (placed : Bool) → placed ≡ every (inPlace editionOne g m s) (tree g m s) → kept placed pool' ≡ walkedReel g m s pool
+      pub tree-walked : (placed : Bool) → placed ≡ every (inPlace (ruleOf m) g m s) (tree g m s) → kept placed pool' ≡ walkedReel g m s pool
       unfolding walkedReel
       tree-walked placed e = rw (← of, eq-eqb lowest s own, ← walk, not-false r through, ← e) refl
 
@@ -88,43 +88,46 @@ slots-end g m k s pool h = let none-left : k - s ≡ 0 = omega arith in rw none-
 -- ---- the whole image
 
 module _ (g : Geometry) (image : List ℕ) where
+  abbrev sound : Bool
+  sound = isSound (ruleOf (reads image)) g (reads image)
+
   -- what the check answers and leaves
   abbrev Checks : Bool → (pool : List ℕ) → Type 0
   Checks r pool =
-      (r ≡ isSound editionOne g (reads image))
-      × (pool ≡ cond (isSound editionOne g (reads image)) (mapOf g (nodesOf (allTrees g (reads image)))) (clearMap (mapWords g)))
+      (r ≡ sound)
+      × (pool ≡ cond sound (mapOf g (nodesOf (allTrees g (reads image)))) (clearMap (mapWords g)))
 
   module _ (pool : List ℕ) (is : pool ≡ clearMap (mapWords g)) (r : Bool) (marks : List ℕ)
       (h : kept r marks ≡ walkedSlots g (reads image) (upTo (g .slots)) pool) where
-    whole : kept r marks ≡ kept (isSound editionOne g (reads image)) (mapOf g (nodesOf (allTrees g (reads image))))
+    whole : kept r marks ≡ kept sound (mapOf g (nodesOf (allTrees g (reads image))))
     whole = h ∙ ap (walkedSlots g (reads image) (upTo (g .slots))) is ∙ slots-law g image
 
-    end : r ≡ isSound editionOne g (reads image)
-    end = same-end r (isSound editionOne g (reads image)) marks (mapOf g (nodesOf (allTrees g (reads image)))) whole
+    end : r ≡ sound
+    end = same-end r sound marks (mapOf g (nodesOf (allTrees g (reads image)))) whole
 
     pub image-unsound : not r ≡ true → (pool' : List ℕ) → pool' ≡ clearMap (mapWords g) → Checks false pool'
     image-unsound e pool' c = rw (sym end ∙ not-true r e) (refl, c)
 
     pub image-sound : not r ≡ false → Checks true marks
     image-sound e =
-        let t = same-kept r (isSound editionOne g (reads image)) marks (mapOf g (nodesOf (allTrees g (reads image)))) whole (not-false r e) in
+        let t = same-kept r sound marks (mapOf g (nodesOf (allTrees g (reads image)))) whole (not-false r e) in
         rw (sym end ∙ not-false r e) (refl, t)
 
   -- what recovery answers and leaves
   abbrev Recovers : Bool → (after pool : List ℕ) → Type 0
   Recovers r after pool =
-      (r ≡ isSound editionOne g (reads image))
-      × (after ≡ cond (isSound editionOne g (reads image)) (apply image (stores (recoverStores g (reads image)))) image)
-      × (pool ≡ cond (isSound editionOne g (reads image)) (mapOf g (nodesOf (allTrees g (reads image)))) (clearMap (mapWords g)))
+      (r ≡ sound)
+      × (after ≡ cond sound (apply image (stores (recoverStores g (reads image)))) image)
+      × (pool ≡ cond sound (mapOf g (nodesOf (allTrees g (reads image)))) (clearMap (mapWords g)))
 
   module _ {r : Bool} {marks : List ℕ} (c : Checks r marks) where
     pub image-refused : not r ≡ true → Recovers false image marks
     image-refused e =
-        let d : isSound editionOne g (reads image) ≡ false = sym (c .0) ∙ not-true r e in
+        let d : sound ≡ false = sym (c .0) ∙ not-true r e in
         (sym d, rw d refl, c .1)
 
     pub image-mended : not r ≡ false → Sized image g → (after : List ℕ) → after ≡ mendedBelow g marks image (g .nodes) → Recovers true after marks
     image-mended e sized after q =
-        let d : isSound editionOne g (reads image) ≡ true = sym (c .0) ∙ not-false r e in
+        let d : sound ≡ true = sym (c .0) ∙ not-false r e in
         let t : marks ≡ mapOf g (nodesOf (allTrees g (reads image))) = rw d at (c .1) in
         (sym d, rw d (q ∙ ap (λ p. mendedBelow g p image (g .nodes)) t ∙ mend-law g image sized d), c .1)

@@ -9,7 +9,7 @@ use Rattle.memory.specs.Crash.{apply}
 use Rattle.tree.specs.declared.layout.Geometry.{Geometry}
 use Rattle.tree.specs.Layout.{mapWords, Sized}
 use Rattle.tree.specs.Lists.{upTo}
-use Rattle.tree.specs.Fingerprint.{editionOne}
+use Rattle.tree.specs.Fingerprint.{ruleOf}
 use Rattle.tree.specs.Subtree.{allTrees, nodesOf}
 use Rattle.tree.specs.Check.{isSound}
 use Rattle.tree.specs.Recovery.{recoverStores}
@@ -21,7 +21,7 @@ use Rattle.recovery.specs.Mended.{mendedBelow}
 pub record RecoveryLaws (g : Geometry) (image : List ℕ) : Type 0 where
   -- all slots are walked through exactly if the image is sound, and then exactly the nodes reached are marked
   pub slots : walkedSlots g (reads image) (upTo (g .slots)) (clearMap (mapWords g))
-      ≡ kept (isSound editionOne g (reads image)) (mapOf g (nodesOf (allTrees g (reads image))))
+      ≡ kept (isSound (ruleOf (reads image)) g (reads image)) (mapOf g (nodesOf (allTrees g (reads image))))
   -- with the map of a sound image, mending the marked nodes is what recovery writes
-  pub mend : Sized image g → isSound editionOne g (reads image) ≡ true
+  pub mend : Sized image g → isSound (ruleOf (reads image)) g (reads image) ≡ true
       → mendedBelow g (mapOf g (nodesOf (allTrees g (reads image)))) image (g .nodes) ≡ apply image (stores (recoverStores g (reads image)))

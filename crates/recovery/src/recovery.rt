@@ -7,7 +7,7 @@ ghost use Rattle.tree.specs.Layout.{Sized, mapWords};
 ghost use Rattle.memory.specs.Script.{stores};
 ghost use Rattle.memory.specs.Crash.{apply};
 ghost use Rattle.tree.specs.Lists.{upTo};
-ghost use Rattle.tree.specs.Fingerprint.{editionOne};
+ghost use Rattle.tree.specs.Fingerprint.{ruleOf};
 ghost use Rattle.tree.specs.Slots.{Filled};
 ghost use Rattle.tree.specs.Subtree.{allTrees, nodesOf};
 ghost use Rattle.tree.specs.Check.{isSound};
@@ -84,9 +84,9 @@ fn mend(image: &mut [u64], pool: &[u64], g: Geometry)
 pub fn check_image(image: &[u64], pool: &mut [u64], g: Geometry) -> bool
     requires { ⌜ Sized (now image) g × (length (now pool) ≡ mapWords g) ⌝ }
     ensures { λ r. ⌜
-        (r ≡ isSound editionOne g (reads (now (image .entry))))
+        (r ≡ isSound (ruleOf (reads (now (image .entry)))) g (reads (now (image .entry))))
         × (now (pool .exit)
-        ≡ cond (isSound editionOne g (reads (now (image .entry))))
+        ≡ cond (isSound (ruleOf (reads (now (image .entry)))) g (reads (now (image .entry))))
         (mapOf g (nodesOf (allTrees g (reads (now (image .entry)))))) (clearMap (mapWords g)))
         ⌝ }
 {
@@ -103,12 +103,12 @@ pub fn check_image(image: &[u64], pool: &mut [u64], g: Geometry) -> bool
 pub fn recover_image(image: &mut [u64], pool: &mut [u64], g: Geometry) -> bool
     requires { ⌜ Sized (now image) g × (length (now pool) ≡ mapWords g) ⌝ }
     ensures { λ r. ⌜
-        (r ≡ isSound editionOne g (reads (now (image .entry))))
+        (r ≡ isSound (ruleOf (reads (now (image .entry)))) g (reads (now (image .entry))))
         × (now (image .exit)
-        ≡ cond (isSound editionOne g (reads (now (image .entry))))
+        ≡ cond (isSound (ruleOf (reads (now (image .entry)))) g (reads (now (image .entry))))
         (apply (now (image .entry)) (stores (recoverStores g (reads (now (image .entry)))))) (now (image .entry)))
         × (now (pool .exit)
-        ≡ cond (isSound editionOne g (reads (now (image .entry))))
+        ≡ cond (isSound (ruleOf (reads (now (image .entry)))) g (reads (now (image .entry))))
         (mapOf g (nodesOf (allTrees g (reads (now (image .entry)))))) (clearMap (mapWords g)))
         ⌝ }
 {

@@ -16,7 +16,7 @@ use Rattle.memory.proofs.Laws.{bit-laws, trailing-first, first-laws}
 use Rattle.tree.specs.Test.{Test, is, eq, _and_}
 use Rattle.tree.specs.declared.layout.Geometry.{Geometry}
 use Rattle.tree.specs.Layout.{setAt}
-use Rattle.tree.specs.Fingerprint.{editionOne, fingerprint}
+use Rattle.tree.specs.Fingerprint.{fingerprint, ruleOf}
 use Rattle.tree.specs.Node.{held, frame}
 use Rattle.tree.specs.Pool.{used, mark}
 use Rattle.tree.proofs.Cases.{not-false, true-not-false}
@@ -54,18 +54,18 @@ module _ (g : Geometry) (m : Memory) (n : ℕ) where
       record { bits = a .bits; each = λ q l. a .each q (none q l) }
 
   -- a frame with a fingerprint that none of them has is in none of them
-  pub met-lone : (f : ℕ) {p print : ℕ} {map : List ℕ} {again : Bool} → Met g m n (λ q. q < p) map → print ≡ fingerprint editionOne f
+  pub met-lone : (f : ℕ) {p print : ℕ} {map : List ℕ} {again : Bool} → Met g m n (λ q. q < p) map → print ≡ fingerprint (ruleOf m) f
       → again ≡ used map print → again ≡ false → first (holdsAt g m n f) p ≡ p
   met-lone f {p} a e u z = none-lower f p (λ q l h o. true-not-false (rw (o, ← e) at (a .each q l h)) (sym u ∙ z))
 
   -- one more is passed
   pub met-more : (rest p : ℕ) {map : List ℕ} → Met g m n (λ q. isSet rest q ≡ false) map
-      → Met g m n (λ q. isSet (withoutBit rest p) q ≡ false) (mark map (fingerprint editionOne (frame g m n p)))
+      → Met g m n (λ q. isSet (withoutBit rest p) q ≡ false) (mark map (fingerprint (ruleOf m) (frame g m n p)))
   met-more rest p {map} a = record {
     bits = pool-laws .length-mark map _ ∙ a .bits;
     each = λ q l h.
-        let print = fingerprint editionOne (frame g m n p) in
-        let fits : print < 64 * length map = omega (arith, a .bits, fingerprint-small (frame g m n p) refl) in
-        let marks = pool-laws .marks map print (fingerprint editionOne (frame g m n q)) fits .1 in
+        let print = fingerprint (ruleOf m) (frame g m n p) in
+        let fits : print < 64 * length map = omega (arith, a .bits, fingerprint-small m (frame g m n p) refl) in
+        let marks = pool-laws .marks map print (fingerprint (ruleOf m) (frame g m n q)) fits .1 in
         elim (ℕ-discrete q p) [ yes e ↦ marks (inl (rw e refl)) | no d ↦ marks (inr (a .each q (sym (bit-laws .without-keeps rest p q d) ∙ l) h)) ];
   }

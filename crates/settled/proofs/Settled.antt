@@ -18,7 +18,7 @@ use Rattle.tree.specs.Lists.{upTo, every}
 use Rattle.tree.specs.declared.layout.Geometry.{Geometry}
 use Rattle.tree.specs.Layout.{nextAt}
 use Rattle.tree.specs.Path.{levels, child, wayOf, bitsTo}
-use Rattle.tree.specs.Fingerprint.{editionOne, fingerprint}
+use Rattle.tree.specs.Fingerprint.{fingerprint, ruleOf}
 use Rattle.tree.specs.Node.{childOf, held, frame, storedFingerprint}
 use Rattle.tree.specs.Slots.{Filled, rootOf}
 use Rattle.tree.specs.Reach.{Reaches, Holds}
@@ -44,7 +44,7 @@ use Rattle.settled.proofs.Held.{hold-facts, none-lower}
 module _ {g : Geometry} {m : Memory} {s : ℕ} (a : SoundTree g m s) (b : Filled g m s) where
   -- the lookup finds a frame in no node of its path below a level
   abbrev Absent : (f d : ℕ) → Type 0
-  Absent f d = (k x : ℕ) → d < k → Reaches g m s (wayOf k f) x → 64 ≤ foundAt editionOne g m f x
+  Absent f d = (k x : ℕ) → d < k → Reaches g m s (wayOf k f) x → 64 ≤ foundAt (ruleOf m) g m f x
 
   absent-below : (f left d n : ℕ) → left + d ≡ levels → Reaches g m s (wayOf d f) n → (absentBelow g m left d n f ≡ true) ↔ Absent f d
   unfolding absentBelow
@@ -63,45 +63,45 @@ module _ {g : Geometry} {m : Memory} {s : ℕ} (a : SoundTree g m s) (b : Filled
         let deeper = absent-below f left (suc d) c (omega arith) r' in
         rw z (
           λ t k x l y.
-              let u = and-true (leb 64 (foundAt editionOne g m f c)) (absentBelow g m left (suc d) c f) t in
+              let u = and-true (leb 64 (foundAt (ruleOf m) g m f c)) (absentBelow g m left (suc d) c f) t in
               elim (ℕ-discrete k (suc d)) [
-                | yes q ↦ rw (reach-laws g m .one-node (rw q at y) r') (leb-true 64 (foundAt editionOne g m f c) (u .0))
+                | yes q ↦ rw (reach-laws g m .one-node (rw q at y) r') (leb-true 64 (foundAt (ruleOf m) g m f c) (u .0))
                 | no q ↦ deeper .0 (u .1) k x (omega arith) y
               ],
-          λ t. true-and (le-leb 64 (foundAt editionOne g m f c) (t (suc d) c (omega arith) r')) (deeper .1 (λ k x l y. t k x (omega arith) y)),
+          λ t. true-and (le-leb 64 (foundAt (ruleOf m) g m f c) (t (suc d) c (omega arith) r')) (deeper .1 (λ k x l y. t k x (omega arith) y)),
         )
   ]
 
   -- a frame that the lookup finds at a node is held there
-  found-holds : (f k x : ℕ) → Reaches g m s (wayOf k f) x → foundAt editionOne g m f x < 64
-      → Holds g m s (wayOf k f) x (foundAt editionOne g m f x) f × (storedFingerprint g m x (foundAt editionOne g m f x) ≡ fingerprint editionOne f)
+  found-holds : (f k x : ℕ) → Reaches g m s (wayOf k f) x → foundAt (ruleOf m) g m f x < 64
+      → Holds g m s (wayOf k f) x (foundAt (ruleOf m) g m f x) f × (storedFingerprint g m x (foundAt (ruleOf m) g m f x) ≡ fingerprint (ruleOf m) f)
   unfolding foundAt
   found-holds f k x r l =
-      let t = match-facts editionOne g m f x (foundAt editionOne g m f x) .0 (first-laws (matches editionOne g m f x) 64 .holds l) in
+      let t = match-facts (ruleOf m) g m f x (foundAt (ruleOf m) g m f x) .0 (first-laws (matches (ruleOf m) g m f x) 64 .holds l) in
       (record { there = r; place = l; set = t .0; is = t .1 .0 }, t .1 .1)
 
   -- the lookup finds the lowest place of a node
-  find-lowest : (f n p : ℕ) → find editionOne g m s f ≡ some (spot n p) → foundAt editionOne g m f n ≡ p
+  find-lowest : (f n p : ℕ) → find (ruleOf m) g m s f ≡ some (spot n p) → foundAt (ruleOf m) g m f n ≡ p
   unfolding find lookup
   find-lowest f n p h = elim (seen (pathFrom g m s f)) [
-    | nothing q ↦ none-some (sym (ap (lookupOn editionOne g m f) q) ∙ h)
-    | just ns q ↦ spot-laws (foundAt editionOne g m f) (λ n. 64) ns .found n p .0 (sym (ap (lookupOn editionOne g m f) q) ∙ h) .is
+    | nothing q ↦ none-some (sym (ap (lookupOn (ruleOf m) g m f) q) ∙ h)
+    | just ns q ↦ spot-laws (foundAt (ruleOf m) g m f) (λ n. 64) ns .found n p .0 (sym (ap (lookupOn (ruleOf m) g m f) q) ∙ h) .is
   ]
 
   -- where no lower place holds a frame, the lookup finds none of them
-  lowest-here : (f n p : ℕ) → p < 64 → (held g m n p ≡ true) × ((frame g m n p ≡ f) × (storedFingerprint g m n p ≡ fingerprint editionOne f))
-      → first (holdsAt g m n f) p ≡ p → foundAt editionOne g m f n ≡ p
+  lowest-here : (f n p : ℕ) → p < 64 → (held g m n p ≡ true) × ((frame g m n p ≡ f) × (storedFingerprint g m n p ≡ fingerprint (ruleOf m) f))
+      → first (holdsAt g m n f) p ≡ p → foundAt (ruleOf m) g m f n ≡ p
   unfolding foundAt
   lowest-here f n p l e o =
-      sym (first-laws (matches editionOne g m f n) 64 .stops p (omega arith) (λ q k. not-false (λ y.
-      let t = match-facts editionOne g m f n q .0 y in
+      sym (first-laws (matches (ruleOf m) g m f n) 64 .stops p (omega arith) (λ q k. not-false (λ y.
+      let t = match-facts (ruleOf m) g m f n q .0 y in
       omega (arith, o, first-laws (holdsAt g m n f) p .least q k (hold-facts g m n f q .1 (t .0, t .1 .0)))))
-      (λ k. match-facts editionOne g m f n p .1 e))
+      (λ k. match-facts (ruleOf m) g m f n p .1 e))
 
   -- a frame held at a way: it goes that way, the place is the lowest of its node, and it is in no node below
   record Settled (w : List ℕ) (n p f : ℕ) : Type 0 where
     on-path : w ≡ wayOf (length w) f
-    lowest : foundAt editionOne g m f n ≡ p
+    lowest : foundAt (ruleOf m) g m f n ≡ p
     absent : Absent f (length w)
 
   -- where a place holds its frame: it is settled if the test holds, and the test holds if each place of the node that holds the
@@ -114,7 +114,7 @@ module _ {g : Geometry} {m : Memory} {s : ℕ} (a : SoundTree g m s) (b : Filled
       let f = frame g m n p in
       let t : Test =
       eq (f % 2 ^ bitsTo (length w)) (suffixOf w)
-      and eq (storedFingerprint g m n p) (fingerprint editionOne f)
+      and eq (storedFingerprint g m n p) (fingerprint (ruleOf m) f)
       and eq (first (holdsAt g m n f) p) p
       and is (absentBelow g m left (length w) n f) in
       let way = on-way (x .there) f in
@@ -134,15 +134,15 @@ module _ {g : Geometry} {m : Memory} {s : ℕ} (a : SoundTree g m s) (b : Filled
       )
 
   -- where the lookup finds each frame where it is held, each is settled
-  placed-settled : Placed editionOne g m s → {w : List ℕ} {n p f : ℕ} → Holds g m s w n p f → Settled w n p f
+  placed-settled : Placed (ruleOf m) g m s → {w : List ℕ} {n p f : ℕ} → Holds g m s w n p f → Settled w n p f
   placed-settled l {w} {n} {p} {f} x =
-      let t = find-holds editionOne g m b f n p (l .at x) in
+      let t = find-holds (ruleOf m) g m b f n p (l .at x) in
       let e : w ≡ wayOf (t .0) f = a .once (x .there) (t .1 .there) in
       let d : length w ≡ t .0 = ap length e ∙ child-laws .length-way (t .0) f in
       record {
         on-path = e ∙ ap (λ k. wayOf k f) (sym d);
         lowest = find-lowest f n p (l .at x);
-        absent = λ k y h r. elim (decLt (foundAt editionOne g m f y) 64) [
+        absent = λ k y h r. elim (decLt (foundAt (ruleOf m) g m f y) 64) [
           | yes u ↦
               let q = some-inj (sym (l .at (found-holds f k y r u .0)) ∙ l .at x) in
               let z = a .once r (rw (sym (ap (λ t. t .node) q)) at (x .there)) in
@@ -152,22 +152,22 @@ module _ {g : Geometry} {m : Memory} {s : ℕ} (a : SoundTree g m s) (b : Filled
       }
 
   -- and back: what the lookup finds first is above or below neither
-  settled-placed : ((w : List ℕ) (n p f : ℕ) → Holds g m s w n p f → Settled w n p f) → Placed editionOne g m s
+  settled-placed : ((w : List ℕ) (n p f : ℕ) → Holds g m s w n p f → Settled w n p f) → Placed (ruleOf m) g m s
   settled-placed l = record {
     at = λ {w} {n} {p} {f} x.
         let i = l w n p f x in
         let d = length w in
-        let low : foundAt editionOne g m f n < 64 = rw (i .lowest) (x .place) in
+        let low : foundAt (ruleOf m) g m f n < 64 = rw (i .lowest) (x .place) in
         let r = subst (λ v. Reaches g m s v n) (i .on-path) (x .there) in
         let h = found-holds f d n r low in
-        let t = holds-found editionOne g m a d (h .0) (h .1) in
-        let y = find-holds editionOne g m b f (t .0 .node) (t .0 .place) (t .1) in
+        let t = holds-found (ruleOf m) g m a d (h .0) (h .1) in
+        let y = find-holds (ruleOf m) g m b f (t .0 .node) (t .0 .place) (t .1) in
         let first = find-lowest f (t .0 .node) (t .0 .place) (t .1) in
         elim (compared (y .0) d) [
           | less k ↦ absurd (omega (arith, low, l _ _ _ _ (y .1) .absent d n (rw (child-laws .length-way (y .0) f) k) r))
           | same q ↦
               let e = reach-laws g m .one-node (subst (λ k. Reaches g m s (wayOf k f) (t .0 .node)) q (y .1 .there)) r in
-              t .1 ∙ ap₂ (λ a b. some (spot a b)) e (sym first ∙ ap (foundAt editionOne g m f) e ∙ i .lowest)
+              t .1 ∙ ap₂ (λ a b. some (spot a b)) e (sym first ∙ ap (foundAt (ruleOf m) g m f) e ∙ i .lowest)
           | more k ↦ absurd (omega (arith, first, y .1 .place, i .absent (y .0) (t .0 .node) k (y .1 .there)))
         ];
   }
@@ -190,12 +190,12 @@ module _ (g : Geometry) (m : Memory) where
       ∙ sym (every-flatMap isSettled below (upTo (children g m (length w) n))))
 
   pub settled-tree : (s : ℕ) → Filled g m s → isSoundTree g m s ≡ true
-      → settledTree g m levels 0 (rootOf m s) 0 ≡ every (inPlace editionOne g m s) (tree g m s)
+      → settledTree g m levels 0 (rootOf m s) 0 ≡ every (inPlace (ruleOf m) g m s) (tree g m s)
   unfolding tree suffixOf settledNode
   settled-tree s b h =
-      let a = sound-laws editionOne g m .tree b .0 h in
+      let a = sound-laws (ruleOf m) g m .tree b .0 h in
       settled-subtree levels [] (rootOf m s) (omega arith) ∙ same-test (
-        λ k. placed editionOne g m b .1 (settled-placed a b (λ w n p f x.
+        λ k. placed (ruleOf m) g m b .1 (settled-placed a b (λ w n p f x.
             let e = every-at _ (every-at isSettled k (visited g m b w n .1 (x .there))) (held-places g m n p .1 (x .place, x .set)) in
             let own : Holds g m s w n p (frame g m n p) = record { there = x .there; place = x .place; set = x .set; is = refl } in
             rw (x .is) at (settled-at a b (levels - length w) (omega (arith, reach-laws g m .depth (x .there))) own .0 e))),
@@ -203,5 +203,5 @@ module _ (g : Geometry) (m : Memory) where
             let i = held-places g m (v .node) p .0 z in
             let r = visited g m b (v .way) (v .node) .0 y in
             settled-at a b (levels - length (v .way)) (omega (arith, reach-laws g m .depth r)) (record { there = r; place = i .0; set = i .1; is = refl }) .1
-            (λ q. placed-settled a b (placed editionOne g m b .0 k)))),
+            (λ q. placed-settled a b (placed (ruleOf m) g m b .0 k)))),
       )

@@ -18,7 +18,7 @@ use Rattle.tree.specs.Lists.{upTo, every}
 use Rattle.tree.specs.declared.layout.Geometry.{Geometry}
 use Rattle.tree.specs.Layout.{nextAt, setAt}
 use Rattle.tree.specs.Path.{levels, fanout, child, bitsTo}
-use Rattle.tree.specs.Fingerprint.{editionOne, fingerprint}
+use Rattle.tree.specs.Fingerprint.{fingerprint, ruleOf}
 use Rattle.tree.specs.Node.{childOf, wellFormed, frame, storedFingerprint}
 use Rattle.tree.specs.Lookup.{before, path, foundAt, lookup, firstSpot}
 use Rattle.tree.specs.Subtree.{heldPlaces}
@@ -67,30 +67,30 @@ module _ (g : Geometry) (m : Memory) where
     -- the lookup finds the frame in no node of a path that is there
     abbrev absentOn : Option (List ℕ) → Bool
     absentOn none = false
-    absentOn (some ns) = not (isSome (lookup editionOne g m f ns))
+    absentOn (some ns) = not (isSome (lookup (ruleOf m) g m f ns))
 
     trail-absent : (d n : ℕ) → isAbsent (trailFrom g m false d n f) ≡ absentOn (path g m (32 - d) d n f)
     unfolding trailFrom trailOn
     trail-absent d n = elim (seen (path g m (32 - d) d n f)) [
       | nothing q ↦ rw q refl
-      | just ns q ↦ rw q (elim (seen (lookup editionOne g m f ns)) [ nothing z ↦ rw z refl | just t z ↦ rw z refl ])
+      | just ns q ↦ rw q (elim (seen (lookup (ruleOf m) g m f ns)) [ nothing z ↦ rw z refl | just t z ↦ rw z refl ])
     ]
 
-    absent-before : (n : ℕ) (o : Option (List ℕ)) → absentOn (before n o) ≡ leb 64 (foundAt editionOne g m f n) && absentOn o
+    absent-before : (n : ℕ) (o : Option (List ℕ)) → absentOn (before n o) ≡ leb 64 (foundAt (ruleOf m) g m f n) && absentOn o
     unfolding lookup firstSpot
-    absent-before n o = elim (decLt (foundAt editionOne g m f n) 64) [
+    absent-before n o = elim (decLt (foundAt (ruleOf m) g m f n) 64) [
       | yes l ↦
-          rw (lt-leb 64 (foundAt editionOne g m f n) l)
-          (elim (seen o) [ nothing q ↦ rw q refl | just ns q ↦ rw (q, lt-ltb (foundAt editionOne g m f n) 64 l) refl ])
+          rw (lt-leb 64 (foundAt (ruleOf m) g m f n) l)
+          (elim (seen o) [ nothing q ↦ rw q refl | just ns q ↦ rw (q, lt-ltb (foundAt (ruleOf m) g m f n) 64 l) refl ])
       | no l ↦
-          let h : 64 ≤ foundAt editionOne g m f n = omega arith in
-          rw (le-leb 64 (foundAt editionOne g m f n) h)
-          (elim (seen o) [ nothing q ↦ rw q refl | just ns q ↦ rw (q, le-ltb (foundAt editionOne g m f n) 64 h) refl ])
+          let h : 64 ≤ foundAt (ruleOf m) g m f n = omega arith in
+          rw (le-leb 64 (foundAt (ruleOf m) g m f n) h)
+          (elim (seen o) [ nothing q ↦ rw q refl | just ns q ↦ rw (q, le-ltb (foundAt (ruleOf m) g m f n) 64 h) refl ])
     ]
 
     -- the path from a node known to be formed with all below it is there
     path-absent : (left : ℕ) {n : ℕ} → Formed g m left n
-        → absentOn (path g m left (levels - left) n f) ≡ leb 64 (foundAt editionOne g m f n) && absentBelow g m left (levels - left) n f
+        → absentOn (path g m left (levels - left) n f) ≡ leb 64 (foundAt (ruleOf m) g m f n) && absentBelow g m left (levels - left) n f
     unfolding path absentBelow lookup firstSpot
     path-absent zero a = absurd (omega (arith, a .some-left))
     path-absent (suc left) {n} a =
@@ -100,7 +100,7 @@ module _ (g : Geometry) (m : Memory) where
           | inl z ↦ rw z (absent-before n (some []))
           | inr z ↦
               rw z (absent-before n (path g m left (suc d) (childOf g m n (child d f)) f)
-              ∙ ap (λ b. leb 64 (foundAt editionOne g m f n) && b) (rw next at (path-absent left (child-formed a z f))))
+              ∙ ap (λ b. leb 64 (foundAt (ruleOf m) g m f n) && b) (rw next at (path-absent left (child-formed a z f))))
         ])
 
     -- what the step from such a node tells of those below
@@ -132,7 +132,7 @@ module _ (g : Geometry) (m : Memory) where
     pub unit-is : unit ≡ 2 ^ bitsTo d
     pub frame-is : f ≡ frame g m n p
     pub stored-is : stored ≡ storedFingerprint g m n p
-    pub print-is : print ≡ fingerprint editionOne f
+    pub print-is : print ≡ fingerprint (ruleOf m) f
 
   module _ (left x : ℕ) {d n p unit f stored print : ℕ} (a : Place d n p unit f stored print) where
     tested : settledAt g m left d n x p

@@ -12,7 +12,7 @@ use Rattle.tree.specs.Lists.{upTo, every}
 use Rattle.tree.specs.declared.layout.Geometry.{Geometry}
 use Rattle.tree.specs.Layout.{nextAt}
 use Rattle.tree.specs.Path.{levels, child, bitsTo}
-use Rattle.tree.specs.Fingerprint.{editionOne, fingerprint}
+use Rattle.tree.specs.Fingerprint.{fingerprint, ruleOf}
 use Rattle.tree.specs.Node.{childOf, held, frame, storedFingerprint}
 use Rattle.tree.specs.Lookup.{foundAt}
 use Rattle.tree.specs.Pool.{used}
@@ -42,7 +42,7 @@ pub record KnownGroup (g : Geometry) (m : Memory) (t : Subtree) (count : ℕ) : 
 -- a map with a bit for each fingerprint marks those of the frames that are held in places of a node, the passed
 pub record Met (g : Geometry) (m : Memory) (n : ℕ) (passed : ℕ → Type 0) (map : List ℕ) : Type 0 where
   pub bits : length map ≡ 4
-  pub each : (p : ℕ) → passed p → held g m n p ≡ true → used map (fingerprint editionOne (frame g m n p)) ≡ true
+  pub each : (p : ℕ) → passed p → held g m n p ≡ true → used map (fingerprint (ruleOf m) (frame g m n p)) ≡ true
 
 -- a walk along a frame's path ends, and without the frame
 abbrev pub isAbsent : Trail → Bool
@@ -56,7 +56,7 @@ module _ (g : Geometry) (m : Memory) where
   absentBelow zero d n f = true
   absentBelow (suc left) d n f =
       let below = childOf g m n (child d f) in
-      cond (eqb (m (nextAt g n)) 0) true (leb 64 (foundAt editionOne g m f below) && absentBelow left (suc d) below f)
+      cond (eqb (m (nextAt g n)) 0) true (leb 64 (foundAt (ruleOf m) g m f below) && absentBelow left (suc d) below f)
 
   -- a place of a node holds a frame, whatever its fingerprint
   unfoldable pub holdsAt : (node frame place : ℕ) → Bool
@@ -69,7 +69,7 @@ module _ (g : Geometry) (m : Memory) where
       let f = frame g m n p in
       holds (
       eq (f % 2 ^ bitsTo d) x
-      and eq (storedFingerprint g m n p) (fingerprint editionOne f)
+      and eq (storedFingerprint g m n p) (fingerprint (ruleOf m) f)
       and eq (first (holdsAt n f) p) p
       and is (absentBelow left d n f)
       )

@@ -7,7 +7,7 @@ ghost use Rattle.memory.specs.Search.{first};
 ghost use Rattle.tree.specs.Layout.{Sized};
 ghost use Rattle.tree.specs.Lists.{every};
 ghost use Rattle.tree.specs.Path.{levels};
-ghost use Rattle.tree.specs.Fingerprint.{editionOne, theTable, fingerprint};
+ghost use Rattle.tree.specs.Fingerprint.{theTable, fingerprint, ruleOf};
 ghost use Rattle.tree.specs.Node.{frame};
 ghost use Rattle.tree.specs.Pool.{mark};
 ghost use Rattle.tree.specs.Slots.{Filled};
@@ -57,7 +57,11 @@ fn is_absent(trail: Trail) -> bool
 
 // Does the lookup find a frame in no node of its path below this one?
 fn absent_below(image: &[u64], g: Geometry, left: u64, n: usize, frame: u64, print: u64) -> bool
-    requires { ⌜ Sized (now image) g × Formed g (reads (now image)) left n × (print ≡ fingerprint editionOne frame) ⌝ }
+    requires { ⌜
+        Sized (now image) g
+        × Formed g (reads (now image)) left n
+        × (print ≡ fingerprint (ruleOf (reads (now image))) frame)
+        ⌝ }
     ensures { λ r. ⌜ r ≡ absentBelow g (reads (now (image .entry))) left (levels - left) n frame ⌝ }
 {
     match step_from(image, g, 32 - left, n, frame) {
@@ -110,12 +114,14 @@ fn settled_at(
         ⌝ }
     ensures { λ r. ⌜
         (r ≡ settledAt g (reads (now (image .entry))) (t .left) (levels - t .left) (t .node) (t .suffix) p)
-        × (now (met .exit) ≡ mark (now (met .entry)) (fingerprint editionOne (frame g (reads (now (image .entry))) (t .node) p)))
+        × (now (met .exit)
+        ≡ mark (now (met .entry))
+        (fingerprint (ruleOf (reads (now (image .entry)))) (frame g (reads (now (image .entry))) (t .node) p)))
         ⌝ }
 {
     let n = t.node;
     let frame = frame_of(image, g, n, p);
-    let print = fold(table, frame);
+    let print = fold(image, table, frame);
     let stored = byte_of(fingerprints_of(image, g, n, p / 8), (p % 8) as u32);
     let again = is_used(met, print as usize);
     mark(met, print as usize);
@@ -204,7 +210,9 @@ fn settled_group(image: &[u64], table: &[u8], g: Geometry, t: Subtree, count: us
 pub fn frames_in_place(image: &[u64], g: Geometry, slot: usize) -> bool
     requires { ⌜ Sized (now image) g × Filled g (reads (now image)) slot × (isSoundTree g (reads (now image)) slot ≡ true) ⌝ }
     ensures { λ r. ⌜
-        r ≡ every (inPlace editionOne g (reads (now (image .entry))) slot) (tree g (reads (now (image .entry))) slot)
+        r
+        ≡ every (inPlace (ruleOf (reads (now (image .entry)))) g (reads (now (image .entry))) slot)
+        (tree g (reads (now (image .entry))) slot)
         ⌝ }
 {
     let root = root_of(image, g, slot) as usize;

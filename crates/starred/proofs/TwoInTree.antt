@@ -8,7 +8,7 @@ use Rattle.tree.specs.MemoryComputed.{stores, segmented, apply}
 use Rattle.tree.specs.Layout.{badImage, geometryOf}
 use Rattle.tree.specs.Lists.{upTo, range}
 use Rattle.tree.specs.Path.{child, fanout}
-use Rattle.tree.specs.Fingerprint.{fingerprint, editionOne, folded, tableEntry, ruleOf}
+use Rattle.tree.specs.Fingerprint.{fingerprint, folded, tableEntry, ruleFor, ruleOf}
 use Rattle.tree.specs.Node.{formed, wellFormed, sizeAllowed}
 use Rattle.tree.specs.Slots.{filled, slotOf, emptySlot}
 use Rattle.tree.specs.Lookup.{firstSpot, path, pathFrom, clearAt, clearSpot, matches, foundAt, lookup, find, isFreeRun, freeRun}
@@ -62,7 +62,7 @@ record Computed : Type 0 where
   present : perform (query (has 7 64)) (done (commit 50 0) twoInTree) .work .handed .value ≡ 1
 
 computed : Computed
-unfolding twoInTree run formatted keeps withFrames flatMap upTo range perform granted leaves clears refusals badImage refusal geometryOf formatStores openScript roomScript claimScript fillScript apply segmented stores first marked isSet withBit byte withByte field withField bit slotOf emptySlot filled freeRun isFreeRun mark markAll headAt stateOf wordsOf withHead anyHead pathFrom path wellFormed formed sizeAllowed clearSpot clearAt firstSpot roomOn fullRoom lastOf find lookup foundAt matches fingerprint editionOne folded tableEntry ruleOf child fanout
+unfolding twoInTree run formatted keeps withFrames flatMap upTo range perform granted leaves clears refusals badImage refusal geometryOf formatStores openScript roomScript claimScript fillScript apply segmented stores first marked isSet withBit byte withByte field withField bit slotOf emptySlot filled freeRun isFreeRun mark markAll headAt stateOf wordsOf withHead anyHead pathFrom path wellFormed formed sizeAllowed clearSpot clearAt firstSpot roomOn fullRoom lastOf find lookup foundAt matches fingerprint folded tableEntry ruleFor ruleOf child fanout
 computed = record { head-0 = refl; head-1 = refl; third = refl; answered = refl; absent = refl; present = refl }
 
 tells : Tells twoInTree 0 7 64

@@ -58,7 +58,12 @@ fn put_fill(image: &[u64], g: Geometry, script: &mut [u64], t: Target)
         (at + FRAMES + place) as u64,
         t.frame,
         (at + FINGERPRINTS + place / 8) as u64,
-        fingerprint_word(fingerprints_of(image, g, node, place / 8), place, t.frame),
+        fingerprint_word(
+            image,
+            fingerprints_of(image, g, node, place / 8),
+            place,
+            t.frame,
+        ),
     );
 }
 

@@ -1,9 +1,12 @@
--- The fingerprint of a frame: a fold of its low bytes over a table.
+-- The fingerprint of a frame: a fold of its bytes, lowest first, over a table.
 use mathlib.Core.Path.{_≡_}
+use mathlib.Core.Bool.{cond}
 use mathlib.Core.List.{List, map}
 use Prim.Native.Nat.{ℕ, zero, suc, _+_, _*_, _%_, _<_}
 use lib.Bits.{bitXor}
+use lib.Dec.{eqb}
 use Rattle.memory.specs.Words.{Memory, byte}
+use Rattle.tree.specs.Layout.{editionAt}
 use Rattle.tree.specs.Lists.{upTo}
 
 -- a rule for fingerprints: the table, and how many bytes of the frame are folded
@@ -19,7 +22,7 @@ folded table (suc k) f = table (bitXor (folded table k f) (byte f k))
 unfoldable pub fingerprint : Rule → ℕ → ℕ
 fingerprint r f = folded (r .table) (r .bytes) f
 
--- the paper's table, and its rule: four bytes
+-- the paper's table
 unfoldable pub tableEntry : ℕ → ℕ
 tableEntry i = (167 * i + 13) % 256
 
@@ -27,12 +30,13 @@ tableEntry i = (167 * i + 13) % 256
 unfoldable pub theTable : List ℕ
 theTable = map tableEntry (upTo 256)
 
-unfoldable pub editionOne : Rule
-editionOne = record { table = tableEntry; bytes = 4 }
+-- an edition's rule: 1 folds four bytes, 2 all eight
+unfoldable pub ruleFor : (edition : ℕ) → Rule
+ruleFor edition = record { table = tableEntry; bytes = cond (eqb edition 1) 4 8 }
 
--- the rule by which an image is read: there is one edition
+-- the rule by which an image is read: its edition's
 unfoldable pub ruleOf : Memory → Rule
-ruleOf m = editionOne
+ruleOf m = ruleFor (m editionAt)
 
 -- every byte occurs once among a table's 256 entries, and nothing else does
 pub record OnceEach (table : ℕ → ℕ) : Type 0 where

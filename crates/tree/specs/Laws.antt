@@ -2,20 +2,20 @@
 -- conditions has them among the parameters of its record.
 use mathlib.Core.Path.{_≡_}
 use mathlib.Core.Bool.{Bool, true, false, not, cond}
-use mathlib.Core.Logic.{_⊎_, _↔_}
+use mathlib.Core.Logic.{_⊎_, _↔_, _≢_}
 use mathlib.Core.Option.{none, some}
 use mathlib.Core.List.{List, _∷_, _++_, List·Memᴰ}
 use Prim.Native.Nat.{ℕ, suc, _+_, _/_, _%_, _^_, _≤_, _<_}
 use lib.ListN.{length, getElem?}
 use lib.Dec.{ltb}
-use Rattle.memory.specs.Words.{Memory, marked}
+use Rattle.memory.specs.Words.{Memory, byte, marked}
 use Rattle.memory.specs.Search.{first}
 use Rattle.memory.specs.Apply.{isSome}
 use Rattle.tree.specs.Lists.{Distinct}
 use Rattle.tree.specs.declared.layout.Geometry.{Geometry}
 use Rattle.tree.specs.Layout.{reelAt, rootAt, nextAt, locateAt, setAt, levelAt, sizeAt}
 use Rattle.tree.specs.Path.{fanout, child, wayOf, bitsTo}
-use Rattle.tree.specs.Fingerprint.{Rule, folded, tableEntry, OnceEach}
+use Rattle.tree.specs.Fingerprint.{Rule, folded, fingerprint, tableEntry, ruleOf, OnceEach}
 use Rattle.tree.specs.Node.{childOf, wellFormed, held, frame}
 use Rattle.tree.specs.Slots.{Filled, filledSlots, slotOf, emptySlot}
 use Rattle.tree.specs.Reach.{Reaches, Holds, FrameOf}
@@ -77,6 +77,13 @@ pub record FingerprintLaws : Type 0 where
   pub table-once : OnceEach tableEntry
   -- with such a table a fingerprint is a byte, whatever number of bytes is folded
   pub fits : {table : ℕ → ℕ} → OnceEach table → (k f : ℕ) → folded table k f < 256
+  -- it goes by the bytes folded alone
+  pub alike : (table : ℕ → ℕ) (k f f' : ℕ) → ((i : ℕ) → i < k → byte f i ≡ byte f' i) → folded table k f ≡ folded table k f'
+  -- and by each of them: of frames that differ in one of them alone it is not the same
+  pub by-each : {table : ℕ → ℕ} → OnceEach table → (k j f f' : ℕ) → j < k → ((i : ℕ) → i < k → i ≢ j → byte f i ≡ byte f' i)
+      → folded table k f ≡ folded table k f' → byte f j ≡ byte f' j
+  -- by the rule of any image it is a byte
+  pub rule-fits : (m : Memory) (f : ℕ) → fingerprint (ruleOf m) f < 256
 
 -- ---- the path of a frame
 
@@ -133,7 +140,7 @@ pub record Match (r : Rule) (g : Geometry) (m : Memory) (f : ℕ) (ns : List ℕ
 pub record LookupSays (r : Rule) (g : Geometry) (m : Memory) : Type 0 where
   pub yes : (f : ℕ) (ns : List ℕ) → (isSome (lookup r g m f ns) ≡ true) ↔ Match r g m f ns
 
--- the lookup's rule, for any table and any number of bytes: on a sound image it finds a frame exactly where it is held,
+-- the lookup's rule, whatever the table and the number of bytes: on a sound image it finds a frame exactly where it is held,
 -- so that its answer is that of comparing all
 pub record LookupRule (r : Rule) (g : Geometry) (m : Memory) (s : ℕ) (sound : Sound r g m) (filled : Filled g m s) : Type 0 where
   pub at : (f n p : ℕ) → (find r g m s f ≡ some (spot n p)) ↔ ((w : List ℕ) × Holds g m s w n p f)

@@ -38,6 +38,10 @@ slotsAt = 1
 abbrev pub nodesAt : ℕ
 nodesAt = 2
 
+-- refusal 2: the edition is neither 1 nor 2
+abbrev pub badEdition : Memory → Test
+badEdition m = ne (m editionAt) 1 and ne (m editionAt) 2
+
 unfoldable pub geometryOf : Memory → Geometry
 geometryOf m = record { slots = m slotsAt; nodes = m nodesAt }
 

@@ -1,11 +1,10 @@
 // The image's geometry: where words stand, and the refusals that the header decides.
 ghost use mathlib.Core.Path.{_≡_};
-ghost use mathlib.Core.Bool.{not};
 ghost use Prim.Native.Nat.{_+_, _≤_, _<_};
-ghost use lib.Dec.{eqb};
+ghost use lib.ListN.{length};
 ghost use Rattle.memory.specs.Words.{reads};
 ghost use Rattle.tree.specs.Test.{holds};
-ghost use Rattle.tree.specs.Layout.{Sized, imageWords, mapWords, badImage, editionAt, geometryOf};
+ghost use Rattle.tree.specs.Layout.{Sized, imageWords, mapWords, badImage, badEdition, editionAt, geometryOf};
 ghost use Rattle.tree.specs.Layout.{reelAt, rootAt, nodeAt, nextAt, frameAt};
 
 // How many reel slots and nodes an image has: the paper's R and N.
@@ -68,11 +67,12 @@ pub fn bad_image(words: usize, g: Geometry) -> bool
     words != image_words(g)
 }
 
-// Refusal 2: the image is of another edition.
+// Refusal 2: the image's edition is neither 1 nor 2.
 pub fn bad_edition(image: &[u64]) -> bool
-    ensures { λ r. ⌜ r ≡ not (eqb (reads (now (image .entry)) editionAt) 1) ⌝ }
+    ensures { λ r. ⌜ r ≡ holds (badEdition (reads (now (image .entry)))) ⌝ }
 {
-    word(image, 0) != 1
+    let edition = word(image, 0);
+    (edition != 1) & (edition != 2)
 }
 
 // The words of a node by their offset; its first word is next. A place's fingerprint is a byte of word FINGERPRINTS + p / 8,
@@ -111,6 +111,14 @@ pub fn node_at(g: Geometry, n: usize) -> usize
     ensures { λ r. ⌜ r ≡ nodeAt g n ⌝ }
 {
     64 + 2 * g.slots + 80 * n
+}
+
+// The image's edition.
+pub fn edition(image: &[u64]) -> u64
+    requires { ⌜ 0 < length (now image) ⌝ }
+    ensures { λ r. ⌜ r ≡ reads (now (image .entry)) editionAt ⌝ }
+{
+    image[0]
 }
 
 // A slot's reel number.

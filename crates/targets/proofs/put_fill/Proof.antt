@@ -1,4 +1,3 @@
-use Rattle.tree.specs.Fingerprint.{ruleOf}
 use Rattle.book.specs.Perform.{fillScript}
 use Rattle.operations.proofs.ScriptWords.{pair-written}
 use borrow.Author.Needs.{needs}
@@ -6,7 +5,7 @@ use Rattle.targets.proofs.put_fill.Statement.{statement}
 use Rattle.targets.proofs.put_fill.Tie as tie
 
 returns : tie.Need-returns
-unfolding fillScript ruleOf
+unfolding fillScript
 returns c =
     let put = c .before .before in
     let read = put .before .before in

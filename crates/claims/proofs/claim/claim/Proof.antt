@@ -12,6 +12,7 @@ use Rattle.operations.proofs.Passed.{number-some, OpenChecked, open-checked}
 use Rattle.claims.specs.Admissions.{admissionNumber}
 use Rattle.claims.proofs.Claiming.{deep-room, in-pool, place-fits}
 use Rattle.claims.proofs.ClaimingEndings.{HeadPassed, slot-below, run-fits, start-within, claim-early, head-refused, head-passed, path-malformed, path-full, frame-held, has-conflict, no-run, claimed}
+use native.Mathlib.Omega.{arith}
 use borrow.Author.Needs.{needs}
 use Rattle.claims.proofs.claim.claim.Statement.{statement}
 use Rattle.claims.proofs.claim.claim.Tie as tie
@@ -74,34 +75,34 @@ returns-2 c ws e =
 returns-3 : tie.Need-returns-3
 returns-3 c ws e =
     let walked = c .before .before .before in
-    rw (c .refused3 .ensures) (path-malformed _ _ _ _ _ _ _ (past (walked .before) ws e) (walked .room-for .ensures) (c .before .enum-told2 .given .1))
+    rw (c .refused3 .ensures) (path-malformed _ _ _ _ _ _ _ (past (walked .before .before) ws e) (walked .room-for .ensures) (c .before .enum-told2 .given .1))
 
 returns-4 : tie.Need-returns-4
 returns-4 c ws e =
     let walked = c .before .before .before in
-    rw (c .refused4 .ensures) (path-full _ _ _ _ _ _ _ (past (walked .before) ws e) (walked .room-for .ensures) (c .before .enum-told3 .given .1))
+    rw (c .refused4 .ensures) (path-full _ _ _ _ _ _ _ (past (walked .before .before) ws e) (walked .room-for .ensures) (c .before .enum-told3 .given .1))
 
 returns-5 : tie.Need-returns-5
 returns-5 c ws e =
     let walked = c .before .before .before in
-    rw (c .refused5 .ensures) (frame-held _ _ _ _ _ _ _ (past (walked .before) ws e) (walked .room-for .ensures) (c .before .enum-told4 .given .1))
+    rw (c .refused5 .ensures) (frame-held _ _ _ _ _ _ _ (past (walked .before .before) ws e) (walked .room-for .ensures) (c .before .enum-told4 .given .1))
 
 run-for-requires : tie.Need-run-for-requires
-run-for-requires c κs = let p = fine (c .before .before .before .before .before .before .before .before .before) in search needs
+run-for-requires c κs = let p = fine (c .before .before .before .before .before .before .before .before .before .before) in search needs
 
 -- the room was found on the frame's path
 free : (c : tie.After-run-for)
     → let known = c .before .before .before in
     let walked = known .before .before in
-    let read = walked .before .before .before .before .before in
+    let read = walked .before .before .before .before .before .before in
     let a = read .before .before .before .before .before .before .before .args in
-    Free (known .vacancy .given .0 .0) ≡ placementFrom (read .before .g .given .0 .0) (readsWords (a .image .now)) (walked .before .before .before .before .slot-of .result) (a .frame)
+    Free (known .vacancy .given .0 .0) ≡ placementFrom (read .before .g .given .0 .0) (readsWords (a .image .now)) (walked .before .before .before .before .before .slot-of .result) (a .frame)
 free c = let known = c .before .before .before in sym (known .vacancy .given .1) ∙ known .before .before .room-for .ensures
 
 target-in-requires : tie.Need-target-in-requires
 target-in-requires c κs =
     let known = c .before .before .before in
-    let read = known .before .before .before .before .before .before .before in
+    let read = known .before .before .before .before .before .before .before .before in
     let a = read .before .before .before .before .before .before .before .args in
     let p = fine read in
     let l = start-within (read .before .g .given .0 .0) (a .pool .now) (known .vacancy .given .0 .0 .room) _ (c .run-for .ensures) in
@@ -115,7 +116,7 @@ returns-6 c ws e =
     let known = run .before .before .before in
     let walked = known .before .before in
     rw (c .refused6 .ensures)
-    (has-conflict _ _ _ _ _ _ _ (past (walked .before) ws e) (walked .room-for .ensures) _ (known .vacancy .given .1) _ (run .run-for .ensures)
+    (has-conflict _ _ _ _ _ _ _ (past (walked .before .before) ws e) (walked .room-for .ensures) _ (known .vacancy .given .1) _ (run .run-for .ensures)
     _ e _ (met .before .before .target-in .ensures) _ (met .has-conflict .ensures) (c .before .if1 .taken))
 
 returns-7 : tie.Need-returns-7
@@ -125,7 +126,7 @@ returns-7 c ws e =
     let known = run .before .before .before in
     let walked = known .before .before in
     rw (c .refused7 .ensures)
-    (no-run _ _ _ _ _ _ _ (past (walked .before) ws e) (walked .room-for .ensures) _ (known .vacancy .given .1) _ (run .run-for .ensures)
+    (no-run _ _ _ _ _ _ _ (past (walked .before .before) ws e) (walked .room-for .ensures) _ (known .vacancy .given .1) _ (run .run-for .ensures)
     _ e _ (met .before .before .target-in .ensures) _ (met .has-conflict .ensures) (c .before .before .before .if1 .left) (c .before .if2 .taken))
 
 take-room-requires : tie.Need-take-room-requires
@@ -134,7 +135,7 @@ take-room-requires c κs =
     let met = left .before .before .before in
     let run = met .before .before .before in
     let known = run .before .before .before in
-    let read = known .before .before .before .before .before .before .before in
+    let read = known .before .before .before .before .before .before .before .before in
     let a = read .before .before .before .before .before .before .before .args in
     let p = fine read in
     let s = p .sized in
@@ -157,7 +158,7 @@ returns-8 c ws e =
     let run = met .before .before .before in
     let known = run .before .before .before in
     let walked = known .before .before in
-    claimed _ _ _ _ _ _ _ (past (walked .before) ws e) (walked .room-for .ensures) _ (known .vacancy .given .1) _ (run .run-for .ensures)
+    claimed _ _ _ _ _ _ _ (past (walked .before .before) ws e) (walked .room-for .ensures) _ (known .vacancy .given .1) _ (run .run-for .ensures)
     _ e _ (met .before .before .target-in .ensures) _ (met .has-conflict .ensures) (left .before .before .if1 .left) (left .if2 .left)
     (took .take-room .last .1 .0) (took .take-room .last .1 .1 .0) (took .take-room .result) (took .take-room .ensures)
 
@@ -176,7 +177,9 @@ claim-spec =
     (λ c κs. search needs)
     returns-2
     (λ c. search needs)
-    (λ c κs. (fine (c .before .before .before .before) .sized, filled c))
+    (λ c κs. omega (arith, fine (c .before .before .before .before) .sized .words))
+    (λ c κs. let told = c .before in
+    (fine (told .before .before .before .before) .sized, filled told, c .fingerprint .ensures))
     (λ c. search needs)
     (λ c κs. search needs)
     returns-3

@@ -1,5 +1,6 @@
 use mathlib.Core.Path.{refl}
 use mathlib.Core.Option.{none}
+use native.Mathlib.Omega.{arith}
 use Rattle.operations.specs.Ends.{noBuffers, state}
 use Rattle.operations.proofs.Passed.{Checked, all-checked}
 use Rattle.operations.proofs.Tested.{SlotRead, filled-slot, check-bad, no-reel}
@@ -22,10 +23,12 @@ slot-read c = record { checked = fine (c .before); slot-is = c .slot-of .ensures
 
 -- and the frame is looked up
 looked : (c : tie.After-find)
-    → let seen = c .before .before .before in
+    → let seen = c .before .before .before .before in
     let a = seen .before .before .before .before .before .before .args in
     Looked (a .image .now) none (a .reel) (a .frame) (seen .before .before .g .given .0 .0) (seen .slot-of .result) (c .find .result)
-looked c = record { slot-read = slot-read (c .before .before .before); present = c .before .if1 .left; answer = c .find .ensures }
+looked c =
+    let told = c .before .before in
+    record { slot-read = slot-read (told .before .before); present = told .if1 .left; answer = c .find .ensures }
 
 returns : tie.Need-returns
 returns c pool ws =
@@ -58,7 +61,10 @@ has-spec =
     returns
     (λ c κs. fine c .sized)
     returns-2
-    (λ c κs. let p = slot-read (c .before .before) in (p .checked .sized, filled-slot p (c .if1 .left)))
+    (λ c κs. omega (arith, slot-read (c .before .before) .checked .sized .words))
+    (λ c κs. let told = c .before in
+    let p = slot-read (told .before .before) in
+    (p .checked .sized, filled-slot p (told .if1 .left), c .fingerprint .ensures))
     (λ c. search needs)
     (λ c. search needs)
     (λ c. search needs)

@@ -31,11 +31,11 @@ slot-read c = record { checked = fine (c .before); slot-is = c .slot-of .ensures
 
 -- and the frame is looked up
 looked : (c : tie.After-find)
-    → let seen = c .before .before .before .before .before in
+    → let seen = c .before .before .before .before .before .before in
     let a = seen .before .before .before .before .before .before .before .args in
     Looked (a .image .now) (some (a .script .now)) (a .reel) (a .frame) (seen .before .before .g .given .0 .0) (seen .slot-of .result) (c .find .result)
 looked c =
-    let told = c .before .before in
+    let told = c .before .before .before in
     record { slot-read = slot-read (told .before .before .before); present = told .before .if1 .left; answer = c .find .ensures }
 
 -- the slot is busy by the heads' records if it is by the driver's words
@@ -75,13 +75,13 @@ put-remove-requires c κs =
 returns-4 : tie.Need-returns-4
 returns-4 c pool ws e =
     let find = c .before .before in
-    let free = find .before in
+    let free = find .before .before in
     remove-malformed (state _ pool ws) _ _ _ (busy-told (free .before) ws e ∙ free .if2 .left) (looked find) (c .enum-told .given .1)
 
 returns-5 : tie.Need-returns-5
 returns-5 c pool ws e =
     let find = c .before .before in
-    let free = find .before in
+    let free = find .before .before in
     remove-absent (state _ pool ws) _ _ _ (busy-told (free .before) ws e ∙ free .if2 .left) (looked find) (c .enum-told2 .given .1)
 
 returns-6 : tie.Need-returns-6
@@ -89,7 +89,7 @@ returns-6 c pool ws e =
     let put = c .before .before in
     let spot = put .before .before .before in
     let find = spot .before .before in
-    let free = find .before in
+    let free = find .before .before in
     removed (state _ pool ws) _ _ _ (busy-told (free .before) ws e ∙ free .if2 .left) (looked find) (spot .t .given .1) _ (put .put-remove .ensures)
 
 pub remove-spec : {M : Type 1} → statement M
@@ -104,7 +104,10 @@ remove-spec =
     returns-2
     (λ c κs. search needs)
     returns-3
-    (λ c κs. let p = slot-read (c .before .before .before .before) in (p .checked .sized, filled-slot p (c .before .before .if1 .left)))
+    (λ c κs. omega (arith, slot-read (c .before .before .before .before) .checked .sized .words))
+    (λ c κs. let told = c .before .before .before in
+    let p = slot-read (told .before .before) in
+    (p .checked .sized, filled-slot p (told .if1 .left), c .fingerprint .ensures))
     (λ c. search needs)
     (λ c. search needs)
     (λ c. search needs)

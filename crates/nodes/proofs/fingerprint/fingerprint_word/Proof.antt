@@ -9,5 +9,5 @@ fingerprint-word-spec =
     (tie.spec
     (λ c. search needs)
     (λ c κs. search needs)
-    (λ c κs. (search needs, fingerprint-small _ (c .fingerprint .ensures)))
+    (λ c κs. (search needs, fingerprint-small _ _ (c .fingerprint .ensures)))
     (λ c. rw (c .before .fingerprint .ensures) at (c .with-byte .ensures)))

@@ -50,10 +50,10 @@ found-place-spec =
     (tie.spec
     Inv-loop
     μ-loop
-    (λ c κs. (search needs, search needs, fingerprint-small _ (c .before .pre .2)))
+    (λ c κs. (search needs, search needs, fingerprint-small _ _ (c .before .pre .2)))
     (λ c. seek-none _ _ _ _ _ (c .before .before .before .pre .2) (c .before .has-print .ensures (not-true _ (c .if1 .taken))))
     (λ c κs. search needs)
-    (λ c κs. (search needs, search needs, fingerprint-small _ (c .before .before .before .before .pre .2)))
+    (λ c κs. (search needs, search needs, fingerprint-small _ _ (c .before .before .before .before .pre .2)))
     (λ c. seek-all _ _ _ _ _ _ (c .candidates .ok) (c .before .before .before .before .before .pre .2) (c .candidates .ensures))
     (λ c. search (needs, low c))
     (λ c. search (needs, low c))

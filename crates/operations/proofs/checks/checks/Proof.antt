@@ -3,8 +3,8 @@ use mathlib.Core.Bool.{false}
 use Prim.Native.Nat.{_≤_}
 use lib.ListN.{length}
 use Rattle.tree.specs.Memory.{reads as readsWords}
-use Rattle.tree.specs.Test.{ne, holds}
-use Rattle.tree.specs.Layout.{badImage, editionAt}
+use Rattle.tree.specs.Test.{holds}
+use Rattle.tree.specs.Layout.{badImage, badEdition}
 use Rattle.operations.proofs.Passed.{sized-image, image-bad, edition-bad, buffer-bad, none-bad}
 use borrow.Author.Needs.{needs}
 use Rattle.operations.proofs.checks.checks.Statement.{statement}
@@ -15,7 +15,7 @@ image-fine : (c : tie.Else1)
     → holds (badImage (length (c .before .before .before .before .args .image .now)) (c .before .before .geometry-in .result)) ≡ false
 image-fine c = sym (c .before .bad-image .ensures) ∙ c .if1 .left
 
-edition-fine : (c : tie.Else2) → holds (ne (readsWords (c .before .before .before .before .before .before .args .image .now) editionAt) 1) ≡ false
+edition-fine : (c : tie.Else2) → holds (badEdition (readsWords (c .before .before .before .before .before .before .args .image .now))) ≡ false
 edition-fine c = sym (c .before .bad-edition .ensures) ∙ c .if2 .left
 
 nodes-few : (c : tie.Else1) → c .before .before .geometry-in .result .nodes ≤ 65536

@@ -5,7 +5,7 @@ use Prim.Native.Nat.{ℕ, _-_, _/_}
 use borrow.Author.Needs.{needs}
 use borrow.Author.Tests.{not-false}
 use Rattle.memory.specs.Words.{reads as readsWords}
-use Rattle.tree.specs.Fingerprint.{editionOne}
+use Rattle.tree.specs.Fingerprint.{ruleOf}
 use Rattle.tree.specs.Node.{wellFormed}
 use Rattle.tree.specs.Lookup.{lookup}
 use Rattle.tree.proofs.Nodes.{wellFormed-facts, size-most}
@@ -19,7 +19,7 @@ use Rattle.paths.proofs.descent.walk.Tie as tie
 abbrev Inv-loop : tie.InvT-loop
 Inv-loop image g start first frame print seek n₀ level₀ found₀ clear₀ n level found clear =
     let m = readsWords image in
-    (ns : List ℕ) × (Along g m start first frame ns level n × (numbered found ≡ lookup editionOne g m frame ns) × (numbered (clear / 64) ≡ clearIf g m seek ns) × TellsLeft g m clear)
+    (ns : List ℕ) × (Along g m start first frame ns level n × (numbered found ≡ lookup (ruleOf m) g m frame ns) × (numbered (clear / 64) ≡ clearIf g m seek ns) × TellsLeft g m clear)
 
 abbrev μ-loop : tie.MeasureT-loop
 μ-loop image g start first frame print seek n₀ level₀ found₀ clear₀ n level found clear = 32 - level

@@ -13,6 +13,5 @@ walk-from-spec =
     (λ c κs. search needs)
     (λ c. search needs)
     (λ c κs. search needs)
-    (λ c κs. search needs)
-    (λ c. let a = c .before .before .before .before .args in
-    c .walk .ensures ∙ ap (λ (r : ℕ). trailFrom (a .g) (reads (a .image .now)) (a .seek) 0 (r - 1) (a .frame)) (c .before .before .root-of .ensures)))
+    (λ c. let a = c .before .before .before .args in
+    c .walk .ensures ∙ ap (λ (r : ℕ). trailFrom (a .g) (reads (a .image .now)) (a .seek) 0 (r - 1) (a .frame)) (c .before .root-of .ensures)))

@@ -6,7 +6,7 @@ use borrow.Author.Tests.{eqb-true, eqb-false, not-true, not-false}
 use lib.Pow.{pow-pos}
 use Rattle.memory.specs.Words.{reads}
 use Rattle.tree.specs.Path.{levels, bitsTo}
-use Rattle.tree.specs.Fingerprint.{editionOne, fingerprint}
+use Rattle.tree.specs.Fingerprint.{fingerprint, ruleOf}
 use Rattle.tree.specs.Node.{frame}
 use Rattle.tree.specs.Pool.{mark}
 use Rattle.nodes.proofs.NodeCode.{fingerprint-small}
@@ -30,7 +30,7 @@ place c = record {
 }
 
 marks : (c : tie.After-mark) → let a = c .before .before .before .before .before .before .before .before .before .before .before .args in
-    c .mark .last .0 ≡ mark (a .met .now) (fingerprint editionOne (frame (a .g) (reads (a .image .now)) (a .t .node) (a .p)))
+    c .mark .last .0 ≡ mark (a .met .now) (fingerprint (ruleOf (reads (a .image .now))) (frame (a .g) (reads (a .image .now)) (a .t .node) (a .p)))
 marks c = rw (← place c .frame-is, ← place c .print-is) (c .mark .ensures)
 
 pub settled-at-spec : {M : Type 1} → statement M
@@ -42,8 +42,8 @@ settled-at-spec =
     (λ c κs. search (needs, inside (c .before .before .before .before)))
     (λ c. search needs)
     (λ c κs. search needs)
-    (λ c κs. search (needs, fingerprint-small _ (c .before .before .before .before .fold .ensures)))
-    (λ c κs. search (needs, fingerprint-small _ (c .before .before .before .before .before .before .fold .ensures)))
+    (λ c κs. search (needs, fingerprint-small _ _ (c .before .before .before .before .fold .ensures)))
+    (λ c κs. search (needs, fingerprint-small _ _ (c .before .before .before .before .before .before .fold .ensures)))
     (λ c. let t = c .before .before .before .before .before .before .before .before .before .before .before .before .args .t in search (needs, pow-pos (bitsTo (levels - t .left))))
     (λ c. let w = c .before .before .before in (off-path _ _ _ _ (place w) (c .if1 .taken), marks w))
     (λ c. let w = c .before .before .before .before in (wrong-print _ _ _ _ (place w) (c .before .if1 .left) (c .if2 .taken), marks w))

@@ -1,0 +1,82 @@
+//! How a history starts: with a format of memory that holds anything, or with the recovery of a sound image of edition 1 that
+//! holds frames, perhaps after attempts that are refused or crash.
+use crate::coverage::{Claims, Coverage};
+use crate::history::History;
+use crate::model::buffer::Buffer;
+use crate::model::call::{Call, Function, Lent};
+use crate::model::fault::Fault;
+use crate::model::image::*;
+use crate::model::script::SCRIPT_WORDS;
+use crate::model::table::{Reels, Table};
+use crate::plan::Plan;
+use crate::random::Random;
+use crate::subject::Subject;
+use crate::trees;
+
+pub fn start(mut random: Random, subject: Subject, coverage: &mut Coverage) -> Result<History<'_>, String> {
+    let plan = Plan::draw(&mut random);
+    let lent = memory(&mut random, plan.slots, plan.nodes);
+    let table = Table::formatted(plan.slots, plan.nodes);
+    let formats = random.one_in(2);
+    let mut history = History { random, subject, coverage, lent, table, plan, edition: EDITION };
+    let started = if formats { history.format_first() } else { history.recover_first() };
+    started.map_err(|text| format!("start: {}", text))?;
+    Ok(history)
+}
+
+/// Buffers of any contents.
+fn memory(random: &mut Random, slots: u64, nodes: u64) -> Lent {
+    let zeros = random.one_in(2);
+    let mut junk = |length: u64| Buffer::of((0..length).map(|_| if zeros { 0 } else { random.word() }));
+    Lent {
+        image: junk(image_words(slots, nodes)),
+        map: junk(map_words(nodes)),
+        heads: junk(HEADS * HEAD_WORDS as u64),
+        script: junk(SCRIPT_WORDS as u64),
+        scratch: junk(map_words(nodes)),
+        list: junk(64 * nodes),
+    }
+}
+
+/// A fault of the table: it lacks the lowest frame of every reel.
+fn forget_frames(reels: &mut Reels) {
+    for frames in reels.values_mut() {
+        *frames = frames.iter().copied().skip(1).collect();
+    }
+}
+
+impl History<'_> {
+    fn format_first(&mut self) -> Result<(), String> {
+        let (slots, nodes) = (self.plan.slots, self.plan.nodes);
+        let format = Call { function: Function::Format, slots, nodes, head: 0, reel: 0, frame: 0 };
+        let answer = self.subject.perform(&format, &mut self.lent, 0).answer;
+        if answer != 0 {
+            return Err(format!("format answers {}", answer));
+        }
+        self.coverage.format_start();
+        self.check_book()
+    }
+
+    /// The table has the frames that were put into the image. A crash of the recovery is tried with every mixture of its stores
+    /// where these are few.
+    fn recover_first(&mut self) -> Result<(), String> {
+        let geometry = (self.plan.slots, self.plan.nodes);
+        let built = trees::first_edition(&mut self.random, geometry, &self.plan.reels, self.plan.depths);
+        (self.lent.image, self.table.reels, self.edition) = (built.image, built.reels, FIRST_EDITION);
+        if let Subject::Faulty(Fault::HeldForgotten) = self.subject {
+            forget_frames(&mut self.table.reels);
+        }
+        let refused = self.random.one_in(2);
+        if refused {
+            self.recover_refused()?;
+        }
+        let (image, reels) = (self.lent.image.clone(), self.table.reels.clone());
+        self.recover_once()?;
+        let cut = self.random.one_in(2) && image != self.lent.image;
+        if cut {
+            self.crash_in_recover(&image, &reels, Claims::NONE)?;
+        }
+        self.coverage.first_edition_start(refused, cut, reels.values().any(|frames| !frames.is_empty()));
+        self.check_book()
+    }
+}

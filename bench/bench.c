@@ -136,9 +136,9 @@ static void note_editions(void *const *states, struct result *m) {
 #endif
 }
 
-/* The column that is measured at a column's turn, on its state: itself, but the book and its earlier build change places with each
- * repetition. Where an image lies in memory, and what ran before, makes more of a difference than most changes of the code. Where
- * the editions differ they stay: the earlier build may not know the book's. */
+/* The column that is measured at a column's turn, on its state: itself, but the book and its earlier build change places with
+ * each repetition. Where an image lies in memory, and what ran before, makes more of a difference than most changes of the code.
+ * Where the editions differ they stay: the earlier build may not know the book's. */
 static size_t measured_at(const struct result *m, size_t turn, size_t repetition) {
 #ifdef HAVE_BEFORE
     if (m->edition == m->edition_before && repetition % 2 == 1 && (turn == OURS || turn == BEFORE))

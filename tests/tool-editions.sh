@@ -36,8 +36,8 @@ edition  1' stat book
     holds cmp -s book old
 }
 
-# The start on a book whose power failed with a claim open. Fill by the eight bytes, which lookups by four would not find again; an
-# operation or a recovery that changes the edition.
+# The start on a book whose power failed with a claim open. Fill by the eight bytes, which lookups by four would not find again;
+# an operation or a recovery that changes the edition.
 change_old() {
     poke book "$clean_at" 000
     poke book "$map_at" 125 252

@@ -37,8 +37,8 @@ pub fn find_all() -> bool {
     let (calls, histories) = ((Kind::Calls, MOST_CALLS), (Kind::Histories, MOST_HISTORIES));
     let mut good = try_none("calls: no fault", Subject::Faulty(Fault::None), calls.0, calls.1);
     good &= try_none("histories: no fault", Subject::Faulty(Fault::None), histories.0, histories.1);
-    for (name, (kind, most), faults) in [("calls", calls, &Fault::OF_CALLS[..]), ("histories", histories, &Fault::OF_HISTORIES)] {
-        for &(fault, text) in faults {
+    for (name, (kind, most), alone) in [("calls", calls, &Fault::BY_CALLS[..]), ("histories", histories, &Fault::BY_HISTORIES)] {
+        for &(fault, text) in alone.iter().chain(&Fault::BY_BOTH) {
             good &= try_fault(format!("{}: {}", name, text), Subject::Faulty(fault), kind, most);
         }
     }

@@ -76,8 +76,8 @@ pub enum Fault {
 }
 
 impl Fault {
-    /// Found by single calls: one buffer or answer differs from the sound model's.
-    pub const OF_CALLS: [(Fault, &'static str); 58] = [
+    /// Found by single calls alone: one buffer or answer differs from the sound model's.
+    pub const BY_CALLS: [(Fault, &'static str); 37] = [
         (Fault::NoSlots, "an image without slots is taken"),
         (Fault::EmptySlotRead, "an empty slot's reel number counts as open"),
         (Fault::HighestSlot, "a reel is the highest filled slot with its number"),
@@ -102,44 +102,23 @@ impl Fault {
         (Fault::BarrierWithValue, "apply takes a barrier with a value"),
         (Fault::AppliedInPart, "apply stores before it has tested every entry"),
         (Fault::LastHeadRefused, "11 comes from head 3 on"),
-        (Fault::AnyClaimBusy, "claim answers 13 for any open claim on the reel"),
-        (Fault::FrameShared, "claim takes a frame that another head has"),
-        (Fault::NodeShared, "claim takes a place in a node that another head is at"),
-        (Fault::ParentForNode, "a branch-out uses the full parent and not the new child"),
         (Fault::AnyChildForNode, "a branch-out uses all of its new children"),
-        (Fault::NodeWithoutRun, "a claim without a run uses the full node"),
         (Fault::EndWithoutRun, "a claim without a run uses a node past the pool"),
         (Fault::AnySlotCounts, "heads of other slots count in claim's 13"),
         (Fault::FilledForgotten, "filled heads do not count in claim's 13"),
-        (Fault::BusyBeforeHeld, "claim tries 13 before 9"),
         (Fault::NoRunBeforeBusy, "claim tries 8 before 13"),
-        (Fault::SizeBefore, "places left by the size before the scale-up"),
         (Fault::SizeAlways64, "places left of 64, whatever the size"),
-        (Fault::TakenLeft, "the place just taken counts as left"),
-        (Fault::LeftAbovePlace, "all places above the one taken count as left"),
         (Fault::LeftBySet, "places left by the set word"),
-        (Fault::LeftOfParent, "a branch-out tells the places left in the full parent"),
         (Fault::RemainderBy2, "the child of level 30 is a remainder by 2"),
         (Fault::HalfDivisor, "the child of level 17 is taken from the quotient by half its divisor"),
-        (Fault::FourBytes, "edition 2 folds four bytes"),
-        (Fault::EightBytes, "edition 1 folds eight bytes"),
-        (Fault::UpperBytesUnread, "edition 2 folds zeros for the upper four bytes"),
         (Fault::EitherRule, "a fingerprint by either edition's rule is right"),
-        (Fault::LowerHalfCompared, "lookup compares the low four bytes of frames"),
-        (Fault::LookupFoldsFour, "lookup folds four bytes in edition 2"),
-        (Fault::FillFoldsEight, "fill folds eight bytes in edition 1"),
-        (Fault::RecoverFoldsFour, "recover folds four bytes in edition 2"),
-        (Fault::RecoverWrites2, "recover makes edition 2 of edition 1"),
-        (Fault::FormatWrites1, "format writes edition 1"),
-        (Fault::FormatKeeps1, "format keeps edition 1 where it finds it"),
         (Fault::Edition3Taken, "edition 3 is taken"),
-        (Fault::Edition1Refused, "edition 1 is refused"),
         (Fault::LowHalfOfEdition, "of the edition the low four bytes are read"),
         (Fault::ApplyReadsEdition, "apply refuses an edition"),
     ];
 
-    /// Found by histories with crashes, held against the plain table alone.
-    pub const OF_HISTORIES: [(Fault, &'static str); 33] = [
+    /// Found by histories with crashes alone, held against the plain table.
+    pub const BY_HISTORIES: [(Fault, &'static str); 12] = [
         (Fault::LocateTrusted, "recover takes locate for the truth"),
         (Fault::RootUnordered, "open stores the root before the barrier"),
         (Fault::ReelUnordered, "open stores the reel number after the barrier"),
@@ -151,6 +130,11 @@ impl Fault {
         (Fault::LastRecordLeft, "format and recover leave the last head's record"),
         (Fault::ThreeMended, "recover mends three locate words and no more"),
         (Fault::OneMendedInReel, "recover mends one locate word of each reel"),
+        (Fault::HeldForgotten, "the table of a start forgets frames that the image holds"),
+    ];
+
+    /// Found by either.
+    pub const BY_BOTH: [(Fault, &'static str); 21] = [
         (Fault::AnyClaimBusy, "claim answers 13 for any open claim on the reel"),
         (Fault::FrameShared, "claim takes a frame that another head has"),
         (Fault::NodeShared, "claim takes a place in a node that another head is at"),
@@ -172,6 +156,5 @@ impl Fault {
         (Fault::FormatWrites1, "format writes edition 1"),
         (Fault::FormatKeeps1, "format keeps edition 1 where it finds it"),
         (Fault::Edition1Refused, "edition 1 is refused"),
-        (Fault::HeldForgotten, "the table of a start forgets frames that the image holds"),
     ];
 }

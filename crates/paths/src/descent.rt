@@ -202,7 +202,9 @@ fn walk_from(image: &[u64], g: Geometry, slot: usize, frame: u64, print: u64, se
         × Filled g (reads (now image)) slot
         × (print ≡ fingerprint (ruleOf (reads (now image))) frame)
         ⌝ }
-    ensures { λ r. ⌜ r ≡ trailFrom g (reads (now (image .entry))) seek 0 (rootOf (reads (now (image .entry))) slot) frame ⌝ }
+    ensures { λ r. ⌜
+        r ≡ trailFrom g (reads (now (image .entry))) seek 0 (rootOf (reads (now (image .entry))) slot) frame
+        ⌝ }
 {
     let root = root_of(image, g, slot) as usize;
     walk(image, g, 0, root - 1, frame, print, seek)

@@ -24,6 +24,7 @@ Programs and the library; rt, of the Rattle kit, is needed for all:
   make install        header, libraries, reelbook.pc, tool and man pages below PREFIX=/usr/local; DESTDIR= for packages
   make uninstall      take the same files out again
   make bench          times beside other stores; QUICK=1 the book alone; BEFORE= an earlier build; EDITION=1 on such images
+  make bench-operations  each operation by itself, in the cache, without and with an own table; BEFORE= too
   make bench-docs     the tables and the plot of the last whole run go to docs/
   make clean          remove build/; what is proved, in target/, stays
 

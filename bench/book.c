@@ -9,6 +9,10 @@
 #include <stdlib.h>
 #include <unistd.h>
 
+#if OWN_TABLE && (REELBOOK_VERSION_MAJOR < 4 || (defined EDITION && EDITION == 1))
+#error "builds before 4.0 and images of edition 1 have no own tables"
+#endif
+
 static void refused(const char *operation, uint64_t answer) {
     char because[40];
     snprintf(because, sizeof because, "refused with %u", (unsigned)answer);
@@ -53,6 +57,19 @@ static void open_reels(struct book *b) {
     }
 }
 
+/* An own table is the library's over again: with one, nothing else is different. */
+static uint64_t format(struct book *b) {
+#if REELBOOK_VERSION_MAJOR < 4
+    return reelbook_format(b->medium.words, b->image_words, b->map, b->map_words, b->heads, REELS, NODES);
+#else
+    uint8_t table[REELBOOK_TABLE_BYTES];
+    for (unsigned i = 0; i < sizeof table; i++)
+        table[i] = (uint8_t)(167 * i + 13);
+    return reelbook_format(b->medium.words, b->image_words, b->map, b->map_words, b->heads, table, OWN_TABLE ? sizeof table : 0,
+                           REELS, NODES);
+#endif
+}
+
 void *book_open(const struct column *column, const char *path) {
     struct book *b = allocate(1, sizeof *b);
     b->barrier = column->barrier;
@@ -62,7 +79,7 @@ void *book_open(const struct column *column, const char *path) {
     b->scratch = allocate(b->map_words, sizeof *b->scratch);
     b->list = allocate(LIST_WORDS, sizeof *b->list);
     map_file(b, path);
-    expect_done("format", reelbook_format(b->medium.words, b->image_words, b->map, b->map_words, b->heads, REELS, NODES));
+    expect_done("format", format(b));
 #ifdef EDITION
     b->medium.words[REELBOOK_EDITION_AT] = EDITION; /* an image without frames is one of either edition but for this */
 #endif

@@ -1,14 +1,18 @@
 # make bench: the reel book beside its floors and other stores; tables on the output and in build/bench.tsv.
 # make bench QUICK=1: the book, C by hand and the floor alone. FRAMES is how many are loaded, MEMORY and DISK are folders for the files,
 # LIBRARY is another build of the library, RUN is a program to run it in, such as a profiler. BEFORE is an earlier build of the
-# library, with the same header, for a column of its own. EDITION=1 measures on images of edition 1.
+# library, for a column of its own, and BEFORE_INCLUDE the folder of its header, where that is another than the present one.
+# EDITION=1 measures on images of edition 1, TABLE=1 on images with their own table.
 # A store whose package is missing is left out: apt-get install libpmemobj-dev liblmdb-dev libsqlite3-dev.
+# make bench-operations: each operation by itself, in the cache, without and with an own table; LIBRARY, RUN, BEFORE and
+# BEFORE_INCLUDE as above.
 # make bench-docs: the tables and the plot of the last whole run go to docs/.
-.PHONY: bench bench-docs
+.PHONY: bench bench-operations bench-docs
 
 MEMORY ?= /dev/shm
 DISK ?= build
 FRAMES ?= 1000000
+BEFORE_INCLUDE ?= include
 BENCH_SOURCES = bench/bench.c bench/book.c bench/hand.c bench/floor.c bench/work.c bench/report.c driver/medium.c driver/carry.c
 
 # Another store, by its name, header, source and library, where its header is found.
@@ -17,11 +21,11 @@ other_store = $(if $(shell $(CC) -include $(2) -fsyntax-only -x c /dev/null 2>/d
 OTHER_STORES = $(call other_store,PMEMOBJ,libpmemobj.h,pmemobj,pmemobj) $(call other_store,LMDB,lmdb.h,lmdb,lmdb) \
     $(call other_store,SQLITE,sqlite3.h,sqlite,sqlite3)
 
-# An image of another edition than the one that the library formats.
-AS_EDITION = $(EDITION:%=-DEDITION=%)
+# Images of another edition than the one that the library formats, or with their own table.
+IMAGES = $(EDITION:%=-DEDITION=%) -DOWN_TABLE=$(if $(TABLE),1,0)
 
 # The earlier build and the store that calls it: one object that hands out one name.
-make_before = $(CC) $(WARNINGS) $(CFLAGS) $(AS_EDITION) -Iinclude -Idriver -r -nostdlib -o build/before.o bench/book.c \
+make_before = $(CC) $(WARNINGS) $(CFLAGS) $(IMAGES) -I$(BEFORE_INCLUDE) -Idriver -r -nostdlib -o build/before.o bench/book.c \
     $(BEFORE) && objcopy --keep-global-symbol=book_store build/before.o && \
     objcopy --redefine-sym book_store=before_store build/before.o
 
@@ -29,11 +33,26 @@ make_before = $(CC) $(WARNINGS) $(CFLAGS) $(AS_EDITION) -Iinclude -Idriver -r -n
 bench: $(LIBRARY)
 	@mkdir -p build
 	@$(if $(BEFORE),$(make_before))
-	@$(CC) $(WARNINGS) $(CFLAGS) $(AS_EDITION) -Iinclude -Idriver -o build/benchmark $(BENCH_SOURCES) $(LIBRARY) \
+	@$(CC) $(WARNINGS) $(CFLAGS) $(IMAGES) -Iinclude -Idriver -o build/benchmark $(BENCH_SOURCES) $(LIBRARY) \
 	    $(if $(BEFORE),-DHAVE_BEFORE build/before.o) $(OTHER_STORES)
 	@memory=$$(mktemp -d $(MEMORY)/reelbook.XXXXXX) && disk=$$(mktemp -d $(DISK)/reelbook.XXXXXX) && \
 	    trap 'rm -rf "$$memory" "$$disk"' EXIT INT TERM && \
 	    PMEM_IS_PMEM_FORCE=1 $(RUN) build/benchmark "$$memory" "$$disk" build/bench$(QUICK:%=-quick).tsv $(FRAMES) $(QUICK:%=quick)
+
+# The batches of a build, by its name, library and header's folder, four times: objects that hand out one name each.
+PLACES = 16 32 48 64
+make_batches = for at in $(PLACES); do object=build/$(1)-$$at.o && \
+    $(CC) $(WARNINGS) $(CFLAGS) -DAT=$$at -I$(3) -r -nostdlib -o $$object bench/batches.c $(2) && \
+    objcopy --keep-global-symbol=build $$object && objcopy --redefine-sym build=$(1)_$$at $$object || exit 1; done
+
+# -z now: the dynamic linker would else look memset up where instructions are counted.
+bench-operations: $(LIBRARY)
+	@mkdir -p build
+	@$(call make_batches,now,$(LIBRARY),include)
+	@$(if $(BEFORE),$(call make_batches,before,$(BEFORE),$(BEFORE_INCLUDE)))
+	@$(CC) $(WARNINGS) $(CFLAGS) -Iinclude -Itests -Wl,-z,now -o build/operations bench/operations.c $(PLACES:%=build/now-%.o) \
+	    $(if $(BEFORE),-DHAVE_BEFORE $(PLACES:%=build/before-%.o)) $(LIBRARY)
+	@$(RUN) build/operations
 
 bench-docs:
 	python3 bench/publish.py build/bench.tsv docs/BENCHMARKS.md docs/benchmarks.svg

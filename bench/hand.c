@@ -18,8 +18,9 @@ struct slot {
 };
 
 struct hand {
-    struct book *book; /* its image, map, scratch map and list; the library formats it, opens the reels, and is then left out */
-    int bytes;         /* of a frame that its fingerprint folds: by the image's edition */
+    struct book *book;    /* its image, map, scratch map, list; the library formats it, opens the reels, and is then left out */
+    int bytes;            /* of a frame that its fingerprint folds: by the image's edition */
+    const uint8_t *table; /* the image's own, or the library's */
     struct slot *slots;
     struct node *nodes;
     uint64_t left; /* places left in the node of the last insert */
@@ -40,12 +41,12 @@ struct path {
 #define ENTRIES4(i) ENTRY(i), ENTRY((i) + 1), ENTRY((i) + 2), ENTRY((i) + 3)
 #define ENTRIES16(i) ENTRIES4(i), ENTRIES4((i) + 4), ENTRIES4((i) + 8), ENTRIES4((i) + 12)
 #define ENTRIES64(i) ENTRIES16(i), ENTRIES16((i) + 16), ENTRIES16((i) + 32), ENTRIES16((i) + 48)
-static const uint8_t table[256] = {ENTRIES64(0), ENTRIES64(64), ENTRIES64(128), ENTRIES64(192)};
+static const uint8_t library_table[256] = {ENTRIES64(0), ENTRIES64(64), ENTRIES64(128), ENTRIES64(192)};
 
 static uint64_t fingerprint(const struct hand *h, uint64_t frame) {
     uint8_t print = 0;
     for (int k = 0; k < h->bytes; k++)
-        print = table[print ^ (uint8_t)(frame >> 8 * k)];
+        print = h->table[print ^ (uint8_t)(frame >> 8 * k)];
     return print;
 }
 
@@ -289,7 +290,9 @@ static size_t recover(void *state, const struct op *ops, size_t count) {
 static void *open_hand(const struct column *column, const char *path) {
     struct hand *h = allocate(1, sizeof *h);
     h->book = book_open(column, path);
-    h->bytes = h->book->medium.words[REELBOOK_EDITION_AT] == REELBOOK_EDITION_1 ? 4 : 8;
+    const uint64_t *words = h->book->medium.words;
+    h->bytes = words[REELBOOK_EDITION_AT] == REELBOOK_EDITION_1 ? 4 : 8;
+    h->table = words[REELBOOK_OWN_AT] == 1 ? (const uint8_t *)(words + REELBOOK_TABLE_AT) : library_table;
     h->slots = (struct slot *)(h->book->medium.words + REELBOOK_HEADER_WORDS);
     h->nodes = (struct node *)(h->book->medium.words + reelbook_image_words(REELS, 0));
     return h;

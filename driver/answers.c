@@ -11,7 +11,7 @@ const char *say_command;
 int answer_status(uint64_t answer) {
     if (answer == REELBOOK_DONE)
         return STATUS_DONE;
-    return answer < BOOK_SYSTEM || answer == BOOK_WRONG_MAP ? STATUS_REFUSED : STATUS_SYSTEM;
+    return answer < BOOK_SYSTEM || answer >= BOOK_WRONG_MAP ? STATUS_REFUSED : STATUS_SYSTEM;
 }
 
 const char *answer_words(uint64_t answer) {
@@ -35,6 +35,12 @@ const char *answer_words(uint64_t answer) {
         return "replaced by another process, again and again";
     case BOOK_WRONG_MAP:
         return "the saved map is not the image's";
+    case BOOK_TABLE_MARK:
+        return "word 3 of the image, which is for a table of its own, is neither 0 nor 1 (4)";
+    case BOOK_TABLE_LACKS:
+        return "the image's own table lacks some byte (4)";
+    case REELBOOK_MALFORMED: /* for the table there are the two above */
+        return "the tree is malformed (4)";
     default:
         snprintf(words, sizeof words, "%s (%" PRIu64 ")", reelbook_answer_text(answer), answer);
         return words;

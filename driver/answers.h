@@ -5,18 +5,20 @@
 #include "reelbook.h"
 
 enum {
-    BOOK_SYSTEM = REELBOOK_LIST_SHORT + 1, /* the system refused: errno says why */
+    BOOK_SYSTEM = REELBOOK_BAD_TABLE + 1, /* the system refused: errno says why */
     BOOK_NOT_REGULAR,
     BOOK_NOT_A_BOOK,
     BOOK_OTHER_VERSION,
     BOOK_WRONG_LENGTH,
     BOOK_LOCKED,
     BOOK_EXISTS,
-    BOOK_REPLACED, /* another file took its name before it was locked */
-    BOOK_WRONG_MAP
+    BOOK_REPLACED,  /* another file took its name before it was locked */
+    BOOK_WRONG_MAP, /* from here on: a book that is not sound */
+    BOOK_TABLE_MARK,
+    BOOK_TABLE_LACKS
 };
 
-/* The tool's exit statuses; 1 alone comes without a line on standard error. */
+/* The tool's exit statuses. From 2 on they come with a line on standard error. */
 enum { STATUS_DONE, STATUS_NO, STATUS_REFUSED, STATUS_USAGE, STATUS_SYSTEM };
 
 int answer_status(uint64_t answer);

@@ -16,6 +16,8 @@ static const struct {
 } options[OPTIONS] = {
     [OPTION_REELS] = {"--reels", NULL, WITH, "R", 1, "room for R reels"},
     [OPTION_NODES] = {"--nodes", NULL, WITH, "N", 1, "a pool of N nodes"},
+    [OPTION_TABLE] = {"--table", NULL, WITH, "TABLE", 0,
+                      "fingerprints go by the 256 bytes in the file TABLE, each value once; - is standard input"},
     [OPTION_FORCE] = {"--force", NULL, WITHOUT, NULL, 0, "overwrite a file that is there, a book or not"},
     [OPTION_SKIP_HELD] = {"--skip-held", NULL, WITHOUT, NULL, 0, "pass over frames that the reel holds already"},
     [OPTION_PROGRESS] = {"--progress", NULL, WITHOUT, NULL, 0, "tell the progress though standard error is no terminal"},

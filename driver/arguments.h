@@ -7,6 +7,7 @@
 enum option {
     OPTION_REELS,
     OPTION_NODES,
+    OPTION_TABLE,
     OPTION_FORCE,
     OPTION_SKIP_HELD,
     OPTION_PROGRESS,

@@ -46,17 +46,17 @@ static int heads_idle(const struct book *b) {
 }
 
 /* A file without the magic is no book: it goes first and comes last, so that a format cut short leaves none. */
-static uint64_t write_book(const struct file *f, struct medium *m, const char *path) {
+static uint64_t write_book(const struct file *f, struct medium *m, const char *path, const uint8_t *table) {
     uint64_t heads[REELBOOK_HEADS_WORDS];
     medium_store(m, FILE_MAGIC_AT, 0);
     if (medium_barrier(m) != 0)
         return BOOK_SYSTEM;
-    uint64_t answer =
-        reelbook_format(m->words + f->image_at, f->image_words, m->words + f->map_at, f->map_words, heads, f->slots, f->nodes);
+    uint64_t answer = reelbook_format(m->words + f->image_at, f->image_words, m->words + f->map_at, f->map_words, heads, table,
+                                      table ? REELBOOK_TABLE_BYTES : 0, f->slots, f->nodes);
     if (answer != REELBOOK_DONE)
         return answer;
     memset(m->words, 0, FILE_PAGE_WORDS * sizeof *m->words);
-    m->words[FILE_VERSION_AT] = FILE_VERSION;
+    m->words[FILE_VERSION_AT] = table ? FILE_VERSION_OWN_TABLE : FILE_VERSION;
     m->words[FILE_SLOTS_AT] = f->slots;
     m->words[FILE_NODES_AT] = f->nodes;
     m->words[FILE_CLEAN_AT] = 1;
@@ -66,7 +66,7 @@ static uint64_t write_book(const struct file *f, struct medium *m, const char *p
     return done_unless(medium_barrier(m));
 }
 
-uint64_t book_format(const char *path, uint64_t slots, uint64_t nodes, int force, double until) {
+uint64_t book_format(const char *path, uint64_t slots, uint64_t nodes, const uint8_t *table, int force, double until) {
     struct file f;
     struct medium m;
     int created;
@@ -76,7 +76,7 @@ uint64_t book_format(const char *path, uint64_t slots, uint64_t nodes, int force
         return answer;
     answer = done_unless(medium_map(&m, f.fd, f.words, 1));
     if (answer == REELBOOK_DONE) {
-        answer = write_book(&f, &m, path);
+        answer = write_book(&f, &m, path, table);
         medium_unmap(&m);
     }
     if (answer != REELBOOK_DONE && created)

@@ -31,8 +31,9 @@ struct book {
 };
 
 /* Each answers REELBOOK_DONE, a refusal of the library or a number of answers.h. A lock is waited for until then, by
- * clock_seconds(). */
-uint64_t book_format(const char *path, uint64_t slots, uint64_t nodes, int force, double until);
+ * clock_seconds(). A new book has so many slots and nodes, none outside the library's limits, and, unless it is NULL, a table of
+ * its own that the library does not refuse. */
+uint64_t book_format(const char *path, uint64_t slots, uint64_t nodes, const uint8_t *table, int force, double until);
 uint64_t book_open(struct book *b, const char *path, enum book_mode mode, struct crash *crash, double until);
 uint64_t book_recover(struct book *b);
 uint64_t book_close(struct book *b);

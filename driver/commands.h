@@ -29,6 +29,7 @@ int run_list(const struct arguments *a);
 int run_stat(const struct arguments *a);
 int run_reels(const struct arguments *a);
 int run_dump(const struct arguments *a);
+int run_table(const struct arguments *a);
 int run_check(const struct arguments *a);
 int run_draw(const struct arguments *a);
 

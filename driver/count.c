@@ -4,8 +4,9 @@
 
 #include "commands.h"
 #include "form.h"
+#include "own_table.h"
 
-enum { REEL_FIELDS = 8, BOOK_FIELDS = 9, BRIEF_FIELDS = 3 };
+enum { REEL_FIELDS = 8, BOOK_FIELDS = 10, BRIEF_FIELDS = 3 };
 
 static void reel_fields(struct field f[REEL_FIELDS], const struct survey_reel *r) {
     const struct field fields[REEL_FIELDS] = {
@@ -62,6 +63,7 @@ static void print_lines(const struct book *b, const struct survey *s, int by_ree
     printf("deepest  level %u\n", s->deepest);
     printf("places   %" PRIu64 ", %" PRIu64 " used, %" PRIu64 " located\n", s->total.places, s->total.frames, s->total.located);
     printf("edition  %" PRIu64 "\n", b->image[REELBOOK_EDITION_AT]);
+    printf("table    %s\n", own_table_in(b->image) ? "the book's own" : "the library's");
     if (by_reel)
         print_table(s);
 }
@@ -78,6 +80,7 @@ static void print_for_program(enum form form, const struct book *b, const struct
         {"places", s->total.places},
         {"located", s->total.located},
         {"edition", b->image[REELBOOK_EDITION_AT]},
+        {"own_table", (uint64_t)own_table_in(b->image)},
     };
     if (form == FORM_CSV && by_reel) {
         print_each(form, s, reel_fields, REEL_FIELDS);

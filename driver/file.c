@@ -86,7 +86,7 @@ static uint64_t check_header(struct file *f, off_t bytes) {
     uint64_t header[FILE_HEADER_WORDS];
     if (!read_header(f->fd, header) || header[FILE_MAGIC_AT] != FILE_MAGIC)
         return BOOK_NOT_A_BOOK;
-    if (header[FILE_VERSION_AT] != FILE_VERSION)
+    if (header[FILE_VERSION_AT] != FILE_VERSION && header[FILE_VERSION_AT] != FILE_VERSION_OWN_TABLE)
         return BOOK_OTHER_VERSION;
     uint64_t slots = header[FILE_SLOTS_AT], nodes = header[FILE_NODES_AT];
     if (slots < 1 || slots > REELBOOK_MAX_SLOTS || nodes < 1 || nodes > REELBOOK_MAX_NODES)

@@ -9,7 +9,8 @@
 /* Words of the first page; the rest of it is 0. */
 enum { FILE_MAGIC_AT, FILE_VERSION_AT, FILE_SLOTS_AT, FILE_NODES_AT, FILE_CLEAN_AT, FILE_HEADER_WORDS };
 
-enum { FILE_VERSION = 1, FILE_PAGE_WORDS = 4096 / sizeof(uint64_t) };
+/* Version 2 is for an image with its own table: the tools before 4.0, which would fill in fingerprints by another, refuse it. */
+enum { FILE_VERSION = 1, FILE_VERSION_OWN_TABLE = 2, FILE_PAGE_WORDS = 4096 / sizeof(uint64_t) };
 
 /* "reelbook", on a machine that has the lowest byte first. */
 #define FILE_MAGIC UINT64_C(0x6b6f6f626c656572)

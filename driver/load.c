@@ -10,6 +10,7 @@
 
 #include "commands.h"
 #include "frames.h"
+#include "own_table.h"
 #include "unfinished.h"
 
 /* The dump, line by line. */
@@ -23,7 +24,8 @@ struct text {
 struct load {
     struct text text;
     struct book book;
-    uint64_t reel, reels, frames; /* the last reel; how many */
+    uint8_t table[REELBOOK_TABLE_BYTES]; /* its own, if one is given */
+    uint64_t reel, reels, frames;        /* the last reel; how many */
     struct progress progress;
 };
 
@@ -162,7 +164,7 @@ static int make(struct load *l, const struct arguments *a, uint64_t reels, uint6
     uint64_t answer = BOOK_SYSTEM;
     if (temporary) {
         unfinished_file(temporary);
-        answer = book_format(temporary, reels, nodes, 0, a->until);
+        answer = book_format(temporary, reels, nodes, a->values[OPTION_TABLE] ? l->table : NULL, 0, a->until);
     }
     if (answer == REELBOOK_DONE)
         status = fill(l, a, temporary);
@@ -182,7 +184,9 @@ static int load_from(struct load *l, const struct arguments *a) {
     uint64_t reels, nodes;
     if (!a->values[OPTION_FORCE] && access(a->operands[0], F_OK) == 0)
         return refuse(BOOK_EXISTS, a->operands[0]);
-    int status = read_room(&l->text, &reels, &nodes);
+    int status = a->values[OPTION_TABLE] ? own_table_read(l->table, a->values[OPTION_TABLE]) : STATUS_DONE;
+    if (status == STATUS_DONE)
+        status = read_room(&l->text, &reels, &nodes);
     if (status != STATUS_DONE)
         return status;
     reels = a->values[OPTION_REELS] ? a->numbers[OPTION_REELS] : reels;
@@ -199,6 +203,10 @@ static int load_from(struct load *l, const struct arguments *a) {
 int run_load(const struct arguments *a) {
     struct load l = {.text = {.in = stdin, .name = "standard input"}};
     int from_file = a->count > 1 && strcmp(a->operands[1], "-") != 0;
+    if (!from_file && a->values[OPTION_TABLE] && strcmp(a->values[OPTION_TABLE], "-") == 0) {
+        say("--table: - only where the dump is in a file");
+        return STATUS_USAGE;
+    }
     if (from_file) {
         l.text.name = a->operands[1];
         l.text.in = fopen(l.text.name, "r");

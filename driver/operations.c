@@ -3,6 +3,7 @@
 
 #include "book.h"
 #include "carry.h"
+#include "own_table.h"
 
 enum { HEAD = 0 };
 
@@ -14,7 +15,7 @@ enum { HEAD = 0 };
 
 static uint64_t carry(struct book *b, uint64_t answer) {
     if (answer != REELBOOK_DONE)
-        return answer;
+        return own_table_answer(b->image, answer);
     size_t at = b->file.image_at, words = (size_t)b->used;
     int failed =
         b->crash ? crash_carry_out(b->crash, &b->medium, at, b->script, words) : carry_out(&b->medium, at, b->script, words);
@@ -46,7 +47,7 @@ uint64_t book_retire(struct book *b, uint64_t reel) {
 }
 
 uint64_t book_has(const struct book *b, uint64_t reel, uint64_t frame, uint64_t *yes) {
-    return reelbook_has(IMAGE, reel, frame, yes);
+    return own_table_answer(b->image, reelbook_has(IMAGE, reel, frame, yes));
 }
 
 uint64_t book_list(struct book *b, uint64_t reel, uint64_t **frames, uint64_t *count) {
@@ -57,7 +58,7 @@ uint64_t book_list(struct book *b, uint64_t reel, uint64_t **frames, uint64_t *c
     uint64_t answer = reelbook_list(IMAGE, SCRATCH, *frames, room, reel, count);
     if (answer != REELBOOK_DONE)
         free(*frames);
-    return answer;
+    return own_table_answer(b->image, answer);
 }
 
 static size_t locate_at(const struct book *b, uint64_t node) {
@@ -95,7 +96,7 @@ uint64_t book_recover(struct book *b) {
     if (answer == REELBOOK_DONE && end_recovery(b, before) != 0)
         answer = BOOK_SYSTEM;
     free(before);
-    return answer;
+    return own_table_answer(b->image, answer);
 }
 
 /* Only where they differ: every other page of the private copy stays the file's. */
@@ -121,5 +122,5 @@ uint64_t book_check(struct book *b) {
         answer = saved_map_wrong(b) ? BOOK_WRONG_MAP : REELBOOK_DONE;
     }
     free(before);
-    return answer;
+    return own_table_answer(b->image, answer);
 }

@@ -1,12 +1,15 @@
 /* The commands that read. */
+#define _POSIX_C_SOURCE 200809L
 #include <inttypes.h>
 #include <stdio.h>
 #include <stdlib.h>
 #include <string.h>
+#include <unistd.h>
 
 #include "commands.h"
 #include "draw.h"
 #include "form.h"
+#include "own_table.h"
 #include "output.h"
 #include "survey.h"
 
@@ -110,5 +113,39 @@ int run_dump(const struct arguments *a) {
         }
     }
     survey_free(&s);
+    return finish(&b, a, status);
+}
+
+/* To standard output: are these bytes, which are no text, for a terminal? */
+static int for_terminal(const char *to) {
+    return (!to || strcmp(to, "-") == 0) && isatty(STDOUT_FILENO);
+}
+
+static int write_table(const struct book *b, const char *to) {
+    struct output o;
+    if (output_begin(&o, to) != 0)
+        return STATUS_SYSTEM;
+    own_table_write(o.stream, b->image);
+    return output_end(&o, to) == 0 ? STATUS_DONE : STATUS_SYSTEM;
+}
+
+int run_table(const struct arguments *a) {
+    struct book b;
+    struct survey s;
+    const char *to = a->values[OPTION_OUTPUT];
+    if (for_terminal(to)) {
+        say("a table is no text, and standard output is a terminal; -o OUT writes it to a file");
+        return STATUS_USAGE;
+    }
+    int status = begin_survey(&b, &s, a);
+    if (status != STATUS_DONE)
+        return status;
+    survey_free(&s);
+    if (own_table_in(b.image)) {
+        status = write_table(&b, to);
+    } else {
+        say("%s: no table of its own", a->operands[0]);
+        status = STATUS_NO;
+    }
     return finish(&b, a, status);
 }

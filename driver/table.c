@@ -15,13 +15,18 @@ enum { ANY = 1 << 30 };
     "A stream of frames is not atomic: each frame is done, and lasting, by itself. Where one is refused or is no number, and\n" \
     "at an interrupt, the frames before it stay done and are counted; after a power failure they are there too."
 
+#define OWN_TABLE \
+    "Fingerprints go by the library's table, or, with --table, by the one in the file TABLE: 256 bytes, in which each value\n" \
+    "occurs once. The book keeps that as its own, and every command goes by it. Versions before 4.0 refuse such a book."
+
 static const struct command commands[] = {
     {.name = "format",
-     .operands = "FILE --reels R --nodes N [--force]",
+     .operands = "FILE --reels R --nodes N [--table TABLE] [--force]",
      .about = "Makes a book of edition 2 with room for R reels and a pool of N nodes.",
+     .more = OWN_TABLE,
      .least = 1,
      .most = 1,
-     .options = BIT(OPTION_REELS) | BIT(OPTION_NODES) | BIT(OPTION_FORCE),
+     .options = BIT(OPTION_REELS) | BIT(OPTION_NODES) | BIT(OPTION_TABLE) | BIT(OPTION_FORCE),
      .required = BIT(OPTION_REELS) | BIT(OPTION_NODES),
      .steady = "formatting is done on steady power",
      .run = run_format},
@@ -79,10 +84,11 @@ static const struct command commands[] = {
      .run = run_reels},
     {.name = "stat",
      .operands = "FILE [--by-reel] [--json | --csv]",
-     .about = "Counts reels, frames, nodes and places, and tells the book's edition.",
+     .about = "Counts reels, frames, nodes and places, and tells the book's edition and table.",
      .more = "In edition 1 the fingerprints in a book are of the four low bytes of each frame, in edition 2 of all eight. Every\n"
              "command reads both and leaves a book in its edition; format and load make books of edition 2. Versions before 3.1\n"
-             "make books of edition 1, and refuse those of edition 2.",
+             "make books of edition 1, and refuse those of edition 2. The table is the library's, or the book's own if it was\n"
+             "made with --table.",
      .least = 1,
      .most = 1,
      .options = BIT(OPTION_BY_REEL) | FORMS,
@@ -92,22 +98,32 @@ static const struct command commands[] = {
      .about = "Writes a whole book as text, on standard output or to OUT, from which load makes it again.",
      .more =
          "The text has the lines 'reel book dump 1', 'reels R' and 'nodes N'; then, for each reel, 'reel REEL' and a line for\n"
-         "each of its frames; then 'end'. Lines that are empty or start with # count for nothing.",
+         "each of its frames; then 'end'. Lines that are empty or start with # count for nothing. A table of the book's own is\n"
+         "not in it: reelbook table writes that.",
      .least = 1,
      .most = 1,
      .options = BIT(OPTION_OUTPUT),
      .run = run_dump},
     {.name = "load",
-     .operands = "FILE [FROM] [--reels R] [--nodes N] [--force]",
+     .operands = "FILE [FROM] [--reels R] [--nodes N] [--table TABLE] [--force]",
      .about = "Makes a book of edition 2 from the text of dump, in the file FROM or on standard input.",
      .more = "The book gets as much room as the dumped one had, which always suffices, or what --reels and --nodes say. It\n"
              "takes its name when it is whole: after a refusal, an interrupt or a power failure there is no book, or, with\n"
-             "--force, still the old one.",
+             "--force, still the old one.\n\n" OWN_TABLE,
      .least = 1,
      .most = 2,
-     .options = BIT(OPTION_REELS) | BIT(OPTION_NODES) | BIT(OPTION_FORCE) | BIT(OPTION_PROGRESS) | BIT(OPTION_RATE),
+     .options = BIT(OPTION_REELS) | BIT(OPTION_NODES) | BIT(OPTION_TABLE) | BIT(OPTION_FORCE) | BIT(OPTION_PROGRESS) |
+                BIT(OPTION_RATE),
      .steady = "a book that is loaded has no name before it is whole",
      .run = run_load},
+    {.name = "table",
+     .operands = "FILE [-o OUT]",
+     .about = "Writes a book's own table, 256 bytes, on standard output or to OUT, from which format and load take it.",
+     .more = "A book that goes by the library's table has none to write: the exit status is then 1.",
+     .least = 1,
+     .most = 1,
+     .options = BIT(OPTION_OUTPUT),
+     .run = run_table},
     {.name = "check",
      .operands = "FILE",
      .about = "Says whether a book is sound and was closed cleanly. Never writes to it.",
@@ -149,7 +165,7 @@ void commands_help(void) {
          "an option. With --wait[=SECONDS] a command waits for a book that is in use by another process.\n\n"
          "The exit status, after a line on standard error from 2 on:\n"
          "  0  done; yes\n"
-         "  1  no, the answer of has\n"
+         "  1  no, the answer of has, and of table where a book has none of its own\n"
          "  2  refused by the book, with the refusal's number, or a book that is not sound\n"
          "  3  a command, an option, a number or an input that is none\n"
          "  4  a file or the system: not there, not a book, in use, full; or interrupted");

@@ -4,6 +4,7 @@
 
 #include "commands.h"
 #include "frames.h"
+#include "own_table.h"
 #include "survey.h"
 
 static int out_of_range(const char *name, uint64_t number, uint64_t most) {
@@ -19,9 +20,15 @@ int room_out_of_range(uint64_t reels, uint64_t nodes) {
 
 int run_format(const struct arguments *a) {
     uint64_t reels = a->numbers[OPTION_REELS], nodes = a->numbers[OPTION_NODES];
+    const char *path = a->values[OPTION_TABLE];
+    uint8_t table[REELBOOK_TABLE_BYTES];
     if (room_out_of_range(reels, nodes))
         return STATUS_USAGE;
-    uint64_t answer = book_format(a->operands[0], reels, nodes, a->values[OPTION_FORCE] != NULL, a->until);
+    int status = path ? own_table_read(table, path) : STATUS_DONE;
+    if (status != STATUS_DONE)
+        return status;
+    uint64_t answer =
+        book_format(a->operands[0], reels, nodes, path ? table : NULL, a->values[OPTION_FORCE] != NULL, a->until);
     return answer == REELBOOK_DONE ? STATUS_DONE : refuse(answer, a->operands[0]);
 }
 

@@ -17,10 +17,12 @@ public:
 // In ordinary memory, where a barrier has nothing to do. docs/DRIVER.md has what it does elsewhere.
 class Book {
 public:
-    Book(uint64_t reels, uint64_t nodes)
+    // An empty table is none: then fingerprints go by the library's.
+    Book(uint64_t reels, uint64_t nodes, const std::vector<uint8_t> &table = {})
         : image(reelbook_image_words(reels, nodes)), map(reelbook_map_words(nodes)), scratch(map.size()),
           heads(REELBOOK_HEADS_WORDS), script(REELBOOK_SCRIPT_WORDS) {
-        done(reelbook_format(image.data(), image.size(), map.data(), map.size(), heads.data(), reels, nodes));
+        done(reelbook_format(image.data(), image.size(), map.data(), map.size(), heads.data(), table.data(), table.size(), reels,
+                             nodes));
     }
 
     void open(uint64_t reel) {

@@ -8,12 +8,13 @@ import ctypes
 HEADS, HEAD_WORDS = 4, 5
 SCRIPT_WORDS, HEADS_WORDS, BARRIER = 50, HEADS * HEAD_WORDS, 2**64 - 1
 SLICE = [ctypes.POINTER(ctypes.c_uint64), ctypes.c_size_t]
+TABLE = [ctypes.c_char_p, ctypes.c_size_t]
 ARRAY = COUNT = [ctypes.POINTER(ctypes.c_uint64)]
 NUMBER = [ctypes.c_uint64]
 
-library = ctypes.CDLL("libreelbook.so.3")
+library = ctypes.CDLL("libreelbook.so.4")
 for name, arguments in {
-    "format": 2 * SLICE + ARRAY + 2 * NUMBER,
+    "format": 2 * SLICE + ARRAY + TABLE + 2 * NUMBER,
     "recover": 2 * SLICE + ARRAY,
     "open": 3 * SLICE + NUMBER + COUNT,
     "claim": 2 * SLICE + ARRAY + SLICE + 3 * NUMBER + 2 * COUNT,
@@ -34,19 +35,20 @@ def words(count, contents=()):
 
 
 class Book:
-    """In ordinary memory. lasting is the image at the last barrier; power, if not None, suffices for so many entries; left is
-    how many clear places the node of the last frame has left."""
+    """In ordinary memory. table, if not empty, is the book's own: 256 bytes, each value once. lasting is the image at the last
+    barrier; power, if not None, suffices for so many entries; left is how many clear places the node of the last frame has
+    left."""
 
-    def __init__(self, reels=4, nodes=16):
+    def __init__(self, reels=4, nodes=16, table=b""):
         self.image, self.map, self.heads = words(64 + 2 * reels + 80 * nodes), words((nodes + 63) // 64), words(HEADS_WORDS)
         self.script, self.used, self.left, self.power = words(SCRIPT_WORDS), ctypes.c_uint64(), ctypes.c_uint64(), None
-        self.call("format", self.image, self.map, self.heads, reels, nodes)
+        self.call("format", self.image, self.map, self.heads, table, reels, nodes)
         self.lasting = list(self.image)
 
     def call(self, operation, *arguments):
         flat = []
         for argument in arguments:  # a slice is a pointer and a length; the heads are an array, without one
-            is_slice = isinstance(argument, ctypes.Array) and argument is not self.heads
+            is_slice = isinstance(argument, (ctypes.Array, bytes)) and argument is not self.heads
             flat += [argument, len(argument)] if is_slice else [argument]
         answer = getattr(library, "reelbook_" + operation)(*flat)
         if answer != 0:
@@ -107,6 +109,11 @@ def main():
     for frame in 12, 5, 2**64 - 1:
         book.add(7, frame)
     print("reel 7:", *book.list(7), "places left:", book.left.value)
+    own = Book(table=bytes(range(255, -1, -1)))
+    own.open(7)
+    own.add(7, 12)
+    own.recover()
+    print("with its own table:", *own.list(7))
     for kept in True, False:
         held = [frames_after_failure(entries, kept) for entries in range(9)]
         assert all(frames in ([12], [12, 13]) for frames in held)

@@ -13,7 +13,7 @@ enum {
 static uint64_t image[IMAGE_WORDS], map[MAP_WORDS], heads[REELBOOK_HEADS_WORDS], script[REELBOOK_SCRIPT_WORDS], used;
 
 int main(void) {
-    uint64_t answer = reelbook_format(image, IMAGE_WORDS, map, MAP_WORDS, heads, REELS, NODES);
+    uint64_t answer = reelbook_format(image, IMAGE_WORDS, map, MAP_WORDS, heads, NULL, 0, REELS, NODES);
     printf("format: %s\n", reelbook_answer_text(answer));
     answer = reelbook_open(image, IMAGE_WORDS, map, MAP_WORDS, script, REELBOOK_SCRIPT_WORDS, 7, &used);
     printf("open: %s, %" PRIu64 " words of script\n", reelbook_answer_text(answer), used);

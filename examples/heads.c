@@ -49,7 +49,7 @@ static uint64_t add_both(uint64_t reel, uint64_t first, uint64_t second) {
 }
 
 int main(void) {
-    uint64_t frame = 0, answer = reelbook_format(image, IMAGE_WORDS, map, MAP_WORDS, heads, REELS, NODES);
+    uint64_t frame = 0, answer = reelbook_format(image, IMAGE_WORDS, map, MAP_WORDS, heads, NULL, 0, REELS, NODES);
     if (answer == REELBOOK_DONE)
         answer = carry_out(reelbook_open(image, IMAGE_WORDS, map, MAP_WORDS, script, REELBOOK_SCRIPT_WORDS, 7, &used));
     for (; answer == REELBOOK_DONE && frame < 200; frame += 2)

@@ -1,10 +1,10 @@
 /* The reel book: sets of 64-bit frames per reel, in a suffix bit tree in persistent memory.
  *
- * Every function takes its arguments as words. A slice is a pointer and a length in words; with length 0 the pointer may be NULL.
- * No buffer, nor the place of a number handed back, may overlap another, and no such place is NULL. Nobody else writes image,
- * map or heads meanwhile. A function answers REELBOOK_DONE or the number of its refusal: its refusals are tried in the sequence
- * given with it, the first that applies is the answer, every count handed back is then 0, and nothing lent has changed except as
- * said. Contents and lengths may be anything: no call is out of bounds or without end.
+ * Every function takes its arguments as words. A slice is a pointer and a length in words, that of a table in bytes; with length
+ * 0 the pointer may be NULL. No buffer, nor the place of a number handed back, may overlap another, and no such place is NULL.
+ * Nobody else writes image, map or heads meanwhile. A function answers REELBOOK_DONE or the number of its refusal: its refusals
+ * are tried in the sequence given with it, the first that applies is the answer, every count handed back is then 0, and nothing
+ * lent has changed except as said. Contents and lengths may be anything: no call is out of bounds or without end.
  *
  * A function with a script stores nothing to the image. It writes entries of two words to the script's start and their number of
  * words to *used; the caller carries them out in their sequence before the next call: a store (word index, value) is one aligned
@@ -26,22 +26,22 @@
 
 /* The version of this header, and of the library beside which it is installed. With another major number the interface is
  * another: a program has to be compiled anew, and the shared object has another name. */
-#define REELBOOK_VERSION_MAJOR 3
-#define REELBOOK_VERSION_MINOR 1
+#define REELBOOK_VERSION_MAJOR 4
+#define REELBOOK_VERSION_MINOR 0
 #define REELBOOK_VERSION_PATCH 0
-#define REELBOOK_VERSION "3.1.0"
+#define REELBOOK_VERSION "4.0.0"
 
 #ifdef __cplusplus
 extern "C" {
 #endif
 
-/* Answers; reelbook_answer_text has each in words. */
+/* Answers; reelbook_answer_text has each in words. There is no 15. */
 enum {
     REELBOOK_DONE = 0,
     REELBOOK_BAD_IMAGE = 1,    /* the image's length, its number of slots or its number of nodes is wrong */
     REELBOOK_BAD_EDITION = 2,  /* the image's edition is neither 1 nor 2 */
     REELBOOK_BAD_BUFFER = 3,   /* map or scratch map is not of the map's length, or the script is too short */
-    REELBOOK_MALFORMED = 4,    /* the tree is malformed, or a head's node or place is outside */
+    REELBOOK_MALFORMED = 4,    /* the tree or the image's own table is malformed, or a head's node or place is outside */
     REELBOOK_NO_REEL = 5,      /* no such reel */
     REELBOOK_ALREADY_OPEN = 6, /* the reel is open already */
     REELBOOK_NO_SLOT = 7,      /* no empty reel slot */
@@ -51,7 +51,8 @@ enum {
     REELBOOK_BAD_HEAD = 11,    /* no such head */
     REELBOOK_WRONG_STATE = 12, /* the head is in another state than the operation needs */
     REELBOOK_BUSY = 13,        /* another head has this frame or is at this node (Claim); a claim is open in this reel (else) */
-    REELBOOK_LIST_SHORT = 14   /* the list has too little room */
+    REELBOOK_LIST_SHORT = 14,  /* the list has too little room */
+    REELBOOK_BAD_TABLE = 16    /* the given table is not 256 bytes long, or lacks some byte */
 };
 
 /* Scripts. No operation writes more words than the minimum that it asks for. */
@@ -59,9 +60,10 @@ enum {
 #define REELBOOK_SCRIPT_WORDS 50
 
 /* The image: word 0 is the edition, 1 the number of slots, 2 that of nodes. A frame's fingerprint folds its four low bytes in
- * edition 1, all eight in edition 2. Every function reads both, each by its rule. reelbook_format writes REELBOOK_EDITION, also
- * over an image of edition 1; no other operation changes the edition. Libraries before 3.1 write edition 1 and refuse 2. Do not
- * compare an image's edition with REELBOOK_EDITION, which changes: refusal 2 tells whether it is known. */
+ * edition 1, all eight in edition 2: from h = 0 on, for each byte, lowest first, h becomes entry h ^ byte of a table. Every
+ * function reads both editions, each by its rule. reelbook_format writes REELBOOK_EDITION, also over an image of edition 1; no
+ * other operation changes a word of the header. Libraries before 3.1 write edition 1 and refuse 2. Do not compare an image's
+ * edition with REELBOOK_EDITION, which changes: refusal 2 tells whether it is known. */
 #define REELBOOK_EDITION_1 1
 #define REELBOOK_EDITION_2 2
 #define REELBOOK_EDITION REELBOOK_EDITION_2
@@ -71,6 +73,17 @@ enum {
 #define REELBOOK_HEADER_WORDS 64
 #define REELBOOK_MAX_SLOTS 4096
 #define REELBOOK_MAX_NODES 65536
+
+/* The table: the library's, whose entry i is (167 * i + 13) % 256, unless word 3 of an image of edition 2 is 1. Then it is the
+ * image's own, as reelbook_format was given it: 256 bytes, each value once, in words 8 to 39, eight entries to a word, lowest
+ * byte first. Without one a format makes these words 0. Where word 3 is above 1 in edition 2, or the own table lacks some byte,
+ * the image is not sound: reelbook_recover answers 4, and so does, just after 3, every other function but reelbook_format and
+ * reelbook_apply. Words 8 to 39 are not read unless word 3 is 1, in edition 1 word 3 neither, and words 4 to 7 and 40 to 63
+ * never. Libraries before 4.0 read none of them: do not lend these an image with its own table. */
+#define REELBOOK_OWN_AT 3
+#define REELBOOK_TABLE_AT 8
+#define REELBOOK_TABLE_WORDS 32
+#define REELBOOK_TABLE_BYTES 256
 
 /* Slots and nodes, for tools that only read. A root or next word has a node's number plus 1, or 0 for none. */
 #define REELBOOK_SLOT_WORDS 2
@@ -103,7 +116,7 @@ static inline const char *reelbook_answer_text(uint64_t answer) {
     case REELBOOK_BAD_IMAGE: return "the image's length or numbers are wrong";
     case REELBOOK_BAD_EDITION: return "the image's edition is neither 1 nor 2";
     case REELBOOK_BAD_BUFFER: return "a buffer has the wrong length";
-    case REELBOOK_MALFORMED: return "the tree is malformed";
+    case REELBOOK_MALFORMED: return "the tree or the image's own table is malformed";
     case REELBOOK_NO_REEL: return "no such reel";
     case REELBOOK_ALREADY_OPEN: return "the reel is open already";
     case REELBOOK_NO_SLOT: return "no empty reel slot";
@@ -114,6 +127,7 @@ static inline const char *reelbook_answer_text(uint64_t answer) {
     case REELBOOK_WRONG_STATE: return "the head is in another state";
     case REELBOOK_BUSY: return "an open claim is in the way";
     case REELBOOK_LIST_SHORT: return "the list has too little room";
+    case REELBOOK_BAD_TABLE: return "the given table is not 256 bytes with each byte once";
     default: return "unknown answer";
     }
 }
@@ -129,66 +143,73 @@ static inline size_t reelbook_map_words(uint64_t nodes) {
     return ((nodes + 63) / 64) & SIZE_MAX;
 }
 
-/* Makes the image anew, of edition 2, whatever it was. Refusals 1, 3. Writes the image's header and roots itself, clears the map,
- * makes the heads idle; lasting when the caller has passed a barrier. Not safe against a power failure before that: then format
- * again. */
+/* Makes the image anew, of edition 2, whatever it was. Refusals 1, 3, 16. Writes the image's header and roots itself, clears the
+ * map, makes the heads idle; lasting when the caller has passed a barrier. Not safe against a power failure before that: then
+ * format again. The table, of REELBOOK_TABLE_BYTES bytes, each value once, becomes the image's own, by which its fingerprints go
+ * until it is formatted again; one of length 0 is none, and the library's applies. One that equals the library's is an own one
+ * all the same. It is only read, and not needed any more when the function returns. */
 uint64_t reelbook_format(uint64_t *image, size_t image_words, uint64_t *map, size_t map_words,
-                         uint64_t heads[REELBOOK_HEADS_WORDS], uint64_t slots, uint64_t nodes);
+                         uint64_t heads[REELBOOK_HEADS_WORDS], const uint8_t *table, size_t table_bytes, uint64_t slots,
+                         uint64_t nodes);
 
 /* After power-up, before anything else, and again until it answers 0. Refusals 1, 2, 3, 4; after 4 the image is as it was and the
  * map all 0. Stores to the image itself, each word whole; builds the map, makes the heads idle; open claims are lost. It has
  * ended when the caller has passed a barrier; a power failure before that does no harm. The image is judged by its edition's
- * rule, and keeps its edition. On an image of edition 1 that an earlier library left, this is the start too: its frames stay. */
+ * rule and its own table, and keeps both; an own table that is malformed is a 4 like any other. On an image of edition 1 that an
+ * earlier library left, this is the start too: its frames stay. */
 uint64_t reelbook_recover(uint64_t *image, size_t image_words, uint64_t *map, size_t map_words,
                           uint64_t heads[REELBOOK_HEADS_WORDS]);
 
-/* Opens a reel. Refusals 1, 2, 3, 6, 7, 8. Marks a node in the map. */
+/* Opens a reel. Refusals 1, 2, 3, 4 for the table, 6, 7, 8. Marks a node in the map. */
 uint64_t reelbook_open(const uint64_t *image, size_t image_words, uint64_t *map, size_t map_words, uint64_t *script,
                        size_t script_words, uint64_t reel, uint64_t *used);
 
-/* Takes a place for a frame. Refusals 1, 2, 3, 11, 12 unless the head is idle, 5, 4, 9, 13, 8. 13 is for another head that has a
- * claim open in this reel, with the same frame, or at the very node in which this claim would take its place: not at a full node
- * that would get children, and at none if there are no free nodes for these. Other heads may be at work in the reel. The head is
- * claimed; new nodes are marked in the map. The frame is not held before its commit, and a claim that a power failure cuts short
- * leaves no frame. *left is how many clear places the node of this place has left: its size, after any scale-up, minus the ones
- * of its locate word with this place taken. At 0 the node is full, and the next frame there takes a larger node or one below. */
+/* Takes a place for a frame. Refusals 1, 2, 3, 4 for the table, 11, 12 unless the head is idle, 5, 4, 9, 13, 8. 13 is for another
+ * head that has a claim open in this reel, with the same frame, or at the very node in which this claim would take its place: not
+ * at a full node that would get children, and at none if there are no free nodes for these. Other heads may be at work in the
+ * reel. The head is claimed; new nodes are marked in the map. The frame is not held before its commit, and a claim that a power
+ * failure cuts short leaves no frame. *left is how many clear places the node of this place has left: its size, after any
+ * scale-up, minus the ones of its locate word with this place taken. At 0 the node is full, and the next frame there takes a
+ * larger node or one below. */
 uint64_t reelbook_claim(const uint64_t *image, size_t image_words, uint64_t *map, size_t map_words,
                         uint64_t heads[REELBOOK_HEADS_WORDS], uint64_t *script, size_t script_words, uint64_t head, uint64_t reel,
                         uint64_t frame, uint64_t *used, uint64_t *left);
 
-/* Writes the frame to the claimed place. Refusals 1, 2, 3, 11, 12 unless the head is claimed, 4. The head is filled. */
+/* Writes the frame to the claimed place. Refusals 1, 2, 3, 4 for the table, 11, 12 unless the head is claimed, 4. The head is
+ * filled. */
 uint64_t reelbook_fill(const uint64_t *image, size_t image_words, uint64_t heads[REELBOOK_HEADS_WORDS], uint64_t *script,
                        size_t script_words, uint64_t head, uint64_t *used);
 
-/* Makes the frame a member of its reel: it is held from this script's barrier on. Refusals 1, 2, 3, 11, 12 unless the head is
- * filled, 4. The head is idle. */
+/* Makes the frame a member of its reel: it is held from this script's barrier on. Refusals 1, 2, 3, 4 for the table, 11, 12
+ * unless the head is filled, 4. The head is idle. */
 uint64_t reelbook_commit(const uint64_t *image, size_t image_words, uint64_t heads[REELBOOK_HEADS_WORDS], uint64_t *script,
                          size_t script_words, uint64_t head, uint64_t *used);
 
-/* Gives the claimed place back. Refusals 1, 2, 3, 11, 12 if the head is idle, 4. The head is idle. */
+/* Gives the claimed place back. Refusals 1, 2, 3, 4 for the table, 11, 12 if the head is idle, 4. The head is idle. */
 uint64_t reelbook_abandon(const uint64_t *image, size_t image_words, uint64_t heads[REELBOOK_HEADS_WORDS], uint64_t *script,
                           size_t script_words, uint64_t head, uint64_t *used);
 
-/* Takes a frame out of its reel. Refusals 1, 2, 3, 5, 13 while a claim is open in the reel, 4, 10. */
+/* Takes a frame out of its reel. Refusals 1, 2, 3, 4 for the table, 5, 13 while a claim is open in the reel, 4, 10. */
 uint64_t reelbook_remove(const uint64_t *image, size_t image_words, const uint64_t heads[REELBOOK_HEADS_WORDS], uint64_t *script,
                          size_t script_words, uint64_t reel, uint64_t frame, uint64_t *used);
 
-/* Does a reel hold a frame? 1 or 0 in *yes. Refusals 1, 2, 5, 4. */
+/* Does a reel hold a frame? 1 or 0 in *yes. Refusals 1, 2, 4 for the table, 5, 4. */
 uint64_t reelbook_has(const uint64_t *image, size_t image_words, uint64_t reel, uint64_t frame, uint64_t *yes);
 
-/* Writes a reel's frames to the list's start, each once, and their number to *count. Refusals 1, 2, 3, 5, 4, 14; nothing is
- * written to the list then. The scratch map is all 0 after any end but 1, 2 or 3. */
+/* Writes a reel's frames to the list's start, each once, and their number to *count. Refusals 1, 2, 3, 4 for the table, 5, 4,
+ * 14; nothing is written to the list then. The scratch map is all 0 after any end but 1, 2 or 3. */
 uint64_t reelbook_list(const uint64_t *image, size_t image_words, uint64_t *scratch, size_t scratch_words, uint64_t *list,
                        size_t list_words, uint64_t reel, uint64_t *count);
 
-/* Takes a reel out with all its frames; its nodes become free in the map. Refusals 1, 2, 3, 5, 13 while a claim is open in the
- * reel, 4. The scratch map is all 0 after any end but 1, 2 or 3. */
+/* Takes a reel out with all its frames; its nodes become free in the map. Refusals 1, 2, 3, 4 for the table, 5, 13 while a
+ * claim is open in the reel, 4. The scratch map is all 0 after any end but 1, 2 or 3. */
 uint64_t reelbook_retire(const uint64_t *image, size_t image_words, uint64_t *map, size_t map_words,
                          const uint64_t heads[REELBOOK_HEADS_WORDS], uint64_t *scratch, size_t scratch_words, uint64_t *script,
                          size_t script_words, uint64_t reel, uint64_t *used);
 
 /* Makes a script's stores on an image, barriers skipped: not for an image that must outlast a power failure meanwhile. Refusals
- * 1; 3 if the script is odd in length or an entry is neither a barrier nor a store inside the image, with nothing written. */
+ * 1; 3 if the script is odd in length or an entry is neither a barrier nor a store inside the image, with nothing written. Reads
+ * neither edition nor table. */
 uint64_t reelbook_apply(uint64_t *image, size_t image_words, const uint64_t *script, size_t script_words);
 
 #ifdef __cplusplus

@@ -1,5 +1,6 @@
 # reelbook.3 from include/reelbook.h, examples/first.c and man/reelbook.3.in, given in this sequence; version is a variable.
-# A function's text is the comment before it; an answer's name and number are the enum's, its text is reelbook_answer_text's.
+# A function's text is the comment before it; an answer's name and number, which rise, are the enum's, its text is
+# reelbook_answer_text's.
 
 function roff(text) {
     gsub(/\\/, "\\e", text)
@@ -38,7 +39,7 @@ file == 1 && (/^\/\*/ || (in_comment && /^ \*/)) {
     in_comment = !/\*\/ *$/
     next
 }
-file == 1 && /^    REELBOOK_[A-Z_]+ = [0-9]+,? *\/\*|^    REELBOOK_DONE/ { name[$3 + 0] = $1; answers++ }
+file == 1 && /^    REELBOOK_[A-Z_]+ = [0-9]+,? *\/\*|^    REELBOOK_DONE/ { last = $3 + 0; name[last] = $1; answers++ }
 file == 1 && /^    case REELBOOK_/ { split($0, part, "\""); text[substr($2, 1, length($2) - 1)] = part[2] }
 file == 1 && /^(uint64_t|static inline) .*reelbook_/ {
     function_name = $0
@@ -62,11 +63,11 @@ file == 3 && /^@SYNOPSIS@$/ { printf "%s", synopsis; next }
 file == 3 && /^@FUNCTIONS@$/ { printf "%s", functions; next }
 file == 3 && /^@EXAMPLE@$/ { printf "%s", example; next }
 file == 3 && /^@ANSWERS@$/ {
-    for (i = 0; i < answers; i++)
-        if (text[name[i]] == "")
+    for (i = 0; i <= last; i++)
+        if (i in name && text[name[i]] == "")
             missing = missing " " i
-        else
-            printf "%d\t\\fB%s\\fR\t%s\n", i, name[i], roff(text[name[i]])
+        else if (i in name)
+            printf "%d\t\\fB%s\\fR\tT{\n%s\nT}\n", i, name[i], roff(text[name[i]])
     next
 }
 file == 3 && /^\.\\"/ { next }

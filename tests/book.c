@@ -32,25 +32,56 @@ uint64_t *junk(size_t words) {
     return memory;
 }
 
-void book_format(struct book *b, uint64_t slots, uint64_t nodes) {
+static void format(struct book *b, const uint8_t *table, size_t table_bytes, uint64_t slots, uint64_t nodes) {
     memset(b, JUNK, sizeof *b);
     b->image_words = reelbook_image_words(slots, nodes);
     b->map_words = reelbook_map_words(nodes);
     b->image = junk(b->image_words);
     b->map = junk(b->map_words);
     b->scratch = junk(b->map_words);
-    equal(reelbook_format(b->image, b->image_words, b->map, b->map_words, b->heads, slots, nodes), REELBOOK_DONE, "format");
+    equal(reelbook_format(b->image, b->image_words, b->map, b->map_words, b->heads, table, table_bytes, slots, nodes),
+          REELBOOK_DONE, "format");
 }
 
-void book_format_as(struct book *b, uint64_t edition, uint64_t slots, uint64_t nodes) {
-    book_format(b, slots, nodes);
-    b->image[REELBOOK_EDITION_AT] = edition;
+void book_format(struct book *b, uint64_t slots, uint64_t nodes) {
+    format(b, NULL, 0, slots, nodes);
 }
 
-unsigned fingerprint(uint64_t edition, uint64_t frame) {
-    unsigned h = 0, byte, bytes = edition == REELBOOK_EDITION_1 ? 4 : 8;
+static unsigned entry(unsigned rule, unsigned index) {
+    return rule == OWN_TABLE ? (29 * index + 7) % 256 : (167 * index + 13) % 256;
+}
+
+void own_table(uint8_t table[REELBOOK_TABLE_BYTES]) {
+    unsigned index;
+    for (index = 0; index < REELBOOK_TABLE_BYTES; index++) {
+        table[index] = (uint8_t)entry(OWN_TABLE, index);
+    }
+}
+
+void book_format_as(struct book *b, unsigned rule, uint64_t slots, uint64_t nodes) {
+    uint8_t table[REELBOOK_TABLE_BYTES];
+    own_table(table);
+    format(b, table, rule == OWN_TABLE ? REELBOOK_TABLE_BYTES : 0, slots, nodes);
+    if (rule == EDITION_1) {
+        b->image[REELBOOK_EDITION_AT] = REELBOOK_EDITION_1;
+    }
+}
+
+/* Words 3 and 8 to 39 by the specification's layout. */
+void book_go_by(struct book *b, unsigned rule) {
+    unsigned index;
+    b->image[REELBOOK_EDITION_AT] = rule == EDITION_1 ? REELBOOK_EDITION_1 : REELBOOK_EDITION_2;
+    b->image[3] = rule == OWN_TABLE;
+    for (index = 0; index < REELBOOK_TABLE_BYTES; index++) {
+        b->image[8 + index / 8] &= ~((uint64_t)255 << 8 * (index % 8));
+        b->image[8 + index / 8] |= (uint64_t)(rule == OWN_TABLE ? entry(rule, index) : 0) << 8 * (index % 8);
+    }
+}
+
+unsigned fingerprint(unsigned rule, uint64_t frame) {
+    unsigned h = 0, byte, bytes = rule == EDITION_1 ? 4 : 8;
     for (byte = 0; byte < bytes; byte++) {
-        h = (167 * (h ^ (unsigned)(frame >> 8 * byte & 255)) + 13) % 256;
+        h = entry(rule, h ^ (unsigned)(frame >> 8 * byte & 255));
     }
     return h;
 }

@@ -24,14 +24,24 @@ void equal(uint64_t found, uint64_t expected, const char *what);
 uint64_t *zeroed(size_t words);
 uint64_t *junk(size_t words);
 
+/* Without a table. */
 void book_format(struct book *b, uint64_t slots, uint64_t nodes);
 void book_free(struct book *b);
 
-/* Formatted, and then of this edition: an image without frames has no fingerprint by which the editions differ. */
-void book_format_as(struct book *b, uint64_t edition, uint64_t slots, uint64_t nodes);
+/* What a book's fingerprints can go by: an edition with the library's table, or edition 2 with its own. */
+enum { EDITION_1 = 1, EDITION_2 = 2, OWN_TABLE = 3 };
 
-/* The specification's fingerprint of a frame in an edition. */
-unsigned fingerprint(uint64_t edition, uint64_t frame);
+/* An own table: 256 bytes, each once. */
+void own_table(uint8_t table[REELBOOK_TABLE_BYTES]);
+
+/* Formatted with a table or without; then of this edition: an image without frames has no fingerprint by which they differ. */
+void book_format_as(struct book *b, unsigned rule, uint64_t slots, uint64_t nodes);
+
+/* The header's words that tell the rule, and a table where it needs one. */
+void book_go_by(struct book *b, unsigned rule);
+
+/* The specification's fingerprint of a frame. */
+unsigned fingerprint(unsigned rule, uint64_t frame);
 
 /* The operations, by their answers. */
 uint64_t book_open(struct book *b, uint64_t reel);

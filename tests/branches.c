@@ -1,9 +1,10 @@
-/* Which instructions Has, Remove, Claim and Fill execute does not, in either edition, depend on a bit of the frame, nor in
- * Recover, at some levels, on the child to which a held frame goes: a branch on a bit would often be mispredicted. A call is
- * made one instruction at a time, by the trap flag, and the addresses of its instructions, in their sequence, are taken
- * together in one number, its trace. In the trees here nothing but the child numbers tells the path of one frame from that of
- * another: the nodes of a level have all children in common, and no node has the frame's fingerprint. Recover would refuse
- * such a tree; it gets one with a single path. Linux on x86-64. */
+/* Which instructions Has, Remove, Claim and Fill execute does not, in either edition or with an own table, depend on a bit of the
+ * frame, nor in Recover, at some levels, on the child to which a held frame goes: a branch on a bit would often be mispredicted.
+ * Which entries of a table are read does depend on the frame, and is no branch. A call is made one instruction at a time, by the
+ * trap flag, and the addresses of its instructions, in their sequence, are taken together in one number, its trace. In the trees
+ * here nothing but the child numbers tells the path of one frame from that of another: the nodes of a level have all children in
+ * common, and no node has the frame's fingerprint. Recover would refuse such a tree; it gets one with a single path. Linux on
+ * x86-64. */
 #define _GNU_SOURCE
 #include <stdio.h>
 
@@ -97,9 +98,10 @@ static uint64_t child(uint64_t level, uint64_t frame) {
     return level < 3 ? frame >> level & 1 : (frame >> (2 * level - 3) & 1) + 2 * (frame >> (2 * level - 2) & 1);
 }
 
-/* In the image's edition. */
+/* By the image's rule. */
+static unsigned rule;
 static unsigned print_of(uint64_t frame) {
-    return fingerprint(b.image[REELBOOK_EDITION_AT], frame);
+    return fingerprint(rule, frame);
 }
 
 /* A node with its bitmaps, and one fingerprint at all places. */
@@ -212,9 +214,9 @@ static void check_recovery(uint64_t level) {
     }
 }
 
-static void check_edition(uint64_t edition) {
+static void check_rule(void) {
     uint64_t level;
-    b.image[REELBOOK_EDITION_AT] = edition;
+    book_go_by(&b, rule);
     equal(differing(has, REELBOOK_DONE), 0, "frames for which Has goes another way");
     equal(differing(take_out, REELBOOK_NOT_HELD), 0, "frames for which Remove goes another way");
     equal(differing(claim, REELBOOK_MALFORMED), 0, "frames for which Claim goes another way");
@@ -232,8 +234,9 @@ int main(void) {
     book_format(&b, 1, NODES);
     equal(book_open(&b, REEL), REELBOOK_DONE, "open");
     handle(SIGTRAP, on_step);
-    check_edition(REELBOOK_EDITION_1);
-    check_edition(REELBOOK_EDITION_2);
+    for (rule = EDITION_1; rule <= OWN_TABLE; rule++) {
+        check_rule();
+    }
     for (branch_bit = 0; branch_bit < BITS; branch_bit++) {
         equal(differing(branch, REELBOOK_DONE), FRAMES / 2, "frames for which a branch on a bit goes another way");
     }

@@ -15,11 +15,15 @@ static void same_text(const char *found, const char *expected, const char *what)
     }
 }
 
+static void same_header(const struct book *found, const struct book *expected, const char *what) {
+    equal((uint64_t)memcmp(found->image, expected->image, REELBOOK_HEADER_WORDS * sizeof *found->image), 0, what);
+}
+
 /* The answer of a format with these lengths. */
 static uint64_t format_answer(size_t image_words, size_t map_words, uint64_t slots, uint64_t nodes) {
     uint64_t heads[REELBOOK_HEADS_WORDS];
     uint64_t *image = junk(image_words), *map = junk(map_words);
-    uint64_t answer = reelbook_format(image, image_words, map, map_words, heads, slots, nodes);
+    uint64_t answer = reelbook_format(image, image_words, map, map_words, heads, NULL, 0, slots, nodes);
     free(image);
     free(map);
     return answer;
@@ -64,6 +68,53 @@ static void check_header_words(void) {
         equal(b.image[word], 0, "the header's other words");
     }
     book_free(&b);
+}
+
+static uint64_t format_again(struct book *b, const uint8_t *table, size_t table_bytes) {
+    return reelbook_format(b->image, b->image_words, b->map, b->map_words, b->heads, table, table_bytes, REELS, NODES);
+}
+
+/* A refused table: the image is as it was, and so are map and heads. */
+static void check_given(struct book *b, const uint8_t *table, size_t table_bytes) {
+    uint64_t *image = zeroed(b->image_words);
+    memcpy(image, b->image, b->image_words * sizeof *image);
+    b->map[0] = b->heads[0] = JUNK;
+    equal(format_again(b, table, table_bytes), REELBOOK_BAD_TABLE, "REELBOOK_BAD_TABLE");
+    b->map_words++;
+    equal(format_again(b, table, table_bytes), REELBOOK_BAD_BUFFER, "a wrong length before REELBOOK_BAD_TABLE");
+    b->map_words--;
+    equal((uint64_t)memcmp(b->image, image, b->image_words * sizeof *image), 0, "the image after REELBOOK_BAD_TABLE");
+    equal(b->map[0], JUNK, "the map after REELBOOK_BAD_TABLE");
+    equal(b->heads[0], JUNK, "the heads after REELBOOK_BAD_TABLE");
+    free(image);
+}
+
+/* A format with a table has it in its header, and one without has none, also over one that had. */
+static void check_tables(void) {
+    uint8_t table[2 * REELBOOK_TABLE_BYTES];
+    struct book b, same;
+    own_table(table);
+    own_table(&table[REELBOOK_TABLE_BYTES]);
+    book_format(&b, REELS, NODES);
+    book_format(&same, REELS, NODES);
+    book_go_by(&same, OWN_TABLE);
+    equal(format_again(&b, table, REELBOOK_TABLE_BYTES), REELBOOK_DONE, "format with a table");
+    same_header(&b, &same, "the header with a table");
+    equal(b.image[REELBOOK_OWN_AT], 1, "REELBOOK_OWN_AT");
+    equal(b.image[REELBOOK_TABLE_AT] & 0xffff, 7 + 256 * 36, "REELBOOK_TABLE_AT");
+    equal(b.image[REELBOOK_TABLE_AT + REELBOOK_TABLE_WORDS - 1] >> 56, 234, "REELBOOK_TABLE_WORDS");
+    equal(b.image[REELBOOK_TABLE_AT + REELBOOK_TABLE_WORDS], 0, "the word behind the table");
+    check_given(&b, table, 1);
+    check_given(&b, table, REELBOOK_TABLE_BYTES - 1);
+    check_given(&b, table, REELBOOK_TABLE_BYTES + 1);
+    check_given(&b, table, 2 * REELBOOK_TABLE_BYTES);
+    table[REELBOOK_TABLE_BYTES - 1] = 0;
+    check_given(&b, table, REELBOOK_TABLE_BYTES);
+    book_go_by(&same, EDITION_2);
+    equal(format_again(&b, table, 0), REELBOOK_DONE, "format with a table of length 0");
+    same_header(&b, &same, "the header without a table");
+    book_free(&b);
+    book_free(&same);
 }
 
 /* Reel 7 has a branch-out of two, so that reel 9 has slot 2 and node 4; then frame 1005 gets place 5. */
@@ -250,63 +301,110 @@ static void check_refusals_of_images(void) {
     book_free(&b);
 }
 
-/* A reel with three frames, of which two differ in the upper bytes alone. An edition has its fingerprints and is read by them; by
- * the other edition's rule the frames are not held and the image is not sound. No operation changes the edition. */
-static void check_edition(uint64_t edition, uint64_t prints, uint64_t other) {
+/* A reel with three frames, of which two differ in the upper bytes alone. A rule has its fingerprints and is read by them; by
+ * another the frames are not held and the image is not sound. No operation changes the header. */
+static void check_rule(unsigned rule, uint64_t prints, unsigned other) {
     static const uint64_t frames[] = {0, 1, UINT64_C(1) << 32};
-    struct book b;
+    struct book b, same;
     size_t i;
-    book_format_as(&b, edition, REELS, NODES);
+    book_format_as(&b, rule, REELS, NODES);
+    book_format(&same, REELS, NODES);
+    book_go_by(&same, rule);
     equal(book_open(&b, 7), REELBOOK_DONE, "open");
     for (i = 0; i < 3; i++) {
         book_add(&b, 7, frames[i], 0, 1);
-        equal(book_claim(&b, 0, 7, frames[i]), REELBOOK_FRAME_HELD, "claim of a frame held in this edition");
+        equal(book_claim(&b, 0, 7, frames[i]), REELBOOK_FRAME_HELD, "claim of a frame held by this rule");
     }
-    equal(node_word(&b, 0, REELBOOK_NODE_FINGERPRINTS) & 0xffffff, prints, "fingerprints in this edition");
-    equal(book_recover(&b), REELBOOK_DONE, "recover in this edition");
-    equal(b.image[REELBOOK_EDITION_AT], edition, "the edition after a recovery");
-    b.image[REELBOOK_EDITION_AT] = other;
-    equal(book_recover(&b), REELBOOK_MALFORMED, "recover by the other edition's rule");
+    equal(node_word(&b, 0, REELBOOK_NODE_FINGERPRINTS) & 0xffffff, prints, "fingerprints by this rule");
+    equal(book_recover(&b), REELBOOK_DONE, "recover by this rule");
+    same_header(&b, &same, "the header after a recovery");
+    book_go_by(&b, other);
+    equal(book_recover(&b), REELBOOK_MALFORMED, "recover by another rule");
     for (i = 0; i < 3; i++) {
-        equal(reelbook_has(b.image, b.image_words, 7, frames[i], &b.count), REELBOOK_DONE, "has by the other edition's rule");
-        equal(b.count, 0, "no of has by the other edition's rule");
-        equal(book_remove(&b, 7, frames[i]), REELBOOK_NOT_HELD, "remove by the other edition's rule");
+        equal(reelbook_has(b.image, b.image_words, 7, frames[i], &b.count), REELBOOK_DONE, "has by another rule");
+        equal(b.count, 0, "no of has by another rule");
+        equal(book_remove(&b, 7, frames[i]), REELBOOK_NOT_HELD, "remove by another rule");
     }
-    b.image[REELBOOK_EDITION_AT] = edition;
+    book_go_by(&b, rule);
     for (i = 0; i < 3; i++) {
-        equal(book_remove(&b, 7, frames[i]), REELBOOK_DONE, "remove in this edition");
+        equal(book_remove(&b, 7, frames[i]), REELBOOK_DONE, "remove by this rule");
     }
-    equal(book_retire(&b, 7), REELBOOK_DONE, "retire in this edition");
-    equal(b.image[REELBOOK_EDITION_AT], edition, "the edition after all operations");
+    equal(book_retire(&b, 7), REELBOOK_DONE, "retire by this rule");
+    same_header(&b, &same, "the header after all operations");
     book_free(&b);
+    book_free(&same);
 }
 
-/* Every function that reads the image refuses it; Apply reads no edition, and Format none that is there. */
+/* Every function that reads the image refuses it; Apply reads neither edition nor table. The reel is one that is there or not. */
+static void check_refused(struct book *b, uint64_t reel, uint64_t answer, const char *what) {
+    equal(book_recover(b), answer, what);
+    equal(book_open(b, reel), answer, what);
+    equal(book_claim(b, 0, reel, 100), answer, what);
+    equal(book_fill(b, 0), answer, what);
+    equal(book_commit(b, 0), answer, what);
+    equal(book_abandon(b, REELBOOK_HEADS), answer, what);
+    equal(book_remove(b, reel, 1), answer, what);
+    equal(reelbook_has(b->image, b->image_words, reel, 1, &b->count), answer, what);
+    equal(b->count, 0, "the count of a refused call");
+    equal(book_list(b, 0, reel), answer, what);
+    equal(b->count, 0, "the count of a refused call");
+    equal(book_retire(b, reel), answer, what);
+    b->script[0] = REELBOOK_BARRIER;
+    b->script[1] = 0;
+    equal(reelbook_apply(b->image, b->image_words, b->script, 2), REELBOOK_DONE, "apply on a refused image");
+}
+
 static void check_unknown_edition(uint64_t edition) {
     struct book b;
     make_tree(&b);
     b.image[REELBOOK_EDITION_AT] = edition;
-    equal(book_recover(&b), REELBOOK_BAD_EDITION, "recover in an unknown edition");
-    equal(book_open(&b, 10), REELBOOK_BAD_EDITION, "open in an unknown edition");
-    equal(book_claim(&b, 0, 7, 100), REELBOOK_BAD_EDITION, "claim in an unknown edition");
-    equal(book_fill(&b, 0), REELBOOK_BAD_EDITION, "fill in an unknown edition");
-    equal(book_commit(&b, 0), REELBOOK_BAD_EDITION, "commit in an unknown edition");
-    equal(book_abandon(&b, 0), REELBOOK_BAD_EDITION, "abandon in an unknown edition");
-    equal(book_remove(&b, 7, 1), REELBOOK_BAD_EDITION, "remove in an unknown edition");
-    equal(reelbook_has(b.image, b.image_words, 7, 1, &b.count), REELBOOK_BAD_EDITION, "has in an unknown edition");
-    equal(book_list(&b, LIST_WORDS, 7), REELBOOK_BAD_EDITION, "list in an unknown edition");
-    equal(book_retire(&b, 7), REELBOOK_BAD_EDITION, "retire in an unknown edition");
-    b.script[0] = REELBOOK_BARRIER;
-    b.script[1] = 0;
-    equal(reelbook_apply(b.image, b.image_words, b.script, 2), REELBOOK_DONE, "apply in an unknown edition");
+    check_refused(&b, 7, REELBOOK_BAD_EDITION, "an unknown edition");
+    check_refused(&b, 10, REELBOOK_BAD_EDITION, "an unknown edition");
     equal(b.image[REELBOOK_EDITION_AT], edition, "an unknown edition after refusals");
     book_free(&b);
 }
 
+/* In edition 2 a table that is not one: 4, just after 3; in edition 1 it is not read. Maps are clear then as after any 4. */
+static void check_bad_table(uint64_t own, unsigned at, uint8_t entry) {
+    struct book b, same;
+    make_tree(&b);
+    make_tree(&same);
+    book_go_by(&b, OWN_TABLE);
+    b.image[REELBOOK_OWN_AT] = own;
+    b.image[REELBOOK_TABLE_AT + at / 8] &= ~(UINT64_C(255) << 8 * (at % 8));
+    b.image[REELBOOK_TABLE_AT + at / 8] |= (uint64_t)entry << 8 * (at % 8);
+    memcpy(same.image, b.image, b.image_words * sizeof *b.image);
+    check_refused(&b, 7, REELBOOK_MALFORMED, "a bad table");
+    check_refused(&b, 10, REELBOOK_MALFORMED, "a bad table");
+    equal(b.map[0], 0, "the map after a recovery refused for its table");
+    equal(b.scratch[0], 0, "the scratch map after a list refused for its table");
+    b.map_words++;
+    equal(book_list(&b, LIST_WORDS, 7), REELBOOK_BAD_BUFFER, "a wrong length before a bad table");
+    b.map_words--;
+    equal((uint64_t)memcmp(b.image, same.image, b.image_words * sizeof *b.image), 0, "a bad table after refusals");
+    b.image[REELBOOK_EDITION_AT] = REELBOOK_EDITION_1;
+    equal(book_list(&b, LIST_WORDS, 7), REELBOOK_DONE, "list in edition 1 with what is a bad table in edition 2");
+    equal(format_again(&b, NULL, 0), REELBOOK_DONE, "format over a bad table");
+    equal(book_open(&b, 7), REELBOOK_DONE, "open after a format over a bad table");
+    book_free(&b);
+    book_free(&same);
+}
+
+/* The entries 0 and 255 of the own table are 7 and 234. */
+static void check_bad_tables(void) {
+    check_bad_table(2, 0, 7);
+    check_bad_table(UINT64_MAX, 0, 7);
+    check_bad_table((UINT64_C(1) << 32) + 1, 0, 7);
+    check_bad_table(UINT64_C(1) << 63, 0, 7);
+    check_bad_table(1, 0, 8);
+    check_bad_table(1, 255, 7);
+}
+
 static void check_format_over(uint64_t edition) {
     struct book b;
-    book_format_as(&b, edition, REELS, NODES);
-    equal(reelbook_format(b.image, b.image_words, b.map, b.map_words, b.heads, REELS, NODES), REELBOOK_DONE, "format again");
+    book_format(&b, REELS, NODES);
+    b.image[REELBOOK_EDITION_AT] = edition;
+    equal(format_again(&b, NULL, 0), REELBOOK_DONE, "format again");
     equal(b.image[REELBOOK_EDITION_AT], 2, "the edition after a format over another");
     book_free(&b);
 }
@@ -314,8 +412,10 @@ static void check_format_over(uint64_t edition) {
 static void check_editions(void) {
     static const uint64_t unknown[] = {0, 3, UINT64_MAX, (UINT64_C(1) << 32) + 1, (UINT64_C(1) << 32) + 2};
     size_t i;
-    check_edition(REELBOOK_EDITION_1, 144 + 256 * 113 + 65536 * 144, 2);
-    check_edition(REELBOOK_EDITION_2, 32 + 256 * 225 + 65536 * 1, 1);
+    check_rule(EDITION_1, 144 + 256 * 113 + 65536 * 144, EDITION_2);
+    check_rule(EDITION_2, 32 + 256 * 225 + 65536 * 1, EDITION_1);
+    check_rule(EDITION_2, 32 + 256 * 225 + 65536 * 1, OWN_TABLE);
+    check_rule(OWN_TABLE, 168 + 256 * 73 + 65536 * 121, EDITION_2);
     for (i = 0; i < sizeof unknown / sizeof unknown[0]; i++) {
         check_unknown_edition(unknown[i]);
         check_format_over(unknown[i]);
@@ -325,8 +425,8 @@ static void check_editions(void) {
 
 static void check_version(void) {
     char version[64];
-    equal(REELBOOK_VERSION_MAJOR, 3, "REELBOOK_VERSION_MAJOR");
-    equal(REELBOOK_VERSION_MINOR, 1, "REELBOOK_VERSION_MINOR");
+    equal(REELBOOK_VERSION_MAJOR, 4, "REELBOOK_VERSION_MAJOR");
+    equal(REELBOOK_VERSION_MINOR, 0, "REELBOOK_VERSION_MINOR");
     equal(REELBOOK_VERSION_PATCH, 0, "REELBOOK_VERSION_PATCH");
     snprintf(version, sizeof version, "%d.%d.%d", REELBOOK_VERSION_MAJOR, REELBOOK_VERSION_MINOR, REELBOOK_VERSION_PATCH);
     same_text(REELBOOK_VERSION, version, "REELBOOK_VERSION");
@@ -336,11 +436,12 @@ static void check_version(void) {
 static void check_texts(void) {
     static const char *const texts[] = {
         "done", "the image's length or numbers are wrong", "the image's edition is neither 1 nor 2",
-        "a buffer has the wrong length", "the tree is malformed", "no such reel", "the reel is open already",
-        "no empty reel slot", "not enough adjacent free nodes", "held already", "not held", "no such head",
-        "the head is in another state", "an open claim is in the way", "the list has too little room", "unknown answer"};
+        "a buffer has the wrong length", "the tree or the image's own table is malformed", "no such reel",
+        "the reel is open already", "no empty reel slot", "not enough adjacent free nodes", "held already", "not held",
+        "no such head", "the head is in another state", "an open claim is in the way", "the list has too little room",
+        "unknown answer", "the given table is not 256 bytes with each byte once", "unknown answer"};
     uint64_t answer;
-    equal(sizeof texts / sizeof texts[0], REELBOOK_LIST_SHORT + 2, "a text for each answer, and one for any other");
+    equal(sizeof texts / sizeof texts[0], REELBOOK_BAD_TABLE + 2, "a text for each answer, and one for any other");
     for (answer = 0; answer < sizeof texts / sizeof texts[0]; answer++) {
         same_text(reelbook_answer_text(answer), texts[answer], "reelbook_answer_text");
     }
@@ -354,6 +455,7 @@ int main(void) {
     check_sizes();
     check_maxima();
     check_header_words();
+    check_tables();
     check_records();
     check_tree_words();
     check_script();
@@ -364,6 +466,7 @@ int main(void) {
     check_refusals_of_frames();
     check_refusals_of_images();
     check_editions();
+    check_bad_tables();
     printf("header: %u checks, %u failures\n", checks, failures);
     return failures != 0;
 }

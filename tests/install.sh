@@ -129,10 +129,15 @@ open: done, 18 words of script' "$cc"
 answer 0, held' "$cc"
     prints heads.c '200 frames: done; head 1 had to wait 32 times, a node was full 5 times
 the same frame twice: held already (9)' "$cc"
+    prints table.c "256 frames, fingerprints by the library's table: 8
+by the best of 100 others: 168
+format: done; word 3 is 1
+with a value twice: the given table is not 256 bytes with each byte once (16)" "$cc"
     prints book.cpp 'reel 7: 12 5 900; places left: 13
 frame 5: held already (9)' "$cxx"
     cp examples/book.py "$work"
     same 'examples/book.py' "$(cd "$work" && with_shared python3 book.py)" 'reel 7: 12 5 18446744073709551615 places left: 13
+with its own table: 12
 power lost, stores kept: frame 13 is held after entry 7 of 8
 power lost, stores lost: frame 13 is held after entry 8 of 8'
     checks=$((checks + 1))
@@ -140,13 +145,15 @@ power lost, stores lost: frame 13 is held after entry 8 of 8'
         program "${page%%:*}" 1 | cmp - "examples/${page##*:}" || fail "the program in ${page%%:*} is not examples/${page##*:}"
     done
     same 'programs in the pages' "$(grep -c '^```c$' README.md docs/DRIVER.md)" 'README.md:1
-docs/DRIVER.md:2'
-    case $(cat examples/heads.c) in
-    *"
-$(program docs/DRIVER.md 2)
+docs/DRIVER.md:3'
+    for part in 2:heads.c 3:table.c; do
+        case $(cat "examples/${part##*:}") in
+        *"
+$(program docs/DRIVER.md "${part%%:*}")
 "*) ;;
-    *) fail 'the second program in docs/DRIVER.md is not a part of examples/heads.c' ;;
-    esac
+        *) fail "program ${part%%:*} in docs/DRIVER.md is not a part of examples/${part##*:}" ;;
+        esac
+    done
 }
 
 # A header that the compiler reads as the page has it, and each of the tool's commands.
@@ -168,7 +175,7 @@ try_pages() {
     same 'functions in the synopsis' "$(sed -n 's/^uint64_t \(reelbook_[a-z]*\)(.*/\1/p' "$work/synopsis.c" | sort)" "$declared"
     # shellcheck disable=SC2046
     $cc $(pkg-config --cflags reelbook) -fsyntax-only "$work/synopsis.c" || fail "the synopsis is not the header's"
-    same 'answers in the page' "$(grep -c '^[0-9]*	.*REELBOOK_' "$prefix/share/man/man3/reelbook.3")" 15
+    same 'answers in the page' "$(grep -c '^[0-9]*	.*REELBOOK_' "$prefix/share/man/man3/reelbook.3")" 16
     same 'commands in the page' "$(sed -n 's/^\.SS //p' "$prefix/share/man/man1/reelbook.1")" \
         "$("$prefix/bin/reelbook" --help | sed -n 's/^  reelbook \([a-z]*\) FILE.*/\1/p')"
 }

@@ -1,6 +1,7 @@
 /* How many bytes of stack each function needs, arguments and return address included: it is called on a stack of its own that is
  * painted before, and what has another colour afterwards was used. The trees are as deep as there can be, since Recover, List and
- * Retire go down them by calls. stack EDITION prints a line for each function, on images of that edition. */
+ * Retire go down them by calls. stack RULE prints a line for each function, on images that go by this rule: 1 or 2, an edition,
+ * or own, an own table. */
 #define _XOPEN_SOURCE 600 /* for ucontext.h */
 #include <stdio.h>
 #include <stdlib.h>
@@ -15,7 +16,10 @@ static uint64_t stack[STACK_WORDS];
 static ucontext_t outside, inside;
 static struct book deep, wide, *b = &deep;
 static const void *top;
-static uint64_t edition, answer;
+static unsigned rule;
+static uint64_t answer;
+static uint8_t table[REELBOOK_TABLE_BYTES];
+static size_t table_bytes;
 
 /* The bytes of stack below top that a call has used. */
 static size_t stack_of(void (*call)(void)) {
@@ -39,7 +43,7 @@ static size_t stack_of(void (*call)(void)) {
  * k * 2^59 in place 0; all of these agree in bits 0 to 58, which are 0, so that they go to the first child each time. */
 static void make_deep(void) {
     uint64_t node = 0, next = 1, level, child;
-    book_format_as(b, edition, 1, NODES);
+    book_format_as(b, rule, 1, NODES);
     equal(book_open(b, 7), REELBOOK_DONE, "open");
     for (level = 0; level <= LAST_LEVEL; level++) {
         uint64_t children = level == LAST_LEVEL ? 0 : level < 3 ? 2 : 4;
@@ -51,7 +55,7 @@ static void make_deep(void) {
         b->image[node_index(b, node, REELBOOK_NODE_NEXT)] = children ? next + 1 : 0;
         b->image[node_index(b, node, REELBOOK_NODE_SIZE)] = 64;
         b->image[node_index(b, node, REELBOOK_NODE_LOCATE)] = b->image[node_index(b, node, REELBOOK_NODE_SET)] = 1;
-        b->image[node_index(b, node, REELBOOK_NODE_FINGERPRINTS)] = fingerprint(edition, level << 59);
+        b->image[node_index(b, node, REELBOOK_NODE_FINGERPRINTS)] = fingerprint(rule, level << 59);
         b->image[node_index(b, node, REELBOOK_NODE_FRAMES)] = level << 59;
         node = next;
         next += children;
@@ -72,7 +76,7 @@ static void make_deep(void) {
         answer = reelbook_##name(__VA_ARGS__); \
     }
 
-CALL(format, IMAGE, MAP, b->heads, 1, NODES)
+CALL(format, IMAGE, MAP, b->heads, table, table_bytes, 1, NODES)
 CALL(recover, IMAGE, MAP, b->heads)
 CALL(open, IMAGE, MAP, SCRIPT, 7, &b->used)
 CALL(claim, IMAGE, MAP, b->heads, SCRIPT, 0, 7, 8 * 256, &b->used, &b->left)
@@ -103,7 +107,7 @@ static void line(const char *name, size_t bytes) {
 static void measure_claim(void) {
     size_t in_deep = measured(call_claim, 1), in_wide;
     b = &wide;
-    book_format_as(b, edition, 1, NODES);
+    book_format_as(b, rule, 1, NODES);
     equal(book_open(b, 7), REELBOOK_DONE, "open");
     book_add(b, 7, 0, 8, 256);
     in_wide = measured(call_claim, 1);
@@ -114,7 +118,10 @@ static void measure_claim(void) {
 }
 
 int main(int count, char **words) {
-    edition = count == 2 ? strtoull(words[1], NULL, 10) : 0;
+    const char *word = count == 2 ? words[1] : "";
+    rule = strcmp(word, "own") == 0 ? OWN_TABLE : strcmp(word, "1") == 0 ? EDITION_1 : EDITION_2;
+    own_table(table);
+    table_bytes = rule == OWN_TABLE ? sizeof table : 0;
     make_deep();
     line("recover", measured(call_recover, 0));
     line("has", measured(call_has, 0));

@@ -16,7 +16,7 @@
 #include <ucontext.h>
 #include <unistd.h>
 
-enum { SLOTS = 3, NODES = 40, ROUNDS = 200 /* for each edition */, WORD = sizeof(uint64_t) };
+enum { SLOTS = 3, NODES = 40, ROUNDS = 200 /* for each rule */, WORD = sizeof(uint64_t) };
 
 static struct book b;
 static unsigned *noted; /* stores to each word of the image */
@@ -92,10 +92,10 @@ static void on_step(int number, siginfo_t *info, void *context) {
 }
 
 /* Three reels, with branch-outs, in memory that can be protected. */
-static void make_book(uint64_t edition) {
+static void make_book(unsigned rule) {
     size_t bytes;
     void *mapped;
-    book_format_as(&b, edition, SLOTS, NODES);
+    book_format_as(&b, rule, SLOTS, NODES);
     book_open(&b, 7);
     book_add(&b, 7, 0, 1, 150);
     book_open(&b, 8);
@@ -155,26 +155,35 @@ static void recover_noting(uint64_t answer, const unsigned *expected, const char
     equal(in_part, 0, "stores to a part of a word");
 }
 
-/* A malformed node, found early or late in the walk: no store at all. */
-static void check_refused(unsigned *expected) {
-    uint64_t node = drawn() % NODES;
-    size_t level;
-    while (!used(node)) {
-        node = (node + 1) % NODES;
-    }
-    level = node_index(&b, node, REELBOOK_NODE_LEVEL);
-    b.image[level] += 1;
+/* A word that is one more than it should be, and makes the image malformed: no store at all. */
+static void check_refused(size_t word, unsigned *expected) {
+    b.image[word] += 1;
     draw_locate(expected);
     memset(expected, 0, b.image_words * sizeof *expected);
     recover_noting(REELBOOK_MALFORMED, expected, "recover of a malformed image");
-    b.image[level] -= 1;
+    b.image[word] -= 1;
 }
 
-static void check_edition(uint64_t edition) {
+/* The level of a node, found early or late in the walk. */
+static size_t level_word(void) {
+    uint64_t node = drawn() % NODES;
+    while (!used(node)) {
+        node = (node + 1) % NODES;
+    }
+    return node_index(&b, node, REELBOOK_NODE_LEVEL);
+}
+
+/* What tells of an own table, or a word of it, in which another entry is then a second time. */
+static size_t table_word(void) {
+    uint64_t word = drawn() % (REELBOOK_TABLE_WORDS + 1);
+    return (size_t)(word == REELBOOK_TABLE_WORDS ? REELBOOK_OWN_AT : REELBOOK_TABLE_AT + word);
+}
+
+static void check_rule(unsigned rule) {
     unsigned *expected;
     uint64_t *map;
     int round;
-    make_book(edition);
+    make_book(rule);
     noted = (unsigned *)zeroed(b.image_words);
     before = zeroed(b.image_words);
     reached = (unsigned char *)zeroed(b.image_words);
@@ -185,7 +194,7 @@ static void check_edition(uint64_t edition) {
         draw_locate(expected);
         recover_noting(REELBOOK_DONE, expected, "recover");
         memcpy(b.map, map, b.map_words * sizeof *map); /* cleared if it was refused by mistake */
-        check_refused(expected);
+        check_refused(rule == OWN_TABLE && round % 2 == 0 ? table_word() : level_word(), expected);
         memcpy(b.map, map, b.map_words * sizeof *map); /* cleared by the refusal */
     }
     munmap(b.image, b.image_words * sizeof *b.image);
@@ -201,8 +210,9 @@ static void check_edition(uint64_t edition) {
 int main(void) {
     handle(SIGSEGV, on_fault);
     handle(SIGTRAP, on_step);
-    check_edition(REELBOOK_EDITION_1);
-    check_edition(REELBOOK_EDITION_2);
+    check_rule(EDITION_1);
+    check_rule(EDITION_2);
+    check_rule(OWN_TABLE);
     printf("stores: %u checks, %u failures\n", checks, failures);
     return failures != 0;
 }

@@ -1,4 +1,5 @@
-/* Two books in two threads, one of each edition, and again: each has, word for word, what it has when it is alone. */
+/* Two books in two threads, of edition 1, of edition 2 or with an own table, not both alike, and again: each has, word for word,
+ * what it has when it is alone. */
 #include <pthread.h>
 #include <stdio.h>
 #include <stdlib.h>
@@ -13,6 +14,7 @@ struct book {
     uint64_t image[IMAGE_WORDS], map[MAP_WORDS], scratch[MAP_WORDS], heads[REELBOOK_HEADS_WORDS], list[64 * NODES];
     uint64_t script[REELBOOK_SCRIPT_WORDS], used, left, count;
     uint64_t seed, refused; /* and how many calls were */
+    uint8_t table[REELBOOK_TABLE_BYTES];
 };
 
 static void carry_out(struct book *b, uint64_t answer) {
@@ -39,8 +41,11 @@ static void change(struct book *b, uint64_t random) {
 static void *work(void *book) {
     struct book *b = (struct book *)book;
     uint64_t random = b->seed;
-    b->refused = reelbook_format(IMAGE, MAP, b->heads, REELS, NODES);
-    b->image[REELBOOK_EDITION_AT] = b->seed % 2 == 0 ? REELBOOK_EDITION_1 : REELBOOK_EDITION_2;
+    for (unsigned i = 0; i < REELBOOK_TABLE_BYTES; i++)
+        b->table[i] = (uint8_t)(29 * i + 7);
+    b->refused = reelbook_format(IMAGE, MAP, b->heads, b->table, b->seed % 3 == 0 ? sizeof b->table : 0, REELS, NODES);
+    if (b->seed % 3 == 1)
+        b->image[REELBOOK_EDITION_AT] = REELBOOK_EDITION_1;
     for (uint64_t reel = 0; reel < REELS; reel++)
         carry_out(b, reelbook_open(IMAGE, MAP, SCRIPT, reel, &b->used));
     for (int i = 0; i < FRAMES; i++) {

@@ -24,7 +24,8 @@ frames   6
 nodes    2 used, 14 free
 deepest  level 0
 places   32, 6 used, 6 located
-edition  2' stat book
+edition  2
+table    the library'\''s' stat book
     does 'closed cleanly; reels: 2, frames: 6, locate words mended: 0' recover book
     does '' retire book 0
     seq 100 260 >frames
@@ -36,7 +37,7 @@ edition  2' stat book
     does "$sound" check book
 }
 
-names='format open add remove has list retire reels stat dump load check recover draw'
+names='format open add remove has list retire reels stat dump load table check recover draw'
 
 try_help() {
     run --help
@@ -55,7 +56,7 @@ try_help() {
     done
     for number in 0 1 2 3 4; do holds grep -q "^  $number  " all; done
     holds test "$(grep -c '^  reelbook ' all)" = "$(echo $names help --version | wc -w)"
-    does 'reelbook 3.1.0' --version
+    does 'reelbook 4.0.0' --version
     misused 'a command is missing; reelbook --help tells them'
     misused 'burn: no such command; reelbook --help tells them' burn book
     misused 'burn: no such command; reelbook --help tells them' help burn
@@ -152,7 +153,7 @@ try_arguments() {
     misused 'format: --crash-after=1: formatting is done on steady power' format new --reels 4 --nodes 16 --crash-after=1
     misused 'format: --reels: from 1 to 4096' format new --reels 0 --nodes 16
     misused 'format: --nodes: from 1 to 65536' format new --reels 4 --nodes 65537
-    missing='is missing: reelbook format FILE --reels R --nodes N [--force]'
+    missing='is missing: reelbook format FILE --reels R --nodes N [--table TABLE] [--force]'
     misused "format: --reels $missing" format new --nodes 16
     misused "format: --nodes $missing" format new --reels=4
     holds test ! -e new

@@ -63,8 +63,10 @@ try_damage() {
     poke book "$((image_at + 8))" 005
     refuses "list: book: the image's length or numbers are wrong (1)" list book 7
     cp good book
-    poke book 8 002
-    unable 'check: book: a reel book of another version' check book
+    for version in 000 003 '001 001'; do
+        poke book 8 $version
+        unable 'check: book: a reel book of another version' check book
+    done
     poke book 0 000
     unable 'check: book: not a reel book' check book
     cp good book

@@ -15,10 +15,11 @@ try_forms() {
     does "$(printf 'reel,frames,nodes\n7,2,1\n%s,0,1' "$most")" reels forms --csv
     does "$(printf '[12,\n%s]' "$most")" list forms 7 --json
     does "$(printf 'reel,frame\n7,12\n7,%s' "$most")" list forms 7 --csv
-    numbers='"slots":4,"reels":2,"frames":2,"nodes_used":2,"nodes_free":14,"deepest":0,"places":32,"located":2,"edition":2'
+    numbers='"slots":4,"reels":2,"frames":2,"nodes_used":2,"nodes_free":14,"deepest":0,"places":32,"located":2'
+    numbers=$numbers',"edition":2,"own_table":0'
     does "{$numbers}" stat forms --json
-    does 'slots,reels,frames,nodes_used,nodes_free,deepest,places,located,edition
-4,2,2,2,14,0,32,2,2' stat forms --csv
+    does 'slots,reels,frames,nodes_used,nodes_free,deepest,places,located,edition,own_table
+4,2,2,2,14,0,32,2,2,0' stat forms --csv
     does "{$numbers,
 \"by_reel\":[{\"reel\":7,\"slot\":0,\"root\":0,\"frames\":2,\"nodes\":1,\"deepest\":0,\"places\":16,\"located\":2},
 {\"reel\":$most,\"slot\":1,\"root\":1,\"frames\":0,\"nodes\":1,\"deepest\":0,\"places\":16,\"located\":0}]}" \

@@ -234,15 +234,20 @@ round() { # KIND REEL PART SEED RECOVERIES FRAME..
     if [ "$kind" = open ] && grep -qx "$reel" model; then stock "$reel" $((chance % 5)); fi
 }
 
-try_power_failures() {
-    failures=0 kept=0 cuts=0
-    does '' format book --reels 4 --nodes 13 --force
+# Three reels, each with frames up to where its root becomes larger or branches out.
+stock_three() {
     : >model
     for reel in 1 2 3; do
         does '' open book $reel
         echo $reel >>model
         stock $reel $((reel - 1))
     done
+}
+
+try_power_failures() {
+    failures=0 kept=0 cuts=0
+    does '' format book --reels 4 --nodes 13 --force
+    stock_three
     plan >rounds
     while read -r line <&4; do round $line; done 4<rounds
     if [ "$rounds" -lt 100 ]; then

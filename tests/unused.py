@@ -8,7 +8,7 @@ NAME = r"[^\s(){}.,;⌜⌝λ→]+"
 DECLARED = re.compile(rf"^(?:  )*(?:pub |abbrev |unfoldable )*({NAME}(?: {NAME})*?) :(?: |$)")
 IMPORT = re.compile(r"^(?:pub |unfoldable )*use [^{\s]+\.\{(.*)\}$")
 # what the checker itself looks for, and theorems that nothing is derived from
-KEPT = re.compile(r".*-spec$|^(Inv|μ)-.*|^(witnesses|every-starred|two-in-tree|walk-laws|recovery-laws|clear-grows-nothing)$")
+KEPT = re.compile(r".*-spec$|^(Inv|μ)-.*|^(witnesses|own-tables|every-starred|two-in-tree|walk-laws|recovery-laws|clear-grows-nothing)$")
 WORDS = re.compile(NAME)
 
 

@@ -4,16 +4,17 @@ use crate::damage::{descent, some_slot, Damage};
 use crate::lending::Lending;
 use crate::model::buffer::Buffer;
 use crate::model::call::{Call, Function, Lent};
+use crate::model::ending::BAD_TABLES;
 use crate::model::fault::Fault;
 use crate::model::image::*;
 use crate::model::left::Claimed;
 use crate::model::node::*;
-use crate::model::operations;
+use crate::model::operations::{self, Outcome};
 use crate::model::script::{self, SCRIPT_WORDS};
 use crate::random::Random;
 use crate::report;
 use crate::subject::Subject;
-use crate::trees;
+use crate::{tables, trees};
 
 const CALLS: u64 = 16;
 const LARGE_WORDS: usize = 100_000;
@@ -49,7 +50,8 @@ impl Case {
         }
         let mut junk = |length: usize| Buffer::of((0..length).map(|_| random.word()));
         let (scratch, script, list) = (junk(map.len()), junk(SCRIPT_WORDS + 6), junk(200));
-        let mut lent = Lent { image, map, heads: Buffer::of([0; HEADS as usize * HEAD_WORDS]), script, scratch, list };
+        let heads = Buffer::of([0; HEADS as usize * HEAD_WORDS]);
+        let mut lent = Lent { image, map, heads, script, scratch, list, table: None };
         let mut lending = Lending { random: &mut random, lent: &mut lent, slots, nodes };
         if lending.random.one_in(3) {
             lending.map();
@@ -66,10 +68,9 @@ impl Case {
         let kept = self.lend(&mut call);
         self.expected.clone_from(&self.found);
         let heads = self.found.heads.clone();
-        let edition = self.found.image.first().copied().unwrap_or(0);
         let outcome = operations::perform(&call, &mut self.expected, Fault::None);
+        self.count(&call, &outcome, coverage);
         let found = self.subject.perform(&call, &mut self.found, self.random.word());
-        coverage.call(call.function, edition, outcome.ending);
         if outcome.handed != found || self.expected != self.found {
             return Err(report::difference(&call, &heads, (outcome.handed, &self.expected), (found, &self.found)));
         }
@@ -84,6 +85,15 @@ impl Case {
             }
         }
         Ok(())
+    }
+
+    /// Counts what is reached, by what the call is about to be lent.
+    fn count(&self, call: &Call, outcome: &Outcome, coverage: &mut Coverage) {
+        coverage.call(call.function, &self.found.image, outcome.ending);
+        if BAD_TABLES.contains(&outcome.ending) {
+            let otherwise = operations::perform(call, &mut self.found.clone(), Fault::BadTableTaken);
+            coverage.bad_table(call.function, otherwise.ending.answer);
+        }
     }
 
     fn draw(&mut self) -> Call {
@@ -142,9 +152,11 @@ impl Case {
             0 => lending.header(call),
             1 => lending.edition(),
             2 | 3 => lending.length(),
+            4 => lending.bad_table(),
             _ => (),
         }
-        let kept = odd > 3 && function != Function::Apply && (function != Function::Format || lending.random.one_in(8));
+        let kept = odd > 4 && function != Function::Apply && (function != Function::Format || lending.random.one_in(8));
+        lending.lent.table = if function == Function::Format { tables::given(lending.random) } else { None };
         if function == Function::Apply {
             lending.script();
         }

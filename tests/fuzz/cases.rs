@@ -1,98 +1,14 @@
 //! The specification's own cases, with its numbers, so that library and model do not merely agree with each other.
+use crate::book::*;
 use crate::crash::Crash;
 use crate::model::buffer::Buffer;
-use crate::model::call::{Call, Function, Function::*, Handed, Lent};
+use crate::model::call::{Function, Function::*};
 use crate::model::image::*;
 use crate::model::node::{FINGERPRINTS, LOCATE, SET, SIZE_AT};
-use crate::model::script::{self, Entry, BARRIER, SCRIPT_WORDS};
+use crate::model::rule::*;
+use crate::model::script;
 use crate::subject::Subject;
-use std::collections::BTreeSet;
-
-/// What every word holds before it is written, so that no result is there already.
-const JUNK: u64 = 0x5a5a_5a5a_5a5a_5a5a;
-
-/// Answer, node and place of a claim.
-type Claimed = (u64, u64, u64);
-
-#[derive(Clone)]
-struct Book {
-    subject: Subject,
-    lent: Lent,
-    /// The places left that the last call handed back.
-    left: u64,
-}
-
-impl Book {
-    fn formatted(subject: Subject, slots: u64, nodes: u64) -> Book {
-        let junk = |words: u64| Buffer::of((0..words).map(|_| JUNK));
-        let lent = Lent {
-            image: junk(image_words(slots, nodes)),
-            map: junk(map_words(nodes)),
-            heads: junk(HEADS * HEAD_WORDS as u64),
-            script: junk(SCRIPT_WORDS as u64),
-            scratch: junk(map_words(nodes)),
-            list: junk(1024),
-        };
-        let mut book = Book { subject, lent, left: 0 };
-        let format = Call { function: Format, slots, nodes, head: 0, reel: 0, frame: 0 };
-        book.subject.perform(&format, &mut book.lent, JUNK);
-        book
-    }
-
-    /// An empty book. Edition 1 is no longer what Format writes, but what Recover takes.
-    fn of_edition(subject: Subject, edition: u64, slots: u64, nodes: u64) -> Book {
-        let mut book = Book::formatted(subject, slots, nodes);
-        book.lent.image[0] = edition;
-        book.call(Recover, 0, 0);
-        book
-    }
-
-    /// Answer, stores and value, as the bench program prints them; a refusal's value is the count that it handed back.
-    fn call(&mut self, function: Function, reel: u64, frame: u64) -> (u64, u64, u64) {
-        self.call_with(0, function, reel, frame)
-    }
-
-    fn call_with(&mut self, head: u64, function: Function, reel: u64, frame: u64) -> (u64, u64, u64) {
-        let (answer, count, entries) = self.hold(head, function, reel, frame);
-        if answer != 0 || matches!(function, Has | List) {
-            return (answer, 0, count);
-        }
-        script::carry_out(&mut self.lent.image, &entries);
-        (answer, entries.iter().filter(|&&entry| entry != BARRIER).count() as u64, 0)
-    }
-
-    /// Answer, count, and the entries handed out, which are not carried out.
-    fn hold(&mut self, head: u64, function: Function, reel: u64, frame: u64) -> (u64, u64, Vec<Entry>) {
-        let call = Call { function, slots: 0, nodes: 0, head, reel, frame };
-        let Handed { answer, count, left } = self.subject.perform(&call, &mut self.lent, JUNK);
-        self.left = left;
-        let scripted = answer == 0 && !matches!(function, Has | List | Recover);
-        let used = if scripted { (count as usize).min(SCRIPT_WORDS) } else { 0 };
-        (answer, count, script::read(&self.lent.script[..used]))
-    }
-
-    /// The answers of claims in reel 7, by head and frame.
-    fn claims(&mut self, claims: &[(u64, u64)]) -> Vec<u64> {
-        claims.iter().map(|&(head, frame)| self.call_with(head, Claim, 7, frame).0).collect()
-    }
-
-    fn frames(&mut self, reel: u64) -> BTreeSet<u64> {
-        let (_, _, count) = self.call(List, reel, 0);
-        self.lent.list.iter().copied().take(count as usize).collect()
-    }
-
-    fn add(&mut self, reel: u64, frame: u64) -> Claimed {
-        let (answer, _, _) = self.call(Claim, reel, frame);
-        let head = Head::read(&self.lent.heads, 0);
-        self.call(Fill, 0, 0);
-        self.call(Commit, 0, 0);
-        (answer, head.node, head.place)
-    }
-
-    fn node_word(&self, node: u64, word: u64) -> u64 {
-        self.lent.image[(node_index(self.lent.image[1], node) + word) as usize]
-    }
-}
+use crate::table_cases::*;
 
 /// A reel of frames that agree in their low bits: each node of one path is full, down to the level named; then some frames.
 fn below_full_path(subject: Subject, nodes: u64, full: impl Iterator<Item = u64>, frames: &[u64]) -> Vec<Claimed> {
@@ -121,25 +37,29 @@ fn children_of_level_30(subject: Subject) -> bool {
 }
 
 /// Bytes 0 to 3 of the root's first fingerprint word, the others as they were. In edition 1 frames that agree in their low four
-/// bytes share one; in edition 2 that of 0 is 32, and the others follow by its rule.
-fn fingerprints(subject: Subject, edition: u64) -> bool {
-    let mut book = Book::of_edition(subject, edition, 1, 1);
+/// bytes share one; in edition 2 that of 0 is 32, and the others follow by its rule. Over the own table the last byte of 2^56
+/// meets what seven zeros have made, 7, and 6 is turned to 7.
+fn fingerprints(subject: Subject, rule: Rule) -> bool {
+    let mut book = Book::of_rule(subject, rule, 1, 1);
     book.call(Open, 7, 0);
     for frame in [0, 1, 1 << 32, 1 << 56] {
         book.add(7, frame);
     }
-    let prints = if edition == 1 { [144, 113, 144, 144] } else { [32, 225, 1, 121] };
+    let prints = match rule {
+        FIRST => [144, 113, 144, 144],
+        SECOND => [32, 225, 1, 121],
+        _ => [8, 9, 9, 7],
+    };
     book.node_word(0, FINGERPRINTS) == JUNK >> 32 << 32 | u64::from(u32::from_le_bytes(prints))
 }
 
 /// Format writes edition 2, over junk and over a book of edition 1, which is then empty.
 fn format_writes_2(subject: Subject) -> bool {
     let over_junk = Book::formatted(subject, 1, 1);
-    let mut book = Book::of_edition(subject, 1, 1, 1);
+    let mut book = Book::of_rule(subject, FIRST, 1, 1);
     book.call(Open, 7, 0);
     let before = (book.lent.image[0], book.add(7, 0).0);
-    let format = Call { function: Format, slots: 1, nodes: 1, head: 0, reel: 0, frame: 0 };
-    let answer = book.subject.perform(&format, &mut book.lent, JUNK).answer;
+    let answer = book.format(1, 1, None);
     let after = (book.lent.image[0], book.call(Has, 7, 0).0);
     over_junk.lent.image[0] == 2 && before == (1, 0) && answer == 0 && after == (2, 5)
 }
@@ -147,33 +67,33 @@ fn format_writes_2(subject: Subject) -> bool {
 /// Every operation but Format refuses other editions with 2; Carry out reads none.
 fn other_editions(subject: Subject) -> bool {
     let book = Book::formatted(subject, 1, 1);
-    let operations = [Recover, Open, Claim, Fill, Commit, Abandon, Remove, Has, List, Retire];
     let answer = |edition: u64, function: Function| {
         let mut book = book.clone();
         book.lent.image[0] = edition;
         book.hold(0, function, 7, 0).0
     };
-    let refused = |edition: u64| operations.iter().all(|&function| answer(edition, function) == 2);
-    let taken = |edition: u64| operations.iter().all(|&function| answer(edition, function) != 2);
+    let refused = |edition: u64| OPERATIONS.iter().all(|&function| answer(edition, function) == 2);
+    let taken = |edition: u64| OPERATIONS.iter().all(|&function| answer(edition, function) != 2);
     let others = [0, 3, 4, 1 << 32 | 1, 1 << 32 | 2, 1 << 63, u64::MAX];
     others.iter().all(|&edition| refused(edition) && answer(edition, Apply) == 3) && taken(1) && taken(2)
 }
 
-/// Frames 0 and 2^32 with the fingerprints of the edition that the book is not of: not found, and not sound.
-fn fingerprints_of_the_other(subject: Subject, edition: u64) -> bool {
-    let mut book = Book::of_edition(subject, edition, 1, 1);
+/// Frames 0 and 2^32 with the fingerprints of a rule that the book does not go by: not found, and not sound.
+fn fingerprints_of_another(subject: Subject, rule: Rule, other: Rule) -> bool {
+    let mut book = Book::of_rule(subject, rule, 1, 1);
     book.call(Open, 7, 0);
     let added = [0, 1 << 32].map(|frame| book.add(7, frame).0);
     let found = |book: &mut Book| [0, 1 << 32].map(|frame| book.call(Has, 7, frame).2);
     let before = (found(&mut book), book.call(Recover, 0, 0).0);
-    book.lent.image[0] = 3 - edition;
+    let header = Book::of_rule(subject, other, 1, 1).lent.image[..64].to_vec();
+    book.lent.image[..64].copy_from_slice(&header);
     added == [0, 0] && before == ([1, 1], 0) && (found(&mut book), book.call(Recover, 0, 0).0) == ([0, 0], 4)
 }
 
 /// On an image of edition 1 that another had: two frames and a claim cut short. A recovery that is refused for its map, and one
 /// that ends; then the book goes on, of edition 1.
 fn start_on_edition_1(subject: Subject) -> bool {
-    let mut book = Book::of_edition(subject, 1, 2, 2);
+    let mut book = Book::of_rule(subject, FIRST, 2, 2);
     book.call(Open, 7, 0);
     let added = [book.add(7, 12).0, book.add(7, 1 << 40).0, book.claims(&[(0, 13)])[0]];
     book.lent.heads.fill(JUNK);
@@ -311,8 +231,8 @@ fn no_places_left(subject: Subject) -> bool {
 }
 
 /// Two claims in reel 7 and two elsewhere: every crash in a branch-out below a claim, in a fill, in a commit, in an abandon.
-fn crashes_with_two_in_one_reel(subject: Subject, edition: u64) -> bool {
-    let mut book = with_frames(Book::of_edition(subject, edition, 3, 5), 63);
+fn crashes_with_two_in_one_reel(subject: Subject, rule: Rule) -> bool {
+    let mut book = with_frames(Book::of_rule(subject, rule, 3, 5), 63);
     let opened = [8, 9].iter().all(|&reel| book.call(Open, reel, 0).0 == 0);
     let claims = [(0, 7, 63), (2, 8, 12), (3, 9, 13)];
     let claimed = claims.iter().all(|&(head, reel, frame)| book.call_with(head, Claim, reel, frame).0 == 0);
@@ -347,8 +267,8 @@ fn every_crash(book: &mut Book, head: u64, function: Function, frame: u64) -> bo
     answer == 0 && (0..=entries.len()).all(crash_after)
 }
 
-fn case_a(subject: Subject, edition: u64) -> bool {
-    let mut book = Book::of_edition(subject, edition, 4, 16);
+fn case_a(subject: Subject, rule: Rule) -> bool {
+    let mut book = Book::of_rule(subject, rule, 4, 16);
     let calls = [(Open, 7, 0), (Claim, 7, 12), (Fill, 0, 0), (Commit, 0, 0), (List, 7, 0), (Has, 7, 13), (Retire, 8, 0)];
     let results: Vec<_> = calls.iter().map(|&(function, reel, frame)| book.call(function, reel, frame)).collect();
     results == [(0, 7, 0), (0, 1, 0), (0, 2, 0), (0, 1, 0), (0, 0, 1), (0, 0, 0), (5, 0, 0)] && book.lent.list[0] == 12
@@ -359,12 +279,19 @@ pub fn check(name: &str, subject: Subject) -> bool {
     let results = [
         ("children of level 3", children_of_level_3(subject)),
         ("children of level 30", children_of_level_30(subject)),
-        ("fingerprints of edition 1", fingerprints(subject, 1)),
-        ("fingerprints of edition 2", fingerprints(subject, 2)),
-        ("fingerprints of edition 2 in edition 1", fingerprints_of_the_other(subject, 2)),
-        ("fingerprints of edition 1 in edition 2", fingerprints_of_the_other(subject, 1)),
+        ("fingerprints of edition 1", fingerprints(subject, FIRST)),
+        ("fingerprints of edition 2", fingerprints(subject, SECOND)),
+        ("fingerprints of an own table", fingerprints(subject, OWN)),
+        ("fingerprints of edition 2 in edition 1", fingerprints_of_another(subject, SECOND, FIRST)),
+        ("fingerprints of edition 1 in edition 2", fingerprints_of_another(subject, FIRST, SECOND)),
+        ("fingerprints of an own table in edition 2", fingerprints_of_another(subject, OWN, SECOND)),
+        ("fingerprints of edition 2 on an own table", fingerprints_of_another(subject, SECOND, OWN)),
         ("format writes edition 2", format_writes_2(subject)),
         ("other editions", other_editions(subject)),
+        ("format stores a table", format_stores_a_table(subject)),
+        ("tables given to format", given_tables(subject)),
+        ("bad tables", bad_tables(subject)),
+        ("tables that are not read", unread_tables(subject)),
         ("a start on edition 1", start_on_edition_1(subject)),
         ("growth in a pool of one node", growth(subject, 1)),
         ("growth in a pool of three", growth(subject, 3)),
@@ -373,12 +300,14 @@ pub fn check(name: &str, subject: Subject) -> bool {
         ("several heads in one reel", heads_in_one_reel(subject)),
         ("several heads at the root", heads_at_the_root(subject)),
         ("a branch-out below a claim", below_a_claim(subject)),
-        ("crashes with two claims in one reel of edition 1", crashes_with_two_in_one_reel(subject, 1)),
-        ("crashes with two claims in one reel of edition 2", crashes_with_two_in_one_reel(subject, 2)),
+        ("crashes with two claims in one reel of edition 1", crashes_with_two_in_one_reel(subject, FIRST)),
+        ("crashes with two claims in one reel of edition 2", crashes_with_two_in_one_reel(subject, SECOND)),
+        ("crashes with two claims in one reel on an own table", crashes_with_two_in_one_reel(subject, OWN)),
         ("places left", places_left(subject)),
         ("no places left of a refused claim", no_places_left(subject)),
-        ("case A on edition 1", case_a(subject, 1)),
-        ("case A on edition 2", case_a(subject, 2)),
+        ("case A on edition 1", case_a(subject, FIRST)),
+        ("case A on edition 2", case_a(subject, SECOND)),
+        ("case A on an own table", case_a(subject, OWN)),
     ];
     for (case, _) in results.iter().filter(|(_, right)| !right) {
         println!("{}: not as specified: {}", name, case);

@@ -1,11 +1,16 @@
-//! What the fuzzing has reached: on each edition, each way in which a function can end, each answer in a history, a crash of each
-//! function that stores; each way to start a history; each moment of a script for a crash, a crash of each function that stores
-//! with a claim of every head open, and with several in one tree; what claims leave of their nodes.
+//! What the fuzzing has reached: by each rule of the fingerprint, each way in which a function can end, each answer in a history,
+//! a crash of each function that stores; bad tables, and such as are not read; each way to start a history, and each format in
+//! one; each moment of a script for a crash, a crash of each function that stores with a claim of every head open, and with
+//! several in one tree; what claims leave of their nodes.
+use crate::goals::*;
 use crate::model::call::{Call, Function, Function::*};
 use crate::model::ending::*;
-use crate::model::image::{EDITION, FIRST_EDITION, HEADS};
+use crate::model::fault::Fault;
+use crate::model::format::check_given;
+use crate::model::image::*;
 use crate::model::left::Claimed;
 use crate::model::node::LAST_LEVEL;
+use crate::model::rule::*;
 use crate::model::table::Table;
 use std::collections::BTreeMap;
 
@@ -36,15 +41,24 @@ impl Claims {
 
 #[derive(Default)]
 pub struct Coverage {
-    /// By the image's edition too, where that counts, else `ANY`.
-    endings: BTreeMap<(Function, Ending, u64), u64>,
-    answers: BTreeMap<(Function, u64, u64), u64>,
+    /// By the image's rule too, where that counts.
+    endings: BTreeMap<(Function, Ending, Option<Rule>), u64>,
+    /// Of calls on images with a bad table: the answers, and where that is 4 for the table, those without it.
+    bad_tables: BTreeMap<(Function, u64), u64>,
+    /// Of calls answered on images that have what looks like a table where none is read.
+    unread: BTreeMap<(Function, &'static str), u64>,
+    answers: BTreeMap<(Function, u64, Rule), u64>,
     /// By what came before the format or the recovery, and by what the image held.
-    starts: BTreeMap<&'static str, u64>,
+    starts: BTreeMap<(Rule, &'static str), u64>,
+    /// The formats of histories: by the rules before and after, and those refused 16.
+    formats: BTreeMap<(Rule, Rule), u64>,
+    refused_tables: BTreeMap<Ending, u64>,
+    /// Has in histories, by what it says.
+    lookups: BTreeMap<(bool, Rule), u64>,
     /// By function, entries of its script, and how many of these were carried out.
     crashes: BTreeMap<(Function, usize, usize), u64>,
-    /// Those in a function that was storing, by edition.
-    storing: BTreeMap<(Function, u64), u64>,
+    /// Those in a function that was storing, by rule.
+    storing: BTreeMap<(Function, Rule), u64>,
     /// Those with a claim of every head open, by the function that was storing.
     all_claimed: BTreeMap<Function, u64>,
     /// Those with several claims in one tree, by their number too.
@@ -63,147 +77,74 @@ pub struct Coverage {
     refused_recoveries: u64,
 }
 
-/// No edition in particular.
-const ANY: u64 = 0;
-
-const LENGTHS: &[Ending] = &[TOO_SHORT, SLOTS, NODES, LENGTH];
-const HEADER: &[Ending] = &[TOO_SHORT, SLOTS, NODES, LENGTH, EDITION_0, EDITION_3, EDITION_ABOVE];
-const PATH: &[Ending] = &[OUTSIDE, LEVEL, SIZE, LOCATE_ABOVE, SET_ABOVE, NEXT_SMALL, NEXT_LAST, CHILDREN_OUTSIDE];
-const UNSOUND: &[Ending] = &[REACHED_TWICE, REEL_TWICE, OFF_PATH, HELD_TWICE, FINGERPRINT, OTHER_FINGERPRINT];
-const TAKEN: &[Ending] =
-    &[CLEAR_ROOT, CLEAR_BELOW, DOUBLED_32, DOUBLED_64, BRANCHED_2, BRANCHED_4, BRANCHED_LAST, LAST_FULL, TOO_FEW, NO_RUN];
-/// Of claims with other heads at work in the reel.
-const TOGETHER: &[Ending] = &[
-    CLEAR_BESIDE,
-    DOUBLED_BESIDE,
-    BRANCHED_BESIDE,
-    BRANCHED_UNDER,
-    NO_RUN_BESIDE,
-    NO_RUN_UNDER,
-    HELD_BUSY,
-    BUSY_FRAME,
-    BUSY_FRAME_NO_RUN,
-    BUSY_NODE,
-    BUSY_CHILD,
-];
-const TREES: &[Ending] = &[TREE_EMPTY, TREE_ROOT, TREE_DEEP, REACHED_TWICE];
-const BY_HEAD: &[Ending] = &[SCRIPT_LENGTH, HEAD_NUMBER, HEAD_NODE, HEAD_PLACE];
-
-/// Every way in which a call can end.
-fn endings(function: Function) -> Vec<Ending> {
-    let lists: &[&[Ending]] = match function {
-        Format => &[&[DONE, SLOTS, NODES, LENGTH, MAP_LENGTH]],
-        Recover => &[HEADER, PATH, UNSOUND, &[MAP_LENGTH, LOCATE_EQUAL, LOCATE_SET]],
-        Open => &[HEADER, &[MAP_LENGTH, SCRIPT_LENGTH, ALREADY_OPEN, NO_SLOT, NO_NODE, DONE]],
-        Claim => {
-            &[HEADER, PATH, TAKEN, TOGETHER, &[MAP_LENGTH, SCRIPT_LENGTH, HEAD_NUMBER, HEAD_CLAIMED, HEAD_FILLED, NO_REEL, HELD]]
-        }
-        Fill => &[HEADER, BY_HEAD, &[HEAD_IDLE, HEAD_FILLED, DONE]],
-        Commit => &[HEADER, BY_HEAD, &[HEAD_IDLE, HEAD_CLAIMED, DONE]],
-        Abandon => &[HEADER, BY_HEAD, &[HEAD_IDLE, ABANDONED_CLAIMED, ABANDONED_FILLED]],
-        Remove => &[HEADER, PATH, &[SCRIPT_LENGTH, NO_REEL, BUSY, NOT_HELD, REMOVED_ROOT, REMOVED_BELOW]],
-        Has => &[HEADER, PATH, &[NO_REEL, HAS_NO, HAS_OTHER, HAS_LOWER, HAS_YES]],
-        List => &[HEADER, PATH, TREES, &[SCRATCH_LENGTH, NO_REEL, LIST_SHORT]],
-        Retire => &[HEADER, PATH, TREES, &[MAP_LENGTH, SCRATCH_LENGTH, SCRIPT_LENGTH, NO_REEL, BUSY]],
-        Apply => &[LENGTHS, &[SCRIPT_ODD, BARRIER_VALUE, STORE_OUTSIDE, STORES_NONE, STORES_HEADER, STORES]],
-    };
-    lists.concat()
-}
-
-/// The editions on which a call is to end so: both where it reads them; where it does not and writes, any other too.
-fn editions(function: Function, ending: Ending) -> &'static [u64] {
-    match (function, ending.answer) {
-        (Format | Apply, 0) => &[ANY, FIRST_EDITION, EDITION],
-        (Format | Apply, _) | (_, 1 | 2) => &[ANY],
-        _ => &EDITIONS,
+/// What the image has that looks like a table and is none.
+fn unread(words: &[u64]) -> Option<&'static str> {
+    let lacking = || lacks(&stored_table(words));
+    match (words[0], words[OWN_AT]) {
+        (FIRST_EDITION, 0) | (EDITION, 1..) => None,
+        (FIRST_EDITION, 1) if lacking() == 0 => Some(GOOD_IN_1),
+        (FIRST_EDITION, _) => Some(BAD_IN_1),
+        _ if words[TABLE_AT..][..TABLE_WORDS].iter().all(|&word| word == 0) => None,
+        _ if lacking() == 0 => Some(GOOD_IN_2),
+        _ => Some(BAD_IN_2),
     }
 }
-
-/// The answers that come in a history. 2 and 4 never do.
-fn answers(function: Function) -> &'static [u64] {
-    match function {
-        Format | Recover => &[0, 1, 3],
-        Open => &[0, 1, 3, 6, 7, 8],
-        Claim => &[0, 1, 3, 5, 8, 9, 11, 12, 13],
-        Fill | Commit | Abandon => &[0, 1, 3, 11, 12],
-        Remove => &[0, 1, 3, 5, 10, 13],
-        Has => &[0, 1, 5],
-        List => &[0, 1, 3, 5, 14],
-        Retire => &[0, 1, 3, 5, 13],
-        Apply => &[],
-    }
-}
-
-/// The numbers of entries that a function's scripts have. Without a script: Recover, and refusals.
-fn scripts(function: Function) -> &'static [usize] {
-    match function {
-        Open => &[9, 0],
-        Claim => &[2, 4, 15, 25, 0],
-        Fill | Remove => &[4, 0],
-        Commit | Abandon | Retire => &[2, 0],
-        Format | Recover | Has | List => &[0],
-        Apply => &[],
-    }
-}
-
-const EDITIONS: [u64; 2] = [FIRST_EDITION, EDITION];
-
-const BY_FORMAT: &str = "with a format";
-const ON_FRAMES: &str = "on edition 1 with frames held";
-const ON_NO_FRAMES: &str = "on edition 1 without a frame";
-const PLAIN: &str = "on edition 1, the first attempt ends";
-const REFUSED: &str = "on edition 1, after a refused attempt";
-const CUT: &str = "on edition 1, after a cut attempt";
-const REFUSED_AND_CUT: &str = "on edition 1, after a refused and a cut attempt";
-const STARTS: [&str; 7] = [BY_FORMAT, ON_FRAMES, ON_NO_FRAMES, PLAIN, REFUSED, CUT, REFUSED_AND_CUT];
-
-/// The functions that store, on power that may fail.
-const STORING: [Function; 8] = [Recover, Open, Claim, Fill, Commit, Abandon, Remove, Retire];
-
-/// The entries of a branch-out of two and of one of four.
-const BRANCH_OUTS: [usize; 2] = [15, 25];
-
-const FRAME_TAKEN: &str = "13 for the frame";
-const NODE_TAKEN: &str = "13 for the node";
-const NO_NODES: &str = "8 beside another head";
-const ANSWERED: &str = "answered beside another head";
-
-const NONE_AT_LAST: &str = "no place, at the last one";
-const NONE_BELOW: &str = "no place, at one below the last";
-const ALL_ABOVE: &str = "all places above its own";
-const SOME_ABOVE: &str = "some places above its own";
-const NOT_AS_SET: &str = "a locate word that has other places than the set word";
-
-/// What claims leave: on single images, in nodes of each size; in histories all but the last, since no two heads are at a node.
-const LEFTS: [&str; 5] = [NONE_AT_LAST, NONE_BELOW, ALL_ABOVE, SOME_ABOVE, NOT_AS_SET];
-const SIZES: [u64; 3] = [16, 32, 64];
 
 impl Coverage {
-    /// A single call, on an image of this edition.
-    pub fn call(&mut self, function: Function, edition: u64, ending: Ending) {
-        let edition = if editions(function, ending).contains(&edition) { edition } else { ANY };
-        *self.endings.entry((function, ending, edition)).or_default() += 1;
+    /// A single call, on an image with these words.
+    pub fn call(&mut self, function: Function, words: &[u64], ending: Ending) {
+        let rule = Rule::of(words).filter(|&rule| rules(function, ending).contains(&Some(rule)));
+        *self.endings.entry((function, ending, rule)).or_default() += 1;
+        if ending.answer != 2 && !BAD_TABLES.contains(&ending) && is_bad(words) {
+            self.bad_table(function, ending.answer);
+        }
+        let answered = ending.answer == 0 && READING.contains(&function);
+        if let Some(kind) = if answered { unread(words) } else { None } {
+            *self.unread.entry((function, kind)).or_default() += 1;
+        }
     }
 
-    /// A call in a history, on a book of this edition.
-    pub fn answer(&mut self, function: Function, answer: u64, edition: u64) {
-        *self.answers.entry((function, answer, edition)).or_default() += 1;
+    /// The answer of a call on an image with a bad table, or the one that it would give if the table were taken.
+    pub fn bad_table(&mut self, function: Function, answer: u64) {
+        *self.bad_tables.entry((function, answer)).or_default() += 1;
     }
 
-    pub fn format_start(&mut self) {
-        *self.starts.entry(BY_FORMAT).or_default() += 1;
+    /// A call in a history, on a book that goes by this rule.
+    pub fn answer(&mut self, function: Function, answer: u64, rule: Rule) {
+        *self.answers.entry((function, answer, rule)).or_default() += 1;
     }
 
-    /// A recovery of edition 1, by what came before the one that ended.
-    pub fn first_edition_start(&mut self, refused: bool, cut: bool, frames: bool) {
+    /// Has in a history.
+    pub fn lookup(&mut self, yes: bool, rule: Rule) {
+        *self.lookups.entry((yes, rule)).or_default() += 1;
+    }
+
+    /// An answered format in a history.
+    pub fn format(&mut self, before: Rule, after: Rule) {
+        *self.formats.entry((before, after)).or_default() += 1;
+    }
+
+    /// One that was refused 16.
+    pub fn refused_table(&mut self, table: &[u8]) {
+        if let Err(ending) = check_given(Some(table), Fault::None) {
+            *self.refused_tables.entry(ending).or_default() += 1;
+        }
+    }
+
+    pub fn format_start(&mut self, rule: Rule, refused: bool) {
+        *self.starts.entry((rule, if refused { BY_SECOND_FORMAT } else { BY_FORMAT })).or_default() += 1;
+    }
+
+    /// A recovery of an image that was found, by what came before the one that ended.
+    pub fn found_start(&mut self, rule: Rule, refused: bool, cut: bool, frames: bool) {
         let attempts = match (refused, cut) {
             (false, false) => PLAIN,
             (true, false) => REFUSED,
             (false, true) => CUT,
             (true, true) => REFUSED_AND_CUT,
         };
-        for key in [attempts, if frames { ON_FRAMES } else { ON_NO_FRAMES }] {
-            *self.starts.entry(key).or_default() += 1;
+        for start in [attempts, if frames { ON_FRAMES } else { ON_NO_FRAMES }] {
+            *self.starts.entry((rule, start)).or_default() += 1;
         }
     }
 
@@ -241,13 +182,13 @@ impl Coverage {
         self.deepest = self.deepest.max(deepest);
     }
 
-    /// A crash after some of a script's entries, with so many claims open, on a book of this edition.
-    pub fn crash(&mut self, function: Function, entries: usize, cut: usize, claims: Claims, edition: u64) {
+    /// A crash after some of a script's entries, with so many claims open, on a book that goes by this rule.
+    pub fn crash(&mut self, function: Function, entries: usize, cut: usize, claims: Claims, rule: Rule) {
         *self.crashes.entry((function, entries, cut)).or_default() += 1;
         if entries == 0 && function != Recover {
             return;
         }
-        *self.storing.entry((function, edition)).or_default() += 1;
+        *self.storing.entry((function, rule)).or_default() += 1;
         if claims.all == HEADS {
             *self.all_claimed.entry(function).or_default() += 1;
         }
@@ -278,12 +219,14 @@ impl Coverage {
     fn table(answers: impl Iterator<Item = (Function, u64, u64)>) {
         let mut counts: BTreeMap<(Function, u64), u64> = BTreeMap::new();
         answers.for_each(|(function, answer, count)| *counts.entry((function, answer)).or_default() += count);
-        println!("{:8}{:>8}{}", "", "calls", (0..15).map(|answer| format!("{:>8}", answer)).collect::<String>());
+        // 15 is the bench program's.
+        let all = || (0..=16).filter(|&answer| answer != 15);
+        println!("{:8}{:>8}{}", "", "calls", all().map(|answer| format!("{:>8}", answer)).collect::<String>());
         for function in Function::ALL {
             let count = |answer: u64| counts.get(&(function, answer)).copied().unwrap_or(0);
             let column = |answer: u64| if count(answer) == 0 { format!("{:>8}", ".") } else { format!(" {:>7}", count(answer)) };
-            let calls: u64 = (0..15).map(count).sum();
-            println!("{:8} {:>7}{}", function.name(), calls, (0..15).map(column).collect::<String>());
+            let calls: u64 = all().map(count).sum();
+            println!("{:8} {:>7}{}", function.name(), calls, all().map(column).collect::<String>());
         }
     }
 
@@ -295,9 +238,9 @@ impl Coverage {
     pub fn print_histories(&self) {
         println!("{} operations in histories, by function and answer:", self.answers.values().sum::<u64>());
         Coverage::table(self.answers.iter().map(|(key, &count)| (key.0, key.1, count)));
-        let first: u64 = self.answers.iter().filter(|(key, _)| key.2 == FIRST_EDITION).map(|(_, count)| count).sum();
-        println!("{} of them on edition 1; starts:", first);
-        self.starts.iter().for_each(|(key, count)| println!("{:8} {}", count, key));
+        let by = |rule: Rule| self.answers.iter().filter(|(key, _)| key.2 == rule).map(|(_, count)| count).sum::<u64>();
+        println!("{} of them on edition 1, {} on an own table; starts:", by(FIRST), by(OWN));
+        self.starts.iter().for_each(|(key, count)| println!("{:8} {}: {}", count, named(key.0), key.1));
         let crashes: u64 = self.crashes.values().sum();
         let (cut, refused) = (self.cut_recoveries, self.refused_recoveries);
         println!("{} crashes, {} mixtures recovered, {} recoveries cut, {} refused", crashes, self.mixtures, cut, refused);
@@ -309,11 +252,17 @@ impl Coverage {
 
     /// What should have been reached by calls and was not, and what was and should not.
     pub fn calls_missed(&self) -> Vec<String> {
-        let on_each = |f: Function, ending: Ending| editions(f, ending).iter().map(move |&edition| (f, ending, edition));
+        let on_each = |f: Function, ending: Ending| rules(f, ending).iter().map(move |&rule| (f, ending, rule));
         let of_each = |f: Function| endings(f).into_iter().flat_map(move |ending| on_each(f, ending));
         let all: Vec<_> = Function::ALL.iter().flat_map(|&f| of_each(f)).collect();
-        let name = |key: &(Function, Ending, u64)| format!("{} {} {}{}", key.0.name(), key.1.answer, key.1.shape, on(key.2));
+        let name =
+            |key: &(Function, Ending, Option<Rule>)| format!("{} {} {}{}", key.0.name(), key.1.answer, key.1.shape, on(key.2));
         let mut lines = missed(&all, &self.endings, name);
+        let all: Vec<_> = Function::ALL.iter().flat_map(|&f| beside_bad_table(f).into_iter().map(move |a| (f, a))).collect();
+        let name = |key: &(Function, u64)| format!("{} {} on a bad table, but for that", key.0.name(), key.1);
+        lines.extend(missed(&all, &self.bad_tables, name));
+        let all: Vec<_> = READING.iter().flat_map(|&f| UNREAD.iter().map(move |&kind| (f, kind))).collect();
+        lines.extend(missed(&all, &self.unread, |key| format!("{} answered on {}", key.0.name(), key.1)));
         let all: Vec<_> = SIZES.iter().flat_map(|&size| LEFTS.iter().map(move |&kind| (size, kind))).collect();
         lines.extend(missed(&all, &self.lefts, |key| format!("claim in a node of size {} that leaves {}", key.0, key.1)));
         lines
@@ -321,14 +270,22 @@ impl Coverage {
 
     /// The same for histories: answers, moments of scripts, crashes with all claims open.
     pub fn histories_missed(&self) -> Vec<String> {
-        let on_each = |f: Function, answer: u64| EDITIONS.iter().map(move |&edition| (f, answer, edition));
+        let on_each = |f: Function, answer: u64| RULES.iter().map(move |&rule| (f, answer, rule));
         let of_each = |f: Function| answers(f).iter().flat_map(move |&answer| on_each(f, answer));
         let all: Vec<_> = Function::ALL.iter().flat_map(|&f| of_each(f)).collect();
-        let name = |key: &(Function, u64, u64)| format!("{} {} in a history{}", key.0.name(), key.1, on(key.2));
+        let name = |key: &(Function, u64, Rule)| format!("{} {} in a history{}", key.0.name(), key.1, on(Some(key.2)));
         let mut lines = missed(&all, &self.answers, name);
-        lines.extend(missed(&STARTS, &self.starts, |key| format!("a history that starts {}", key)));
-        let all: Vec<_> = STORING.iter().flat_map(|&f| EDITIONS.iter().map(move |&edition| (f, edition))).collect();
-        lines.extend(missed(&all, &self.storing, |key| format!("crash in {}{}", key.0.name(), on(key.1))));
+        let name = |key: &(Rule, &str)| format!("a history's start, {}: {}", named(key.0), key.1);
+        lines.extend(missed(&starts(), &self.starts, name));
+        let all: Vec<_> = RULES.iter().flat_map(|&before| [SECOND, OWN].map(|after| (before, after))).collect();
+        let name = |key: &(Rule, Rule)| format!("format in a history from {} to {}", named(key.0), named(key.1));
+        lines.extend(missed(&all, &self.formats, name));
+        lines.extend(missed(&REFUSED_TABLES, &self.refused_tables, |key| format!("format 16 in a history, {}", key.shape)));
+        let all: Vec<_> = RULES.iter().flat_map(|&rule| [false, true].map(|yes| (yes, rule))).collect();
+        let name = |key: &(bool, Rule)| format!("has in a history{}, yes: {}", on(Some(key.1)), key.0);
+        lines.extend(missed(&all, &self.lookups, name));
+        let all: Vec<_> = STORING.iter().flat_map(|&f| RULES.iter().map(move |&rule| (f, rule))).collect();
+        lines.extend(missed(&all, &self.storing, |key| format!("crash in {}{}", key.0.name(), on(Some(key.1)))));
         let moments = |f: Function| scripts(f).iter().flat_map(move |&entries| (0..=entries).map(move |cut| (f, entries, cut)));
         let all: Vec<_> = Function::ALL.iter().flat_map(|&f| moments(f)).collect();
         lines
@@ -341,7 +298,7 @@ impl Coverage {
         let branched = |entries: &usize| format!("crash in a branch-out of {} entries beside another head", entries);
         lines.extend(missed(&BRANCH_OUTS, &self.branched, branched));
         let beside = |key: &&str| format!("claim of a history, {}", key);
-        lines.extend(missed(&[FRAME_TAKEN, NODE_TAKEN, NO_NODES, ANSWERED], &self.beside, beside));
+        lines.extend(missed(&BESIDE, &self.beside, beside));
         let lefts: BTreeMap<&str, u64> = self.lefts.iter().map(|(key, &count)| (key.1, count)).collect();
         lines.extend(missed(&LEFTS[..4], &lefts, |kind| format!("claim of a history that leaves {}", kind)));
         if self.deepest < LAST_LEVEL {
@@ -351,12 +308,16 @@ impl Coverage {
     }
 }
 
-fn on(edition: u64) -> String {
-    if edition == ANY {
-        String::new()
-    } else {
-        format!(" on edition {}", edition)
+fn named(rule: Rule) -> &'static str {
+    match rule {
+        FIRST => "edition 1",
+        OWN => "an own table",
+        _ => "edition 2",
     }
+}
+
+fn on(rule: Option<Rule>) -> String {
+    rule.map_or(String::new(), |rule| format!(" on {}", named(rule)))
 }
 
 fn missed<K: Ord>(all: &[K], reached: &BTreeMap<K, u64>, name: impl Fn(&K) -> String) -> Vec<String> {

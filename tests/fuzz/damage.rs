@@ -1,7 +1,9 @@
-//! Damage to an image's trees: every way in which it can be unsound, and words of any content.
+//! Damage to an image's trees and to its table: every way in which it can be unsound, and words of any content.
 use crate::model::image::*;
 use crate::model::node::*;
+use crate::model::rule::{Rule, SECOND};
 use crate::random::Random;
+use crate::tables;
 use std::ops::Range;
 
 pub struct Damage<'a> {
@@ -63,7 +65,7 @@ impl Damage<'_> {
     }
 
     pub fn once(&mut self) {
-        match self.random.below(16) {
+        match self.random.below(17) {
             0 | 1 => self.next(),
             2 => self.shared_children(),
             3 => self.small_word(),
@@ -74,8 +76,8 @@ impl Damage<'_> {
             8 => self.frame(),
             9..=11 => self.copy(),
             12 | 13 => self.slot(),
-            // The whole image is read by the other rule.
-            14 => self.image[0] = other_edition(self.image[0]),
+            14 => tables::change_rule(self.random, self.image),
+            15 => tables::make_bad(self.random, self.image),
             _ => {
                 let index = self.random.between(HEADER_WORDS, self.image.len() as u64 - 1) as usize;
                 self.image[index] = self.odd_word();
@@ -155,14 +157,21 @@ impl Damage<'_> {
         self.image[at] ^= 1 << self.random.below(64);
     }
 
-    /// A held frame with the fingerprint that the other edition would have.
+    /// The image's; another damage may have left it none.
+    fn rule(&self) -> Rule {
+        Rule::of(self.image).unwrap_or(SECOND)
+    }
+
+    /// A held frame with the fingerprint that another rule would have.
     fn other_fingerprint(&mut self) {
         let at = self.node_word(0) as u64;
         let set = self.image[(at + SET) as usize];
         let any = self.random.below(PLACES);
         let place = if set >> any & 1 == 1 { any } else { u64::from(set.trailing_zeros()).min(PLACES - 1) };
         let frame = self.image[(at + FRAMES + place) as usize];
-        self.put_fingerprint(at, place, fingerprint(other_edition(self.image[0]), frame));
+        let others: Vec<Rule> = self.rule().others().collect();
+        let print = self.random.pick(&others).fingerprint(self.image, frame);
+        self.put_fingerprint(at, place, print);
     }
 
     /// Another frame in a place, with its right fingerprint or with the old one; perhaps off its path.
@@ -191,7 +200,7 @@ impl Damage<'_> {
 
     fn hold(&mut self, at: u64, place: u64, frame: u64) {
         self.image[(at + FRAMES + place) as usize] = frame;
-        self.put_fingerprint(at, place, fingerprint(self.image[0], frame));
+        self.put_fingerprint(at, place, self.rule().fingerprint(self.image, frame));
         self.image[(at + SET) as usize] |= 1 << place;
     }
 

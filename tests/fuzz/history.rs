@@ -4,16 +4,20 @@ use crate::coverage::{Claims, Coverage};
 use crate::model::buffer::Buffer;
 use crate::model::call::{Call, Function, Handed, Lent};
 use crate::model::claim::node_used;
+use crate::model::fault::Fault;
+use crate::model::format::header;
 use crate::model::image::*;
 use crate::model::left::Claimed;
+use crate::model::rule::*;
 use crate::model::script::{self, Entry, BARRIER};
-use crate::model::table::{Lengths, Reply, Table, Value};
+use crate::model::table::{Fed, Reply, Table, Value};
 use crate::plan::Plan;
 use crate::random::Random;
 use crate::recovery::deepest;
 use crate::report::describe;
 use crate::start::start;
 use crate::subject::Subject;
+use crate::tables;
 
 pub struct History<'a> {
     pub random: Random,
@@ -22,8 +26,8 @@ pub struct History<'a> {
     pub lent: Lent,
     pub table: Table,
     pub plan: Plan,
-    /// The edition that the image is to have: the one it started with, and 2 after a format.
-    pub edition: u64,
+    /// The header that the image is to have: as it was found, or as the last format has to write it.
+    pub header: [u64; HEADER_WORDS as usize],
 }
 
 pub fn case(seed: u64, subject: Subject, coverage: &mut Coverage) -> Result<(), String> {
@@ -46,7 +50,23 @@ enum Which {
     List,
 }
 
+/// The book's own buffer, handed back after a call that was lent another; of one for another geometry, only if it was refused.
+struct Own {
+    which: Which,
+    buffer: Buffer,
+    if_refused: bool,
+}
+
 impl History<'_> {
+    /// The rule that the book is to go by: the table knows whether it was given one.
+    pub fn rule(&self) -> Rule {
+        match self.header[0] {
+            FIRST_EDITION => FIRST,
+            _ if self.table.own => OWN,
+            _ => SECOND,
+        }
+    }
+
     fn step(&mut self, call: &mut Call) -> Result<(), String> {
         let claims = Claims::of(&self.table, call);
         // More often where it is seldom: in Open; with all heads at work, or several in one tree, in what is not a head's next.
@@ -78,11 +98,12 @@ impl History<'_> {
     fn perform(&mut self, call: &mut Call) -> Result<(u64, Vec<Entry>), String> {
         let own = self.lend(call);
         let due = self.due(call);
+        let rule = self.rule();
         let handed = self.subject.perform(call, &mut self.lent, self.random.word());
-        let reply = self.table.perform(call, &Lengths::of(&self.lent), handed.answer);
-        self.coverage.answer(call.function, handed.answer, self.edition);
-        if let Some((name, _)) = self.lent.named().iter().find(|(_, buffer)| !buffer.guards_hold()) {
-            return Err(format!("words outside the {} are written", name));
+        let reply = self.table.perform(call, &Fed::of(&self.lent), handed.answer);
+        self.coverage.answer(call.function, handed.answer, rule);
+        if let Some(name) = self.lent.written_outside() {
+            return Err(format!("there is written outside the {}", name));
         }
         self.compare(handed.answer, handed.count, &reply)?;
         if call.function == Function::Claim {
@@ -90,14 +111,33 @@ impl History<'_> {
         }
         let scripted = reply == Ok(Value::None);
         let entries = if scripted { script::read(&self.lent.script[..handed.count as usize]) } else { Vec::new() };
-        if let Some((which, buffer)) = own {
-            *self.buffer(which) = buffer;
+        for Own { which, buffer, if_refused } in own {
+            if handed.answer != 0 || !if_refused {
+                *self.buffer(which) = buffer;
+            }
         }
-        if call.function == Function::Format && handed.answer == 0 {
-            self.edition = EDITION;
+        match (call.function, handed.answer) {
+            (Function::Has, 0) => self.coverage.lookup(handed.count == 1, rule),
+            (Function::Format, 0) => self.formatted(call, rule),
+            (Function::Format, 16) => self.coverage.refused_table(self.lent.table()),
+            _ => (),
         }
-        self.check_edition()?;
+        self.check_header()?;
         Ok((handed.answer, entries))
+    }
+
+    /// Book and table have answered a format of a book that went by another rule, or by the same.
+    fn formatted(&mut self, call: &Call, before: Rule) {
+        self.format_header(call);
+        self.coverage.format(before, self.rule());
+    }
+
+    /// What a format that is answered has to write.
+    pub fn format_header(&mut self, call: &Call) {
+        self.header = header(call.slots, call.nodes, self.lent.table());
+        if let Subject::Faulty(Fault::OwnForgotten) = self.subject {
+            self.table.own = false;
+        }
     }
 
     /// What is due to a claim that comes as far, where the table takes the book's word: 13 if another head has the frame, or is
@@ -146,11 +186,13 @@ impl History<'_> {
         }
     }
 
-    /// Now and then a buffer of another length for this call; the book's own is handed back.
-    fn lend(&mut self, call: &mut Call) -> Option<(Which, Buffer)> {
-        if call.function == Function::Format && self.random.one_in(3) {
-            self.other_geometry(call);
-            return None;
+    /// Now and then a buffer of another length for this call; for a format a table, good or not, or none.
+    fn lend(&mut self, call: &mut Call) -> Vec<Own> {
+        if call.function == Function::Format {
+            self.lent.table = tables::given(&mut self.random);
+            if self.random.one_in(3) {
+                return self.other_geometry(call);
+            }
         }
         // More often for the operations that are seldom.
         let bound = match call.function {
@@ -165,31 +207,35 @@ impl History<'_> {
             2 => Which::Scratch,
             3 => Which::Script,
             4..=9 if call.function == Function::List => Which::List,
-            _ => return None,
+            _ => return Vec::new(),
         };
-        let own = self.buffer(which).clone();
+        let buffer = self.buffer(which).clone();
         let frames = self.table.reels.get(&call.reel).map_or(0, |frames| frames.len() as u64);
-        let (less, more) = (self.random.below(own.len() as u64), own.len() as u64 + 1);
+        let (less, more) = (self.random.below(buffer.len() as u64), buffer.len() as u64 + 1);
         let length = match which {
             Which::Script => less,
             Which::List => self.random.below(frames + 2),
             _ => self.random.pick(&[less, more]),
         };
         self.buffer(which).resize(length as usize, || 0);
-        Some((which, own))
+        vec![Own { which, buffer, if_refused: false }]
     }
 
     /// Another R and N for Format: of the same length, with a map of their own, or of another length.
-    fn other_geometry(&mut self, call: &mut Call) {
+    fn other_geometry(&mut self, call: &mut Call) -> Vec<Own> {
         if self.random.one_in(4) || call.nodes == 1 && call.slots <= 40 {
             call.slots += 1;
-            return;
+            return Vec::new();
         }
         (call.slots, call.nodes) =
             if call.nodes > 1 { (call.slots + 40, call.nodes - 1) } else { (call.slots - 40, call.nodes + 1) };
-        for map in [&mut self.lent.map, &mut self.lent.scratch] {
-            map.resize(map_words(call.nodes) as usize, || 0);
-        }
+        let length = map_words(call.nodes) as usize;
+        let mut replaced = |which: Which| {
+            let buffer = self.buffer(which).clone();
+            self.buffer(which).resize(length, || 0);
+            Own { which, buffer, if_refused: true }
+        };
+        vec![replaced(Which::Map), replaced(Which::Scratch)]
     }
 
     fn compare(&self, answer: u64, count: u64, reply: &Reply) -> Result<(), String> {

@@ -1,4 +1,4 @@
-//! Buffers of any content and length for one call: maps, head records, scripts, headers.
+//! Buffers of any content and length for one call: maps, head records, scripts, headers, tables.
 use crate::model::call::{Call, Function, Lent};
 use crate::model::claim::node_used;
 use crate::model::fault::Fault;
@@ -6,6 +6,7 @@ use crate::model::image::*;
 use crate::model::node::PLACES;
 use crate::model::script::{Entry, BARRIER, SCRIPT_WORDS};
 use crate::random::Random;
+use crate::tables;
 
 pub struct Lending<'a> {
     pub random: &'a mut Random,
@@ -140,6 +141,17 @@ impl Lending<'_> {
             2 => self.random.between(1, 2) | 1 << self.random.between(2, 63),
             _ => self.odd_word(),
         };
+    }
+
+    /// A bad table, mostly in an image of edition 2; now and then a wrong length besides.
+    pub fn bad_table(&mut self) {
+        if !self.random.one_in(4) {
+            self.lent.image[0] = EDITION;
+        }
+        tables::make_bad(self.random, &mut self.lent.image);
+        if self.random.one_in(8) {
+            self.length();
+        }
     }
 
     /// A script for Apply: stores and barriers, one entry of it perhaps wrong, or of odd length.

@@ -7,7 +7,10 @@ type Read = *const u64;
 
 #[rustfmt::skip]
 extern "C" {
-    fn reelbook_format(image: Words, words: usize, map: Words, map_words: usize, heads: Words, slots: u64, nodes: u64) -> u64;
+    fn reelbook_format(
+        image: Words, words: usize, map: Words, map_words: usize, heads: Words, table: *const u8, table_bytes: usize, slots: u64,
+        nodes: u64,
+    ) -> u64;
     fn reelbook_recover(image: Words, words: usize, map: Words, map_words: usize, heads: Words) -> u64;
     fn reelbook_open(
         image: Read, words: usize, map: Words, map_words: usize, script: Words, room: usize, reel: u64, used: Words,
@@ -45,11 +48,13 @@ pub fn perform(call: &Call, lent: &mut Lent, count: &mut u64, left: &mut u64) ->
     let (scratch, scratch_words) = slice(&mut lent.scratch);
     let (list, list_room) = slice(&mut lent.list);
     let heads = lent.heads.as_mut_ptr();
+    let (table, table_bytes) = lent.table.as_ref().map_or((std::ptr::null(), 0), |table| (table.as_ptr(), table.len()));
     let &Call { function, slots, nodes, head, reel, frame } = call;
-    // Sound: the slices are apart from each other and of the lengths given, and heads has all of its words.
+    // Sound: the slices are apart from each other and of the lengths given, and heads has all of its words. No memory has length
+    // 0.
     unsafe {
         match function {
-            Function::Format => reelbook_format(image, words, map, map_words, heads, slots, nodes),
+            Function::Format => reelbook_format(image, words, map, map_words, heads, table, table_bytes, slots, nodes),
             Function::Recover => reelbook_recover(image, words, map, map_words, heads),
             Function::Open => reelbook_open(image, words, map, map_words, script, room, reel, count),
             Function::Claim => reelbook_claim(image, words, map, map_words, heads, script, room, head, reel, frame, count, left),

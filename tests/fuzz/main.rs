@@ -1,11 +1,13 @@
 //! Fuzzing of the library against the model: a number of cases, one case again, or the deliberate faults.
 //! A case is known by its seed: an even one is some calls on one image, an odd one a history with crashes.
+mod book;
 mod calls;
 mod cases;
 mod coverage;
 mod crash;
 mod damage;
 mod faults;
+mod goals;
 mod history;
 mod lending;
 mod library;
@@ -19,6 +21,8 @@ mod run;
 mod spoil;
 mod start;
 mod subject;
+mod table_cases;
+mod tables;
 mod trees;
 
 use std::process::exit;

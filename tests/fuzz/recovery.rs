@@ -10,6 +10,7 @@ use crate::model::fault::Fault;
 use crate::model::image::*;
 use crate::model::node::{LEVEL_AT, LOCATE, PLACES, SET};
 use crate::model::operations::check_image;
+use crate::model::rule::{Rule, OWN};
 use crate::model::script::{carry_out, Entry, BARRIER};
 use crate::model::table::{self, Reels, Table};
 use crate::model::tree;
@@ -82,7 +83,7 @@ fn check_locate(lent: &Lent, nodes: &BTreeSet<u64>) -> Result<(), String> {
 
 impl History<'_> {
     pub fn check_book(&self) -> Result<(), String> {
-        self.check_edition()?;
+        self.check_header()?;
         self.check_contents(&contents(&self.lent.image)?)
     }
 
@@ -101,10 +102,16 @@ impl History<'_> {
         check_locate(lent, nodes)
     }
 
-    pub fn check_edition(&self) -> Result<(), String> {
-        match self.lent.image[0] {
-            found if found == self.edition => Ok(()),
-            found => Err(format!("expected edition {}, found {}", self.edition, found)),
+    /// The image has a table of its own exactly where the table of reels says so; and its header is as it is to be.
+    pub fn check_header(&self) -> Result<(), String> {
+        let (found, table) = (&self.lent.image[..HEADER_WORDS as usize], self.table.own);
+        let own = Rule::of(found) == Some(OWN);
+        if own != table {
+            return Err(format!("own table by the table of reels: {}, by the image: {}", table, own));
+        }
+        match (0..found.len()).find(|&word| found[word] != self.header[word]) {
+            None => Ok(()),
+            Some(word) => Err(format!("word {}: expected {:#x}, found {:#x}", word, self.header[word], found[word])),
         }
     }
 
@@ -126,7 +133,7 @@ impl History<'_> {
         for moment in first..first + if self.plan.every_moment { moments } else { 1 } {
             let (done, left) = entries.split_at((moment % moments) as usize);
             let passed = !left.contains(&BARRIER);
-            self.coverage.crash(function, entries.len(), done.len(), claims, self.edition);
+            self.coverage.crash(function, entries.len(), done.len(), claims, self.rule());
             self.crash(&Crash::after(&image, done), &before, &after, passed)
                 .map_err(|text| format!("crash after {} of {} entries: {}", done.len(), entries.len(), text))?;
         }
@@ -135,7 +142,7 @@ impl History<'_> {
 
     /// In a Recover that the history has, or between it and the driver's barrier.
     pub fn crash_in_recover(&mut self, image: &Buffer, reels: &Reels, claims: Claims) -> Result<(), String> {
-        self.coverage.crash(Function::Recover, 0, 0, claims, self.edition);
+        self.coverage.crash(Function::Recover, 0, 0, claims, self.rule());
         let both = Contents { reels: reels.clone(), nodes: contents(image)?.nodes };
         self.crash(&Crash::in_recover(image, &self.lent.image), &both, &both, false)
     }
@@ -158,7 +165,7 @@ impl History<'_> {
     /// Recovers, and takes the table of before or after, whichever the image then is, whole. True if it is before's.
     fn recovered(&mut self, before: &Contents, after: &Contents, passed: bool) -> Result<bool, String> {
         self.recover()?;
-        self.check_edition()?;
+        self.check_header()?;
         let found = contents(&self.lent.image)?;
         let undone = !passed && found == *before;
         let expected = if undone { before } else { after };

@@ -37,10 +37,15 @@ fn part(image: &[u64], index: usize) -> String {
 pub fn difference(call: &Call, heads: &[u64], expected: (Handed, &Lent), found: (Handed, &Lent)) -> String {
     let mut lines = vec![describe(call)];
     let lengths = found.1.named().map(|(name, buffer)| format!("{} {}", name, buffer.len()));
-    let header = found.1.image.iter().take(3).collect::<Vec<_>>();
-    lines.push(format!("words: {}; image begins {:?}; heads were {:x?}", lengths.join(", "), header, heads));
+    let header = found.1.image.iter().take(4).collect::<Vec<_>>();
+    let table = found.1.table.as_ref().map_or("none".to_string(), |table| format!("{} bytes", table.len()));
+    lines.push(format!("words: {}; table: {}", lengths.join(", "), table));
+    lines.push(format!("image begins {:?}; heads were {:x?}", header, heads));
     for (what, Handed { answer, count, left }) in [("expected", expected.0), ("found", found.0)] {
         lines.push(format!("{} answer {}, count {}, places left {}", what, answer, count, left));
+    }
+    if expected.1.table != found.1.table {
+        lines.push("table: it is written".to_string());
     }
     for ((name, a), (_, b)) in expected.1.named().into_iter().zip(found.1.named()) {
         if !b.guards_hold() {

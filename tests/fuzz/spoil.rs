@@ -2,7 +2,8 @@
 //! see that the comparison looks there.
 use crate::model::call::{Call, Function, Function::*, Handed, Lent};
 use crate::model::image::*;
-use crate::model::node::{fingerprint, other_edition, with_byte, LOCATE, NEXT, SET};
+use crate::model::node::{with_byte, LOCATE, NEXT, SET};
+use crate::model::rule::*;
 use crate::subject::Subject;
 
 type Change = fn(&Call, &mut Lent, &mut Handed);
@@ -20,7 +21,7 @@ const fn after(function: Function, answer: u64, text: &'static str, change: Chan
 }
 
 /// Found by single calls, where every word is compared with the model's.
-pub static OF_CALLS: [Spoil; 33] = [
+pub static OF_CALLS: [Spoil; 46] = [
     after(Retire, 13, "retire answers 5 for 13", |_, _, handed| handed.answer = 5),
     after(List, 14, "list hands back a count with 14", |_, _, handed| handed.count = 1),
     after(Commit, 0, "commit hands back two words more", |_, _, handed| handed.count += 2),
@@ -52,12 +53,25 @@ pub static OF_CALLS: [Spoil; 33] = [
     after(Recover, 4, "recover takes the other edition's fingerprints", by_other_edition),
     after(Has, 0, "has finds by the other edition's fingerprint too", by_other_edition),
     after(Has, 2, "has takes edition 3", |_, lent, handed| handed.answer = if lent.image[0] == 3 { 5 } else { 2 }),
+    after(Recover, 4, "recover takes fingerprints over our table beside an own one", over_our_table),
+    after(Has, 0, "has finds by our table too beside an own one", over_our_table),
+    after(Retire, 4, "retire leaves a bit in the scratch map with 4 for the table", |_, lent, _| scratch_bit(lent)),
+    after(Recover, 4, "recover makes the heads idle with 4 for the table", |_, lent, _| clear_if_bad(lent)),
+    after(Recover, 4, "recover mends word 3", |_, lent, _| lent.image[OWN_AT] &= 1),
+    after(Claim, 4, "claim hands back places left with 4 for the table", |_, lent, handed| handed.left = bad(lent)),
+    after(List, 4, "list hands back a count with 4 for the table", |_, lent, handed| handed.count = bad(lent)),
+    after(Commit, 4, "commit makes its head idle with 4 for the table", |call, lent, _| idle_if_bad(call, lent)),
+    after(Open, 4, "open marks the last node with 4 for the table", |_, lent, _| mark_last(lent)),
+    after(Format, 16, "format clears the map with 16", |_, lent, _| lent.map.fill(0)),
+    after(Format, 16, "format writes word 3 with 16", |_, lent, _| lent.image[OWN_AT] = 1),
+    after(Format, 0, "format writes a word behind the table", |_, lent, _| lent.image[TABLE_AT + TABLE_WORDS] = 1),
+    after(Format, 0, "format writes to the table that it is given", |_, lent, _| write_to_table(lent)),
     after(Claim, 2, "claim hands back places left with 2", |_, _, handed| handed.left = 1),
     after(Fill, 0, "fill folds the other edition's bytes", |call, lent, _| fold_as_other_edition(call, lent)),
 ];
 
 /// Found by histories, held against the plain table alone.
-pub static OF_HISTORIES: [Spoil; 30] = [
+pub static OF_HISTORIES: [Spoil; 35] = [
     after(Commit, 0, "commit answers 12 and is done", |_, _, handed| *handed = Handed { answer: 12, count: 0, left: 0 }),
     after(Claim, 9, "claim hands back a count with 9", |_, _, handed| handed.count = 2),
     after(Claim, 0, "claim hands back a place left less", |_, _, handed| handed.left = handed.left.saturating_sub(1)),
@@ -83,6 +97,11 @@ pub static OF_HISTORIES: [Spoil; 30] = [
     after(Format, 0, "format writes edition 1", |_, lent, _| lent.image[0] = FIRST_EDITION),
     after(Recover, 0, "recover makes edition 2 of edition 1", |_, lent, _| lent.image[0] = EDITION),
     after(Recover, 0, "recover refuses edition 1", |_, lent, handed| handed.answer = 2 * u64::from(is_first_edition(lent))),
+    after(Format, 0, "format answers 16 for a good table", |_, lent, handed| handed.answer = 16 * is_own(lent)),
+    after(Format, 16, "format clears a root with 16", |_, lent, _| lent.image[65] = 0),
+    after(Format, 0, "format stores another entry", |_, lent, _| lent.image[TABLE_AT + 31] ^= is_own(lent)),
+    after(Recover, 0, "recover gives an own table up", |_, lent, _| lent.image[OWN_AT] = 0),
+    after(Has, 0, "has says no on an own table", |_, lent, handed| handed.count &= !is_own(lent)),
     after(Recover, 1, "recover makes the heads idle with 1", |_, lent, _| lent.heads.fill(0)),
     after(Recover, 3, "recover clears the map with 3", |_, lent, _| lent.map.fill(0)),
     after(Recover, 0, "recover of edition 1 loses a frame", |_, lent, _| lose_frame_of_edition_1(lent)),
@@ -102,19 +121,70 @@ fn is_first_edition(lent: &Lent) -> bool {
     lent.image[0] == FIRST_EDITION
 }
 
-/// The call once more by the other edition's rule, where it refused or did not find.
-fn by_other_edition(call: &Call, lent: &mut Lent, handed: &mut Handed) {
-    if handed.count == 0 {
-        lent.image[0] = other_edition(lent.image[0]);
+/// 1 or 0.
+fn is_own(lent: &Lent) -> u64 {
+    u64::from(Rule::of(&lent.image) == Some(OWN))
+}
+
+fn bad(lent: &Lent) -> u64 {
+    u64::from(is_bad(&lent.image))
+}
+
+/// The call once more as if these were edition and word 3, where it refused or did not find, and not for a bad table.
+fn once_more(call: &Call, lent: &mut Lent, handed: &mut Handed, edition: u64, own: u64) {
+    if handed.count == 0 && !is_bad(&lent.image) {
+        let before = (lent.image[0], lent.image[OWN_AT]);
+        (lent.image[0], lent.image[OWN_AT]) = (edition, own);
         *handed = Subject::Library.perform(call, lent, 0);
-        lent.image[0] = other_edition(lent.image[0]);
+        (lent.image[0], lent.image[OWN_AT]) = before;
+    }
+}
+
+fn by_other_edition(call: &Call, lent: &mut Lent, handed: &mut Handed) {
+    once_more(call, lent, handed, other_edition(lent), 0);
+}
+
+fn over_our_table(call: &Call, lent: &mut Lent, handed: &mut Handed) {
+    if is_own(lent) == 1 {
+        once_more(call, lent, handed, EDITION, 0);
+    }
+}
+
+fn other_edition(lent: &Lent) -> u64 {
+    if is_first_edition(lent) {
+        EDITION
+    } else {
+        FIRST_EDITION
     }
 }
 
 /// The third entry of a fill stores the fingerprint.
 fn fold_as_other_edition(call: &Call, lent: &mut Lent) {
     let Head { place, frame, .. } = Head::read(&lent.heads, call.head);
-    lent.script[5] = with_byte(lent.script[5], place % 8, fingerprint(other_edition(lent.image[0]), frame));
+    let rule = if is_first_edition(lent) { SECOND } else { FIRST };
+    lent.script[5] = with_byte(lent.script[5], place % 8, rule.fingerprint(&lent.image, frame));
+}
+
+fn scratch_bit(lent: &mut Lent) {
+    if bad(lent) == 1 {
+        lent.scratch[0] = 1;
+    }
+}
+
+fn clear_if_bad(lent: &mut Lent) {
+    if bad(lent) == 1 {
+        lent.heads.fill(0);
+    }
+}
+
+fn idle_if_bad(call: &Call, lent: &mut Lent) {
+    if bad(lent) == 1 && call.head < HEADS {
+        record(lent, call.head).fill(0);
+    }
+}
+
+fn write_to_table(lent: &mut Lent) {
+    lent.table.iter_mut().for_each(|table| table.iter_mut().for_each(|entry| *entry ^= 1));
 }
 
 /// The lowest one of node 0.
@@ -184,9 +254,10 @@ fn behind_frames(lent: &mut Lent, count: u64) {
     }
 }
 
-/// The barrier after the children's words becomes a store of 0 to word 63, which has it. It is the last but four of the entries.
+/// The barrier after the children's words becomes a store to word 63 of what it has. It is the last but four of the entries.
 fn lose_barrier(lent: &mut Lent, used: u64) {
     if used > 8 {
-        lent.script[used as usize - 10..][..2].copy_from_slice(&[63, 0]);
+        let store = [63, lent.image[63]];
+        lent.script[used as usize - 10..][..2].copy_from_slice(&store);
     }
 }

@@ -1,24 +1,27 @@
-//! How a history starts: with a format of memory that holds anything, or with the recovery of a sound image of edition 1 that
-//! holds frames, perhaps after attempts that are refused or crash.
+//! How a history starts: with a format of memory that holds anything, perhaps after formats refused for their table, or with the
+//! recovery of a sound image that holds frames, perhaps after attempts that are refused or crash.
 use crate::coverage::{Claims, Coverage};
 use crate::history::History;
 use crate::model::buffer::Buffer;
 use crate::model::call::{Call, Function, Lent};
 use crate::model::fault::Fault;
+use crate::model::format::header;
 use crate::model::image::*;
+use crate::model::rule::*;
 use crate::model::script::SCRIPT_WORDS;
-use crate::model::table::{Reels, Table};
+use crate::model::table::{Fed, Reels, Table};
 use crate::plan::Plan;
 use crate::random::Random;
 use crate::subject::Subject;
-use crate::trees;
+use crate::{tables, trees};
 
 pub fn start(mut random: Random, subject: Subject, coverage: &mut Coverage) -> Result<History<'_>, String> {
     let plan = Plan::draw(&mut random);
     let lent = memory(&mut random, plan.slots, plan.nodes);
-    let table = Table::formatted(plan.slots, plan.nodes);
+    let table = Table::formatted(plan.slots, plan.nodes, false);
     let formats = random.one_in(2);
-    let mut history = History { random, subject, coverage, lent, table, plan, edition: EDITION };
+    let header = header(plan.slots, plan.nodes, &[]);
+    let mut history = History { random, subject, coverage, lent, table, plan, header };
     let started = if formats { history.format_first() } else { history.recover_first() };
     started.map_err(|text| format!("start: {}", text))?;
     Ok(history)
@@ -35,6 +38,7 @@ fn memory(random: &mut Random, slots: u64, nodes: u64) -> Lent {
         script: junk(SCRIPT_WORDS as u64),
         scratch: junk(map_words(nodes)),
         list: junk(64 * nodes),
+        table: None,
     }
 }
 
@@ -49,20 +53,36 @@ impl History<'_> {
     fn format_first(&mut self) -> Result<(), String> {
         let (slots, nodes) = (self.plan.slots, self.plan.nodes);
         let format = Call { function: Function::Format, slots, nodes, head: 0, reel: 0, frame: 0 };
-        let answer = self.subject.perform(&format, &mut self.lent, 0).answer;
-        if answer != 0 {
-            return Err(format!("format answers {}", answer));
+        let mut refused = false;
+        while !self.format_once(&format)? {
+            refused = true;
         }
-        self.coverage.format_start();
+        self.format_header(&format);
+        self.coverage.format_start(self.rule(), refused);
         self.check_book()
+    }
+
+    /// True if it is answered. Else nothing is written.
+    fn format_once(&mut self, format: &Call) -> Result<bool, String> {
+        self.lent.table = tables::given(&mut self.random);
+        let before = self.lent.clone();
+        let answer = self.subject.perform(format, &mut self.lent, 0).answer;
+        let reply = self.table.perform(format, &Fed::of(&self.lent), answer);
+        let expected = reply.err().unwrap_or(0);
+        if answer != expected || answer != 0 && self.lent != before {
+            return Err(format!("a format to be answered with {} answers {}, or has written", expected, answer));
+        }
+        Ok(answer == 0)
     }
 
     /// The table has the frames that were put into the image. A crash of the recovery is tried with every mixture of its stores
     /// where these are few.
     fn recover_first(&mut self) -> Result<(), String> {
         let geometry = (self.plan.slots, self.plan.nodes);
-        let built = trees::first_edition(&mut self.random, geometry, &self.plan.reels, self.plan.depths);
-        (self.lent.image, self.table.reels, self.edition) = (built.image, built.reels, FIRST_EDITION);
+        let rule = self.random.pick(&[FIRST, FIRST, OWN, OWN, SECOND]);
+        let built = trees::found(&mut self.random, rule, geometry, &self.plan.reels, self.plan.depths);
+        (self.lent.image, self.table.reels, self.table.own) = (built.image, built.reels, rule.own);
+        self.header.copy_from_slice(&self.lent.image[..HEADER_WORDS as usize]);
         if let Subject::Faulty(Fault::HeldForgotten) = self.subject {
             forget_frames(&mut self.table.reels);
         }
@@ -76,7 +96,7 @@ impl History<'_> {
         if cut {
             self.crash_in_recover(&image, &reels, Claims::NONE)?;
         }
-        self.coverage.first_edition_start(refused, cut, reels.values().any(|frames| !frames.is_empty()));
+        self.coverage.found_start(rule, refused, cut, reels.values().any(|frames| !frames.is_empty()));
         self.check_book()
     }
 }

@@ -1,10 +1,12 @@
-//! Images of either edition built word by word: sound trees of every depth and fullness, and chains down to level 31 in a small
-//! pool.
+//! Images of either edition, with our table or their own, built word by word: sound trees of every depth and fullness, and chains
+//! down to level 31 in a small pool.
 use crate::model::buffer::Buffer;
 use crate::model::image::*;
 use crate::model::node::*;
+use crate::model::rule::{Rule, RULES};
 use crate::model::table::Reels;
 use crate::random::Random;
+use crate::tables;
 use std::collections::HashSet;
 
 /// An image with the map of the nodes that its trees use, and the frames that its reels hold.
@@ -16,9 +18,9 @@ pub struct Built {
     pub reels: Reels,
 }
 
-/// What the trees are to have: an edition, reel numbers to choose from, or else any, depths, and the nodes they may still take.
+/// What the trees are to have: a rule, reel numbers to choose from, or else any, depths, and the nodes they may still take.
 struct Aim<'a> {
-    edition: u64,
+    rule: Rule,
     reels: &'a [u64],
     depths: &'a [u64],
     nodes: u64,
@@ -68,7 +70,7 @@ struct Builder<'a> {
 pub fn build(random: &mut Random) -> Built {
     let chain = random.one_in(7);
     let (slots, nodes) = if chain { (random.between(1, 3), random.between(35, 44)) } else { geometry(random) };
-    let aim = Aim { edition: random.between(1, 2), reels: &[], depths: &[0, 0, 0, 1, 2, 3, 4, 6, 31], nodes };
+    let aim = Aim { rule: random.pick(&RULES), reels: &[], depths: &[0, 0, 0, 1, 2, 3, 4, 6, 31], nodes };
     let mut builder = Builder::new(random, aim, slots, nodes);
     if chain {
         builder.chain();
@@ -78,10 +80,10 @@ pub fn build(random: &mut Random) -> Built {
     builder.built()
 }
 
-/// A sound image of edition 1, in which most reels have these numbers and the trees these depths. Mostly nodes are left.
-pub fn first_edition(random: &mut Random, (slots, nodes): (u64, u64), reels: &[u64], depths: &[u64]) -> Built {
+/// A sound image that goes by this rule. Most reels have these numbers and the trees these depths. Mostly nodes are left.
+pub fn found(random: &mut Random, rule: Rule, (slots, nodes): (u64, u64), reels: &[u64], depths: &[u64]) -> Built {
     let most = if random.one_in(8) { nodes } else { random.between(1, 10) };
-    let aim = Aim { edition: FIRST_EDITION, reels, depths, nodes: most };
+    let aim = Aim { rule, reels, depths, nodes: most };
     let mut builder = Builder::new(random, aim, slots, nodes);
     builder.trees();
     builder.built()
@@ -107,7 +109,8 @@ impl<'a> Builder<'a> {
     fn new(random: &'a mut Random, aim: Aim<'a>, slots: u64, nodes: u64) -> Builder<'a> {
         let stale = random.one_in(2);
         let mut words: Vec<u64> = (0..image_words(slots, nodes)).map(|_| if stale { random.word() } else { 0 }).collect();
-        words[..3].copy_from_slice(&[aim.edition, slots, nodes]);
+        words[..3].copy_from_slice(&[aim.rule.edition(), slots, nodes]);
+        tables::write(random, &mut words, aim.rule);
         for slot in 0..slots {
             words[slot_index(slot) as usize + 1] = 0;
         }
@@ -243,7 +246,7 @@ impl<'a> Builder<'a> {
     /// A frame with its fingerprint.
     fn place(&mut self, at: u64, place: u64, frame: u64) {
         let index = at + FINGERPRINTS + place / 8;
-        let prints = with_byte(self.words[index as usize], place % 8, fingerprint(self.aim.edition, frame));
+        let prints = with_byte(self.words[index as usize], place % 8, self.aim.rule.fingerprint(&self.words, frame));
         self.store(index, prints);
         self.store(at + FRAMES + place, frame);
     }

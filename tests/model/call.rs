@@ -67,9 +67,22 @@ pub struct Lent {
     pub script: Buffer,
     pub scratch: Buffer,
     pub list: Buffer,
+    /// The table that Format is given. None is no memory at all, which counts as a length of 0.
+    pub table: Option<Buffer<u8>>,
 }
 
 impl Lent {
+    pub fn table(&self) -> &[u8] {
+        self.table.as_deref().unwrap_or(&[])
+    }
+
+    /// The name of a buffer whose guards are written to.
+    pub fn written_outside(&self) -> Option<&'static str> {
+        let broken = self.named().into_iter().find(|(_, buffer)| !buffer.guards_hold()).map(|(name, _)| name);
+        let table = self.table.iter().any(|table| !table.guards_hold());
+        broken.or(if table { Some("table") } else { None })
+    }
+
     pub fn named(&self) -> [(&'static str, &Buffer); 6] {
         [
             ("image", &self.image),
@@ -91,6 +104,7 @@ impl Clone for Lent {
             script: self.script.clone(),
             scratch: self.scratch.clone(),
             list: self.list.clone(),
+            table: self.table.clone(),
         }
     }
 
@@ -101,5 +115,6 @@ impl Clone for Lent {
         self.script.clone_from(&other.script);
         self.scratch.clone_from(&other.scratch);
         self.list.clone_from(&other.list);
+        self.table.clone_from(&other.table);
     }
 }

@@ -23,10 +23,12 @@ pub fn claim(call: &Call, lent: &mut Lent, fault: Fault) -> Ended {
     let image = check_image(&lent.image, fault)?;
     check_map(&lent.map, image.nodes)?;
     check_script(&lent.script)?;
+    image.check_table_unless(Fault::TableAfterHead)?;
     if fault == Fault::ReelBeforeState {
         check(image.slot_of(call.reel).is_some() || call.head >= HEADS, NO_REEL)?;
     }
     check_head(&lent.heads, call.head, &[State::Idle], fault)?;
+    image.check_table_if(Fault::TableAfterHead)?;
     let slot = image.slot_of(call.reel).ok_or(NO_REEL)?;
     if fault == Fault::AnyClaimBusy {
         check_busy(&lent.heads, slot, fault)?;

@@ -11,6 +11,10 @@ const fn ending(answer: u64, shape: &'static str) -> Ending {
 }
 
 pub const DONE: Ending = ending(0, "done");
+pub const NO_TABLE: Ending = ending(0, "no table");
+pub const EMPTY_TABLE: Ending = ending(0, "a table of length 0");
+pub const GIVEN_TABLE: Ending = ending(0, "a table");
+pub const GIVEN_OURS: Ending = ending(0, "a table that equals ours");
 pub const LOCATE_EQUAL: Ending = ending(0, "no locate word differs");
 pub const LOCATE_SET: Ending = ending(0, "locate words differ");
 pub const CLEAR_ROOT: Ending = ending(0, "clear place in the root");
@@ -29,7 +33,7 @@ pub const ABANDONED_FILLED: Ending = ending(0, "filled head");
 pub const REMOVED_ROOT: Ending = ending(0, "in the root");
 pub const REMOVED_BELOW: Ending = ending(0, "below the root");
 pub const HAS_NO: Ending = ending(0, "no");
-pub const HAS_OTHER: Ending = ending(0, "no, held by the other edition's fingerprint");
+pub const HAS_OTHER: Ending = ending(0, "no, held with another rule's fingerprint");
 pub const HAS_LOWER: Ending = ending(0, "no, one with its lower half is held");
 pub const HAS_YES: Ending = ending(0, "yes");
 pub const TREE_EMPTY: Ending = ending(0, "no frame");
@@ -53,6 +57,11 @@ pub const SCRIPT_ODD: Ending = ending(3, "script of odd length");
 pub const BARRIER_VALUE: Ending = ending(3, "barrier with a value");
 pub const STORE_OUTSIDE: Ending = ending(3, "store outside");
 
+pub const OWN_2: Ending = ending(4, "word 3 is 2");
+pub const OWN_HIGH: Ending = ending(4, "word 3 is 0 or 1 but for higher bytes");
+pub const OWN_ABOVE: Ending = ending(4, "word 3 is above 2");
+pub const STORED_LACKS_ONE: Ending = ending(4, "own table lacks one byte");
+pub const STORED_LACKS: Ending = ending(4, "own table lacks several bytes");
 pub const OUTSIDE: Ending = ending(4, "node outside the pool");
 pub const LEVEL: Ending = ending(4, "level is not the depth");
 pub const SIZE: Ending = ending(4, "size not allowed");
@@ -69,7 +78,7 @@ pub const REEL_TWICE: Ending = ending(4, "reel in two slots");
 pub const OFF_PATH: Ending = ending(4, "frame off its path");
 pub const HELD_TWICE: Ending = ending(4, "frame held twice");
 pub const FINGERPRINT: Ending = ending(4, "wrong fingerprint");
-pub const OTHER_FINGERPRINT: Ending = ending(4, "fingerprint of the other edition");
+pub const OTHER_FINGERPRINT: Ending = ending(4, "fingerprint of another rule");
 
 pub const NO_REEL: Ending = ending(5, "no such reel");
 pub const ALREADY_OPEN: Ending = ending(6, "reel already open");
@@ -92,3 +101,10 @@ pub const BUSY_FRAME_NO_RUN: Ending = ending(13, "frame of another head, and no 
 pub const BUSY_NODE: Ending = ending(13, "node of another head");
 pub const BUSY_CHILD: Ending = ending(13, "new child that another head is at");
 pub const LIST_SHORT: Ending = ending(14, "list short");
+pub const TABLE_SHORT: Ending = ending(16, "table of fewer bytes");
+pub const TABLE_LONG: Ending = ending(16, "table of more bytes");
+pub const TABLE_LACKS_ONE: Ending = ending(16, "table lacks one byte");
+pub const TABLE_LACKS: Ending = ending(16, "table lacks several bytes");
+
+/// Refusal 4 for word 3 or the stored table.
+pub const BAD_TABLES: [Ending; 5] = [OWN_2, OWN_HIGH, OWN_ABOVE, STORED_LACKS_ONE, STORED_LACKS];

@@ -73,11 +73,44 @@ pub enum Fault {
     LowHalfOfEdition,
     ApplyReadsEdition,
     HeldForgotten,
+    Own2Taken,
+    LowHalfOfOwn,
+    LacksOneTaken,
+    LastEntryUnread,
+    SumJudged,
+    BadTableTaken,
+    UnreadTableChecked,
+    TableAfterReel,
+    TableAfterOpen,
+    TableAfterHead,
+    TableBeforeBuffers,
+    ScratchLeftForTable,
+    MapLeftForTable,
+    FormatReadsTable,
+    ApplyReadsTable,
+    FirstTableChecked,
+    FirstOverStored,
+    UnmarkedTaken,
+    FillOverOurs,
+    LookupOverOurs,
+    RecoverOverOurs,
+    OwnFoldsFour,
+    TableNotStored,
+    TableReversed,
+    OwnLeft0,
+    OursForgotten,
+    OldTableLeft,
+    TableBeforeMap,
+    OneByteMoreTaken,
+    TwoTablesTaken,
+    GivenLacksOneTaken,
+    EmptyRefused,
+    OwnForgotten,
 }
 
 impl Fault {
     /// Found by single calls alone: one buffer or answer differs from the sound model's.
-    pub const BY_CALLS: [(Fault, &'static str); 37] = [
+    pub const BY_CALLS: [(Fault, &'static str); 52] = [
         (Fault::NoSlots, "an image without slots is taken"),
         (Fault::EmptySlotRead, "an empty slot's reel number counts as open"),
         (Fault::HighestSlot, "a reel is the highest filled slot with its number"),
@@ -115,10 +148,25 @@ impl Fault {
         (Fault::Edition3Taken, "edition 3 is taken"),
         (Fault::LowHalfOfEdition, "of the edition the low four bytes are read"),
         (Fault::ApplyReadsEdition, "apply refuses an edition"),
+        (Fault::Own2Taken, "word 3 of 2 is taken"),
+        (Fault::LowHalfOfOwn, "of word 3 the low four bytes are read"),
+        (Fault::LacksOneTaken, "an own table that lacks one byte is taken"),
+        (Fault::LastEntryUnread, "the last entry of an own table is not looked at"),
+        (Fault::SumJudged, "an own table is judged by the sum of its bytes"),
+        (Fault::BadTableTaken, "any own table and any word 3 is taken"),
+        (Fault::UnreadTableChecked, "words 8 to 39 are looked at where word 3 is 0"),
+        (Fault::TableAfterReel, "4 for the table comes after 5"),
+        (Fault::TableAfterOpen, "4 for the table comes after 6"),
+        (Fault::TableAfterHead, "4 for the table comes after 11 and 12"),
+        (Fault::TableBeforeBuffers, "4 for the table comes before 3"),
+        (Fault::ScratchLeftForTable, "list leaves the scratch map as it was on 4 for the table"),
+        (Fault::MapLeftForTable, "recover leaves the map as it was on 4 for the table"),
+        (Fault::FormatReadsTable, "format refuses an image whose table is bad"),
+        (Fault::ApplyReadsTable, "apply refuses an image whose table is bad"),
     ];
 
     /// Found by histories with crashes alone, held against the plain table.
-    pub const BY_HISTORIES: [(Fault, &'static str); 12] = [
+    pub const BY_HISTORIES: [(Fault, &'static str); 13] = [
         (Fault::LocateTrusted, "recover takes locate for the truth"),
         (Fault::RootUnordered, "open stores the root before the barrier"),
         (Fault::ReelUnordered, "open stores the reel number after the barrier"),
@@ -131,10 +179,11 @@ impl Fault {
         (Fault::ThreeMended, "recover mends three locate words and no more"),
         (Fault::OneMendedInReel, "recover mends one locate word of each reel"),
         (Fault::HeldForgotten, "the table of a start forgets frames that the image holds"),
+        (Fault::OwnForgotten, "the table of reels forgets that a table was given"),
     ];
 
     /// Found by either.
-    pub const BY_BOTH: [(Fault, &'static str); 21] = [
+    pub const BY_BOTH: [(Fault, &'static str); 38] = [
         (Fault::AnyClaimBusy, "claim answers 13 for any open claim on the reel"),
         (Fault::FrameShared, "claim takes a frame that another head has"),
         (Fault::NodeShared, "claim takes a place in a node that another head is at"),
@@ -156,5 +205,22 @@ impl Fault {
         (Fault::FormatWrites1, "format writes edition 1"),
         (Fault::FormatKeeps1, "format keeps edition 1 where it finds it"),
         (Fault::Edition1Refused, "edition 1 is refused"),
+        (Fault::FirstTableChecked, "edition 1 is refused for word 3 or a stored table"),
+        (Fault::FirstOverStored, "edition 1 folds over a stored table"),
+        (Fault::UnmarkedTaken, "edition 2 folds over a stored table though word 3 is 0"),
+        (Fault::FillOverOurs, "fill folds over our table though there is an own one"),
+        (Fault::LookupOverOurs, "lookup folds over our table though there is an own one"),
+        (Fault::RecoverOverOurs, "recover folds over our table though there is an own one"),
+        (Fault::OwnFoldsFour, "an own table is folded over four bytes"),
+        (Fault::TableNotStored, "format does not store the table"),
+        (Fault::TableReversed, "format stores the table's bytes highest first"),
+        (Fault::OwnLeft0, "format leaves word 3 at 0 with a table"),
+        (Fault::OursForgotten, "a table that equals ours counts as none"),
+        (Fault::OldTableLeft, "format without a table leaves an old one's words"),
+        (Fault::TableBeforeMap, "format tries 16 before 3"),
+        (Fault::OneByteMoreTaken, "format takes a table of 257 bytes"),
+        (Fault::TwoTablesTaken, "format takes a table of 512 bytes"),
+        (Fault::GivenLacksOneTaken, "format takes a table that lacks one byte"),
+        (Fault::EmptyRefused, "format refuses a table of length 0"),
     ];
 }

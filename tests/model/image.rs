@@ -8,6 +8,10 @@ pub const FIRST_EDITION: u64 = 1;
 pub const MAX_SLOTS: u64 = 4096;
 pub const MAX_NODES: u64 = 65536;
 pub const HEADER_WORDS: u64 = 64;
+/// In edition 2 this word is 1 where the image has a table of its own, in the words from the second on, and 0 where ours applies.
+pub const OWN_AT: usize = 3;
+pub const TABLE_AT: usize = 8;
+pub const TABLE_WORDS: usize = 32;
 pub const SLOT_WORDS: u64 = 2;
 pub const NODE_WORDS: u64 = 80;
 pub const HEADS: u64 = 4;

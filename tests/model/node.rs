@@ -1,7 +1,8 @@
-//! A node, its children, and the fingerprint.
+//! A node, its children, and the fingerprints of its places.
 use super::ending::*;
 use super::fault::Fault;
-use super::image::{Image, EDITION, FIRST_EDITION};
+use super::image::Image;
+use super::rule::{Rule, FIRST, SECOND};
 
 pub const NEXT: u64 = 0;
 pub const LOCATE: u64 = 1;
@@ -38,26 +39,6 @@ pub fn path_bits(level: u64) -> u64 {
         level
     } else {
         2 * level - 3
-    }
-}
-
-/// Edition 1 folds the four low bytes of the frame, edition 2 all eight, lowest first.
-pub fn fingerprint(edition: u64, frame: u64) -> u64 {
-    let entry = |index: u64| (167 * index + 13) % 256;
-    let bytes = if edition == FIRST_EDITION { 4 } else { 8 };
-    let mut hash = 0;
-    for byte in 0..bytes {
-        hash = entry(hash ^ (frame >> (8 * byte) & 255));
-    }
-    hash
-}
-
-/// The edition that an image is not of.
-pub fn other_edition(edition: u64) -> u64 {
-    if edition == FIRST_EDITION {
-        EDITION
-    } else {
-        FIRST_EDITION
     }
 }
 
@@ -115,9 +96,11 @@ impl<'a> Node<'a> {
     /// The places at which the lookup finds the frame, rising.
     pub fn places_of(&self, frame: u64) -> impl Iterator<Item = u64> + 'a {
         let node = *self;
+        let rule = node.image.rule();
         let matches = move |place: u64| match node.image.fault {
             Fault::FingerprintUnread => true,
-            Fault::LookupFoldsFour => node.fingerprint(place) == fingerprint(FIRST_EDITION, frame),
+            Fault::LookupFoldsFour => node.has_fingerprint(place, Rule { bytes: 4, ..rule }),
+            Fault::LookupOverOurs => node.has_fingerprint(place, Rule { own: false, ..rule }),
             _ => node.has_right_fingerprint(place),
         };
         let is_frame = move |place: u64| match node.image.fault {
@@ -127,18 +110,21 @@ impl<'a> Node<'a> {
         self.held().filter(move |&place| is_frame(place) && matches(place))
     }
 
-    /// Is the fingerprint in this place that of the frame there, by the image's edition?
+    /// Is the fingerprint in this place that of the frame there, by this rule?
+    pub fn has_fingerprint(&self, place: u64, rule: Rule) -> bool {
+        self.image.fingerprint_by(rule, self.frame(place)) == self.fingerprint(place)
+    }
+
     pub fn has_right_fingerprint(&self, place: u64) -> bool {
-        let (frame, found) = (self.frame(place), self.fingerprint(place));
         match self.image.fault {
-            Fault::EitherRule => [FIRST_EDITION, EDITION].iter().any(|&edition| fingerprint(edition, frame) == found),
-            _ => self.image.fingerprint(frame) == found,
+            Fault::EitherRule => [FIRST, SECOND].iter().any(|&rule| self.has_fingerprint(place, rule)),
+            _ => self.has_fingerprint(place, self.image.rule()),
         }
     }
 
-    /// Is it the one that the other edition would have?
+    /// Is it one that another rule would have?
     pub fn has_other_fingerprint(&self, place: u64) -> bool {
-        self.fingerprint(place) == fingerprint(other_edition(self.image.edition()), self.frame(place))
+        self.image.rule().others().any(|rule| self.has_fingerprint(place, rule))
     }
 
     /// Refusal 4 unless the node is well formed at this depth.
@@ -176,16 +162,6 @@ impl<'a> Node<'a> {
 }
 
 impl<'a> Image<'a> {
-    /// A frame's fingerprint by the image's edition. Faults of the rule are made here.
-    pub fn fingerprint(&self, frame: u64) -> u64 {
-        match self.fault {
-            Fault::FourBytes => fingerprint(FIRST_EDITION, frame),
-            Fault::EightBytes => fingerprint(EDITION, frame),
-            Fault::UpperBytesUnread => fingerprint(self.edition(), frame & u64::from(u32::MAX)),
-            _ => fingerprint(self.edition(), frame),
-        }
-    }
-
     /// The node with this number at this depth. Refusal 4 if it is malformed there.
     pub fn node(&self, number: u64, depth: u64) -> Result<Node<'a>, Ending> {
         if number >= self.nodes {

@@ -4,9 +4,11 @@ use super::call::{Call, Function, Handed, Lent};
 use super::claim::claim;
 use super::ending::*;
 use super::fault::Fault;
+use super::format::format;
 use super::image::*;
 use super::left::left;
 use super::node::*;
+use super::rule::Rule;
 use super::script::{self, Entry, BARRIER, SCRIPT_WORDS};
 use super::tree::{self, Reached};
 use std::collections::HashSet;
@@ -44,6 +46,7 @@ pub fn perform(call: &Call, lent: &mut Lent, fault: Fault) -> Outcome {
 pub fn check_image(words: &[u64], fault: Fault) -> Result<Image<'_>, Ending> {
     let image = Image::read(words, fault)?;
     check_edition(image.edition(), fault)?;
+    image.check_table_if(Fault::TableBeforeBuffers)?;
     Ok(image)
 }
 
@@ -108,33 +111,21 @@ pub fn check_head(heads: &[u64], head: u64, states: &[State], fault: Fault) -> R
 }
 
 /// Every record idle.
-fn clear_heads(heads: &mut [u64], fault: Fault) {
+pub fn clear_heads(heads: &mut [u64], fault: Fault) {
     let count = if fault == Fault::LastRecordLeft { HEADS - 1 } else { HEADS };
     (0..count).for_each(|head| write_head(heads, head, [0; HEAD_WORDS]));
-}
-
-fn format(call: &Call, lent: &mut Lent, fault: Fault) -> Ended {
-    check_length(lent.image.len(), call.slots, call.nodes, fault)?;
-    check_map(&lent.map, call.nodes)?;
-    let edition = match (fault, lent.image[0]) {
-        (Fault::FormatWrites1, _) | (Fault::FormatKeeps1, FIRST_EDITION) => FIRST_EDITION,
-        _ => EDITION,
-    };
-    lent.image[..HEADER_WORDS as usize].fill(0);
-    lent.image[..3].copy_from_slice(&[edition, call.slots, call.nodes]);
-    for slot in 0..call.slots {
-        lent.image[slot_index(slot) as usize + 1] = 0;
-    }
-    lent.map.fill(0);
-    clear_heads(&mut lent.heads, fault);
-    Ok((DONE, 0))
 }
 
 fn recover(lent: &mut Lent, fault: Fault) -> Ended {
     let image = check_image(&lent.image, fault)?;
     check_map(&lent.map, image.nodes)?;
     let sound = image.sound();
-    if sound.is_ok() || fault != Fault::MapLeft {
+    let left = match fault {
+        Fault::MapLeft => sound.is_err(),
+        Fault::MapLeftForTable => image.check_table().is_err(),
+        _ => false,
+    };
+    if !left {
         lent.map.fill(0);
     }
     let reached = sound?;
@@ -174,8 +165,10 @@ fn open(call: &Call, lent: &mut Lent, fault: Fault) -> Ended {
     let image = check_image(&lent.image, fault)?;
     check_map(&lent.map, image.nodes)?;
     check_script(&lent.script)?;
+    image.check_table_unless(Fault::TableAfterOpen)?;
     let stale = fault == Fault::EmptySlotRead && (0..image.slots).any(|slot| image.reel(slot) == call.reel);
     check(image.slot_of(call.reel).is_none() && !stale, ALREADY_OPEN)?;
+    image.check_table_if(Fault::TableAfterOpen)?;
     let slot = (0..image.slots).find(|&slot| !image.filled(slot)).ok_or(NO_SLOT)?;
     let number = free_run(&lent.map, image.nodes, 1).ok_or(NO_NODE)?;
     let node = Node::of(image, number);
@@ -194,11 +187,14 @@ fn open(call: &Call, lent: &mut Lent, fault: Fault) -> Ended {
     Ok((DONE, script::write(&mut lent.script, &entries)))
 }
 
-/// What Fill, Commit and Abandon have in common: refusals 1, 2, 3, 11, 12 and 4, then the head's record and its node.
+/// What Fill, Commit and Abandon have in common: refusals 1, 2, 3, 4 for the table, 11, 12 and 4, then the head's record and its
+/// node.
 fn claimed<'a>(call: &Call, lent: &'a Lent, states: &[State], fault: Fault) -> Result<(Head, Node<'a>), Ending> {
     let image = check_image(&lent.image, fault)?;
     check_script(&lent.script)?;
+    image.check_table_unless(Fault::TableAfterHead)?;
     let head = check_head(&lent.heads, call.head, states, fault)?;
+    image.check_table_if(Fault::TableAfterHead)?;
     check(head.node < image.nodes, HEAD_NODE)?;
     check(head.place < PLACES, HEAD_PLACE)?;
     Ok((head, Node::of(image, head.node)))
@@ -208,10 +204,12 @@ fn fill(call: &Call, lent: &mut Lent, fault: Fault) -> Ended {
     let (head, node) = claimed(call, lent, &[State::Claimed], fault)?;
     let at = FINGERPRINTS + head.place / 8;
     let kept = if fault == Fault::BytesLost { 0 } else { node.word(at) };
-    let print = match fault {
-        Fault::FillFoldsEight => fingerprint(EDITION, head.frame),
-        _ => node.image.fingerprint(head.frame),
+    let rule = match fault {
+        Fault::FillFoldsEight => Rule { bytes: 8, ..node.image.rule() },
+        Fault::FillOverOurs => Rule { own: false, ..node.image.rule() },
+        _ => node.image.rule(),
     };
+    let print = node.image.fingerprint_by(rule, head.frame);
     let prints = with_byte(kept, head.place % 8, print);
     let mut entries = vec![(node.at(FRAMES + head.place), head.frame), BARRIER, (node.at(at), prints), BARRIER];
     if fault == Fault::HeldFromFill {
@@ -242,7 +240,9 @@ fn abandon(call: &Call, lent: &mut Lent, fault: Fault) -> Ended {
 fn remove(call: &Call, lent: &mut Lent, fault: Fault) -> Ended {
     let image = check_image(&lent.image, fault)?;
     check_script(&lent.script)?;
+    image.check_table_unless(Fault::TableAfterReel)?;
     let slot = image.slot_of(call.reel).ok_or(NO_REEL)?;
+    image.check_table_if(Fault::TableAfterReel)?;
     check_busy(&lent.heads, slot, fault)?;
     let path = image.path(image.root(slot), call.frame)?;
     let found = match fault {
@@ -261,11 +261,13 @@ fn remove(call: &Call, lent: &mut Lent, fault: Fault) -> Ended {
 
 fn has(call: &Call, lent: &mut Lent, fault: Fault) -> Ended {
     let image = check_image(&lent.image, fault)?;
+    image.check_table_unless(Fault::TableAfterReel)?;
     let slot = image.slot_of(call.reel).ok_or(NO_REEL)?;
+    image.check_table_if(Fault::TableAfterReel)?;
     let path = image.path(image.root(slot), call.frame)?;
     Ok(match tree::lookup(&path, call.frame) {
         Some(_) => (HAS_YES, 1),
-        None if tree::held_by_other_edition(&path, call.frame) => (HAS_OTHER, 0),
+        None if tree::held_by_other_rule(&path, call.frame) => (HAS_OTHER, 0),
         None if tree::held_by_lower_half(&path, call.frame) => (HAS_LOWER, 0),
         None => (HAS_NO, 0),
     })
@@ -284,11 +286,17 @@ fn shape(walk: &[Reached]) -> Ending {
 fn list(call: &Call, lent: &mut Lent, fault: Fault) -> Ended {
     let image = check_image(&lent.image, fault)?;
     check_scratch(&lent.scratch, image.nodes)?;
-    if fault != Fault::ScratchLeft {
+    let left = match fault {
+        Fault::ScratchLeft => image.slot_of(call.reel).is_none(),
+        Fault::ScratchLeftForTable => image.check_table().is_err(),
+        _ => false,
+    };
+    if !left {
         lent.scratch.fill(0);
     }
+    image.check_table_unless(Fault::TableAfterReel)?;
     let slot = image.slot_of(call.reel).ok_or(NO_REEL)?;
-    lent.scratch.fill(0);
+    image.check_table_if(Fault::TableAfterReel)?;
     let walk = image.walk(image.root(slot), &mut HashSet::new())?;
     let frames = tree::frames(&walk);
     check(frames.len() <= lent.list.len(), LIST_SHORT)?;
@@ -302,7 +310,9 @@ fn retire(call: &Call, lent: &mut Lent, fault: Fault) -> Ended {
     check_scratch(&lent.scratch, image.nodes)?;
     check_script(&lent.script)?;
     lent.scratch.fill(0);
+    image.check_table_unless(Fault::TableAfterReel)?;
     let slot = image.slot_of(call.reel).ok_or(NO_REEL)?;
+    image.check_table_if(Fault::TableAfterReel)?;
     check_busy(&lent.heads, slot, fault)?;
     let walk = image.walk(image.root(slot), &mut HashSet::new())?;
     let freed = if fault == Fault::ChildrenLeft { &walk[..1] } else { &walk[..] };
@@ -318,6 +328,7 @@ fn apply(lent: &mut Lent, fault: Fault) -> Ended {
     if fault == Fault::ApplyReadsEdition {
         check_edition(image.edition(), fault)?;
     }
+    image.check_table_if(Fault::ApplyReadsTable)?;
     check(lent.script.len() % 2 == 0, SCRIPT_ODD)?;
     let entries = script::read(&lent.script);
     for (done, &(index, value)) in entries.iter().enumerate() {

@@ -1,5 +1,6 @@
 //! The plain table of reels: what a history of operations answers, without nodes, scripts or crashes.
-//! It is fed the calls' numbers, the lengths lent, and the book's answer where that turns on nodes: 8, and Claim's 13 for a node.
+//! It is fed the calls' numbers, the lengths lent, the table that Format is given, and the book's answer where that turns on
+//! nodes: 8, and Claim's 13 for a node.
 use super::call::{Call, Function, Lent};
 use super::image::{image_words, map_words, HEADS, MAX_NODES, MAX_SLOTS};
 use super::script::SCRIPT_WORDS;
@@ -24,23 +25,25 @@ impl Head {
     }
 }
 
-/// The lengths lent.
-pub struct Lengths {
+/// Of what is lent: the lengths, and the bytes of a table.
+pub struct Fed<'a> {
     image: u64,
     map: u64,
     script: u64,
     scratch: u64,
     list: u64,
+    table: &'a [u8],
 }
 
-impl Lengths {
-    pub fn of(lent: &Lent) -> Lengths {
-        Lengths {
+impl Fed<'_> {
+    pub fn of(lent: &Lent) -> Fed<'_> {
+        Fed {
             image: lent.image.len() as u64,
             map: lent.map.len() as u64,
             script: lent.script.len() as u64,
             scratch: lent.scratch.len() as u64,
             list: lent.list.len() as u64,
+            table: lent.table(),
         }
     }
 }
@@ -59,6 +62,8 @@ pub type Reply = Result<Value, u64>;
 pub struct Table {
     pub slots: u64,
     pub nodes: u64,
+    /// A table was given.
+    pub own: bool,
     pub reels: Reels,
     pub heads: [Head; HEADS as usize],
 }
@@ -72,8 +77,8 @@ fn refuse(applies: bool, number: u64) -> Result<(), u64> {
 }
 
 impl Table {
-    pub fn formatted(slots: u64, nodes: u64) -> Table {
-        Table { slots, nodes, reels: Reels::new(), heads: [Head::Idle; HEADS as usize] }
+    pub fn formatted(slots: u64, nodes: u64, own: bool) -> Table {
+        Table { slots, nodes, own, reels: Reels::new(), heads: [Head::Idle; HEADS as usize] }
     }
 
     /// How many heads have a claim open, and in a reel.
@@ -100,11 +105,11 @@ impl Table {
     }
 
     /// The value, or the refusal's number. `book` is the book's answer.
-    pub fn perform(&mut self, call: &Call, lengths: &Lengths, book: u64) -> Reply {
+    pub fn perform(&mut self, call: &Call, fed: &Fed, book: u64) -> Reply {
         if call.function == Function::Format {
-            return self.format(call, lengths);
+            return self.format(call, fed);
         }
-        self.check_lengths(call.function, lengths)?;
+        self.check_lengths(call.function, fed)?;
         match call.function {
             Function::Recover => self.heads = [Head::Idle; HEADS as usize],
             Function::Open => self.open(call.reel, book)?,
@@ -114,31 +119,34 @@ impl Table {
             Function::Abandon => self.abandon(call.head)?,
             Function::Remove => self.remove(call.reel, call.frame)?,
             Function::Has => return Ok(Value::Has(self.frames(call.reel)?.contains(&call.frame))),
-            Function::List => return self.list(call.reel, lengths.list),
+            Function::List => return self.list(call.reel, fed.list),
             Function::Retire => self.retire(call.reel)?,
             Function::Format | Function::Apply => unreachable!("answered above, or no operation"),
         }
         Ok(Value::None)
     }
 
-    fn format(&mut self, call: &Call, lengths: &Lengths) -> Reply {
+    fn format(&mut self, call: &Call, fed: &Fed) -> Reply {
         let allowed = (1..=MAX_SLOTS).contains(&call.slots) && (1..=MAX_NODES).contains(&call.nodes);
-        refuse(!allowed || lengths.image != image_words(call.slots, call.nodes), 1)?;
-        refuse(lengths.map != map_words(call.nodes), 3)?;
-        *self = Table::formatted(call.slots, call.nodes);
+        refuse(!allowed || fed.image != image_words(call.slots, call.nodes), 1)?;
+        refuse(fed.map != map_words(call.nodes), 3)?;
+        let own = !fed.table.is_empty();
+        refuse(own && fed.table.len() != 256, 16)?;
+        refuse(own && !(0..=255).all(|byte| fed.table.contains(&byte)), 16)?;
+        *self = Table::formatted(call.slots, call.nodes, own);
         Ok(Value::None)
     }
 
     /// Refusals 1 and 3, for what the operation is lent.
-    fn check_lengths(&self, function: Function, lengths: &Lengths) -> Result<(), u64> {
+    fn check_lengths(&self, function: Function, fed: &Fed) -> Result<(), u64> {
         use Function::*;
-        refuse(lengths.image != image_words(self.slots, self.nodes), 1)?;
+        refuse(fed.image != image_words(self.slots, self.nodes), 1)?;
         let map = matches!(function, Recover | Open | Claim | Retire);
-        refuse(map && lengths.map != map_words(self.nodes), 3)?;
+        refuse(map && fed.map != map_words(self.nodes), 3)?;
         let scratch = matches!(function, List | Retire);
-        refuse(scratch && lengths.scratch != map_words(self.nodes), 3)?;
+        refuse(scratch && fed.scratch != map_words(self.nodes), 3)?;
         let script = !matches!(function, Recover | Has | List);
-        refuse(script && lengths.script < SCRIPT_WORDS as u64, 3)
+        refuse(script && fed.script < SCRIPT_WORDS as u64, 3)
     }
 
     fn frames(&mut self, reel: u64) -> Result<&mut BTreeSet<u64>, u64> {

@@ -1,8 +1,9 @@
 //! A reel's tree: the path of a frame, the lookup, the walk over all nodes, and what a sound image is.
 use super::ending::*;
 use super::fault::Fault;
-use super::image::{Image, FIRST_EDITION};
+use super::image::Image;
 use super::node::*;
+use super::rule::Rule;
 use std::collections::HashSet;
 
 /// A node that the walk reaches, with the child taken at each level to it.
@@ -69,6 +70,7 @@ impl<'a> Image<'a> {
 
     /// The numbers of all nodes reached from the filled slots. Refusal 4 unless the image is sound.
     pub fn sound(&self) -> Result<Vec<u64>, Ending> {
+        self.check_table()?;
         let mut numbers = Vec::new();
         let (mut seen, mut reels, mut frames) = (HashSet::new(), HashSet::new(), HashSet::new());
         for slot in self.filled_slots() {
@@ -89,13 +91,15 @@ impl<'a> Image<'a> {
 
 /// Refusal 4 unless every held frame is on its path, with its fingerprint, and not held in the reel before.
 fn check_frames(reached: &Reached, frames: &mut HashSet<u64>) -> Result<(), Ending> {
+    let rule = reached.node.image.rule();
     for place in reached.node.held() {
         let frame = reached.node.frame(place);
         if !(0..).zip(&reached.steps).all(|(level, &step)| child(level, frame) == step) {
             return Err(OFF_PATH);
         }
         let right = match reached.node.image.fault {
-            Fault::RecoverFoldsFour => reached.node.fingerprint(place) == fingerprint(FIRST_EDITION, frame),
+            Fault::RecoverFoldsFour => reached.node.has_fingerprint(place, Rule { bytes: 4, ..rule }),
+            Fault::RecoverOverOurs => reached.node.has_fingerprint(place, Rule { own: false, ..rule }),
             _ => reached.node.has_right_fingerprint(place),
         };
         if !right {
@@ -113,8 +117,8 @@ pub fn lookup<'a>(path: &[Node<'a>], frame: u64) -> Option<(Node<'a>, u64)> {
     path.iter().find_map(|node| node.places_of(frame).next().map(|place| (*node, place)))
 }
 
-/// Is the frame held on the path with the other edition's fingerprint, by which no lookup finds it?
-pub fn held_by_other_edition(path: &[Node], frame: u64) -> bool {
+/// Is the frame held on the path with another rule's fingerprint, by which no lookup finds it?
+pub fn held_by_other_rule(path: &[Node], frame: u64) -> bool {
     let is_there = |node: &Node, place: u64| node.frame(place) == frame && node.has_other_fingerprint(place);
     path.iter().any(|node| node.held().any(|place| is_there(node, place)))
 }

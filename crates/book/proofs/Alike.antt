@@ -11,10 +11,11 @@ use lib.ListN.{length}
 use lib.Dec.{ltb, leb}
 use borrow.Author.Tests.{ltb-false, leb-true, le-leb, lt-leb, not-false}
 use Rattle.tree.specs.Memory.{reads, isSome, Fit}
-use Rattle.tree.specs.Test.{lt, le, is, _or_, holds}
+use Rattle.tree.specs.Test.{Test, lt, le, is, _or_, holds}
 use Rattle.tree.specs.Lists.{empty}
 use Rattle.tree.specs.declared.layout.Geometry.{Geometry}
 use Rattle.tree.specs.Layout.{badImage, imageWords, badEdition}
+use Rattle.tree.specs.Fingerprint.{badOwn}
 use Rattle.tree.specs.Slots.{slotOf, emptySlot}
 use Rattle.tree.specs.Lookup.{pathFrom, freeRun}
 use Rattle.tree.proofs.Cases.{test, true-not-false, same-test}
@@ -22,7 +23,7 @@ use Rattle.book.specs.Heads.{headCount, headAt, targetOf}
 use Rattle.book.specs.Refusals.{Refusal, _gives_, refusal}
 use Rattle.tree.specs.Room.{roomOn, atLevel31}
 use Rattle.book.specs.State.{State, Operation, format, recover, openReel, claim, fill, commit, abandon, remove, retire, query, has, list, arguments, Work, memory, shape}
-use Rattle.book.specs.Checks.{badMap, badScript, outside, noPath, noRunFor, refusals}
+use Rattle.book.specs.Checks.{firstThree, badMap, badScript, outside, noPath, noRunFor, refusals}
 use Rattle.book.specs.Perform.{oneIf, granted, perform}
 use Rattle.book.specs.Table as table
 use Rattle.book.specs.Table.{Table, TableHead, TableWork, Fed, nothing, fed, isPresent, tableHead, tableRefusals, tableWork, reply}
@@ -74,6 +75,11 @@ module _ {s : State} {t : Table} (a : Agrees s t) where
       → Paired x P Q ((badImage (length (s .image)) (shape s) gives 1) ∷ (badEdition (memory s) gives 2) ∷ rs) qs
   checks p = skip (image-right (a .shows)) (skip (edition-right (a .shows)) p)
 
+  -- 3 is for what is borrowed, and 4 for a bad table never comes
+  borrowed : {x : Fed} {P Q : Type 0} {u v : Test} {rs qs : List Refusal} → holds u ≡ holds v → (holds v ≡ false → Paired x P Q rs qs)
+      → Paired x P Q (firstThree (s .image) u ((badOwn (memory s) gives 4) ∷ rs)) ((v gives 3) ∷ qs)
+  borrowed q p = checks (same 3 refl q (λ e. skip (a .shows .good-table) (p e)))
+
   -- 5, and after it the reel's slot
   reel-there : {x : Fed} {P Q : Type 0} {rs qs : List Refusal} (reel : ℕ)
       → (SlotHas (shape s) (memory s) reel (slotOf (shape s) (memory s) reel) → Paired x P Q rs qs)
@@ -105,19 +111,20 @@ module _ {s : State} {t : Table} (a : Agrees s t) where
 
   paired : (op : Operation) (x : Fed) → Paired x (Lacks s op) (InTheWay s op) (refusals op s) (tableRefusals op x t)
   unfolding refusals tableRefusals
-  paired (format words slots nodes) x =
+  paired (format words table slots nodes) x =
       let g : Geometry = record { slots = slots; nodes = nodes } in
       same 1 refl (ap (λ n. holds (badImage n g)) (a .shows .words ∙ ap imageWords (same-geometry (a .shows)))) (λ e.
-      same 3 refl refl (λ e. end (λ w. elim w [ ]) (λ w. elim w [ ])))
+      same 3 refl refl (λ e. same 16 refl refl (λ e. end (λ w. elim w [ ]) (λ w. elim w [ ]))))
   paired (recover words) x =
-      checks (same 3 refl (ap (λ g. holds (badMap g words)) (same-geometry (a .shows))) (λ e. skip (ap not (is-sound (a .shows))) (end (λ w. elim w [ ]) (λ w. elim w [ ]))))
+      checks (same 3 refl (ap (λ g. holds (badMap g words)) (same-geometry (a .shows))) (λ e.
+      skip (rw (a .shows .good-table) (ap not (is-sound (a .shows)))) (end (λ w. elim w [ ]) (λ w. elim w [ ]))))
   paired (openReel words script reel) x =
-      checks (same 3 refl (ap (λ g. holds (badMap g words or badScript script)) (same-geometry (a .shows))) (λ e.
+      borrowed (ap (λ g. holds (badMap g words or badScript script)) (same-geometry (a .shows))) (λ e.
       same 6 refl (present-test reel) (λ e.
       same 7 refl full-test (λ e.
-      run (λ w. elim w [ ]) (decided (le (shape s .nodes) (freeRun (shape s) (reads (s .pool)) 1)) (lacks-open a words script reel))))))
+      run (λ w. elim w [ ]) (decided (le (shape s .nodes) (freeRun (shape s) (reads (s .pool)) 1)) (lacks-open a words script reel)))))
   paired (claim words script h reel f) x =
-      checks (same 3 refl (ap (λ g. holds (badMap g words or badScript script)) (same-geometry (a .shows))) (λ e.
+      borrowed (ap (λ g. holds (badMap g words or badScript script)) (same-geometry (a .shows))) (λ e.
       head-there h (λ l.
       same 12 refl (ap not (same-idle (a .heads h l))) (λ e.
       reel-there reel (λ r.
@@ -125,36 +132,37 @@ module _ {s : State} {t : Table} (a : Agrees s t) where
       let idle = same-idle (a .heads h l) ∙ not-false _ e in
       meets (conflict-claim a r words script f h idle) (taken-in-the-way a r words script f h idle)
       (λ own w z. lacking a r words script f h idle (run-test words script h f r .1 z) own w)
-      (run-test words script h f r))))))))
+      (run-test words script h f r)))))))
   paired (fill script h) x =
-      checks (same 3 refl refl (λ e.
+      borrowed refl (λ e.
       head-there h (λ l.
       same 12 refl (ap not (same-claimed (a .heads h l))) (λ e.
-      skip (inside-test h l (claimed-not-idle (tableHead t h) (not-false _ e))) (end (λ w. elim w [ ]) (λ w. elim w [ ]))))))
+      skip (inside-test h l (claimed-not-idle (tableHead t h) (not-false _ e))) (end (λ w. elim w [ ]) (λ w. elim w [ ])))))
   paired (commit script h) x =
-      checks (same 3 refl refl (λ e.
+      borrowed refl (λ e.
       head-there h (λ l.
       same 12 refl (ap not (same-filled (a .heads h l))) (λ e.
-      skip (inside-test h l (filled-not-idle (tableHead t h) (not-false _ e))) (end (λ w. elim w [ ]) (λ w. elim w [ ]))))))
+      skip (inside-test h l (filled-not-idle (tableHead t h) (not-false _ e))) (end (λ w. elim w [ ]) (λ w. elim w [ ])))))
   paired (abandon script h) x =
-      checks (same 3 refl refl (λ e.
+      borrowed refl (λ e.
       head-there h (λ l.
-      same 12 refl (same-idle (a .heads h l)) (λ e. skip (inside-test h l e) (end (λ w. elim w [ ]) (λ w. elim w [ ]))))))
+      same 12 refl (same-idle (a .heads h l)) (λ e. skip (inside-test h l e) (end (λ w. elim w [ ]) (λ w. elim w [ ])))))
   paired (remove script reel f) x =
-      checks (same 3 refl refl (λ e.
+      borrowed refl (λ e.
       reel-there reel (λ r.
       busy (same-busy a r) (busy-remove a r script f) (λ free.
-      skip (path-test f r) (same 10 refl (ap not (same-held (a .shows) r f)) (λ e. end (λ w. elim w [ ]) free))))))
-  paired (query (has reel f)) x = checks (skip refl (reel-there reel (λ r. skip (path-test f r) (end (λ w. elim w [ ]) (λ w. elim w [ ])))))
+      skip (path-test f r) (same 10 refl (ap not (same-held (a .shows) r f)) (λ e. end (λ w. elim w [ ]) free)))))
+  paired (query (has reel f)) x =
+      checks (skip refl (skip (a .shows .good-table) (reel-there reel (λ r. skip (path-test f r) (end (λ w. elim w [ ]) (λ w. elim w [ ]))))))
   paired (query (list scratch room reel)) x =
-      checks (same 3 refl (ap (λ g. holds (badMap g scratch)) (same-geometry (a .shows))) (λ e.
+      borrowed (ap (λ g. holds (badMap g scratch)) (same-geometry (a .shows))) (λ e.
       reel-there reel (λ r.
       skip (ap not (tree-right (a .shows) (r .open-slot)))
-      (same 14 refl (ap (ltb room) (same-length (same-frames (a .shows) r))) (λ e. end (λ w. elim w [ ]) (λ w. elim w [ ]))))))
+      (same 14 refl (ap (ltb room) (same-length (same-frames (a .shows) r))) (λ e. end (λ w. elim w [ ]) (λ w. elim w [ ])))))
   paired (retire words scratch script reel) x =
-      checks (same 3 refl (ap (λ g. holds (badMap g words or badMap g scratch or badScript script)) (same-geometry (a .shows))) (λ e.
+      borrowed (ap (λ g. holds (badMap g words or badMap g scratch or badScript script)) (same-geometry (a .shows))) (λ e.
       reel-there reel (λ r.
-      busy (same-busy a r) (busy-retire a r words scratch script) (λ free. skip (ap not (tree-right (a .shows) (r .open-slot))) (end (λ w. elim w [ ]) free)))))
+      busy (same-busy a r) (busy-retire a r words scratch script) (λ free. skip (ap not (tree-right (a .shows) (r .open-slot))) (end (λ w. elim w [ ]) free))))
 
 -- ---- what is handed back
 
@@ -172,7 +180,7 @@ record SameWork (w : Work) (u : TableWork) : Type 0 where
 
 granted-alike : {s : State} {t : Table} → Agrees s t → (op : Operation) (x : Fed) → reply op x t .answer ≡ 0 → SameWork (granted op s) (tableWork op t)
 unfolding granted tableWork tableRefusals
-granted-alike a (format words slots nodes) x h = record { value = refl; listing = none-once }
+granted-alike a (format words table slots nodes) x h = record { value = refl; listing = none-once }
 granted-alike a (recover words) x h = record { value = refl; listing = none-once }
 granted-alike a (openReel words script reel) x h = record { value = refl; listing = none-once }
 granted-alike a (claim words script h' reel f) x h = record { value = refl; listing = none-once }
@@ -223,8 +231,8 @@ never-these rs p =
 
 table-answers : (op : Operation) (x : Fed) (t : Table) → Answers op (refusal (tableRefusals op x t))
 unfolding tableRefusals
-table-answers (format words slots nodes) x t =
-    let n = each-answer (λ n. (n ≢ 2) × (n ≢ 4)) (omega arith) (tableRefusals (format words slots nodes) x t) (omega arith) in
+table-answers (format words table slots nodes) x t =
+    let n = each-answer (λ n. (n ≢ 2) × (n ≢ 4)) (omega arith) (tableRefusals (format words table slots nodes) x t) (omega arith) in
     record { not-edition = n .0; not-malformed = n .1; format-alone = λ q. is-format }
 table-answers (recover words) x t = never-these (tableRefusals (recover words) x t) (omega arith)
 table-answers (openReel words script reel) x t = never-these (tableRefusals (openReel words script reel) x t) (omega arith)

@@ -59,8 +59,8 @@ module _ (s : State) (map script h reel f : ℕ) where
   unfolding refusals refusalsBefore
   same-answer n =
       answer-is (claim map script h reel f) s
-      ∙ under _ (under _ (under _ (under _ (under _ (under _ (later-13 _ _ _ _ _
-      (free-slot (shape s) (reads (s .pool)) (s .heads) (slot s map script h reel f) (room s map script h reel f) f))))))) .same n
+      ∙ under _ (under _ (under _ (under _ (under _ (under _ (under _ (later-13 _ _ _ _ _
+      (free-slot (shape s) (reads (s .pool)) (s .heads) (slot s map script h reel f) (room s map script h reel f) f)))))))) .same n
 
   same-work : refusal (refusalsBefore s map script h reel f) ≡ 0 → perform (claim map script h reel f) s .work ≡ workBefore s map script h reel f
   unfolding granted

@@ -1,6 +1,6 @@
 -- Demands 2 and 3 from what each operation does to a book that agrees with a table.
 use mathlib.Core.Path.{_≡_, refl, sym, _∙_, ap, subst}
-use mathlib.Core.Bool.{cond}
+use mathlib.Core.Bool.{Bool, cond}
 use mathlib.Core.Logic.{_⊎_, inl, inr, _≢_}
 use mathlib.Core.List.{List}
 use Prim.Native.Nat.{ℕ}
@@ -10,6 +10,7 @@ use lib.Dec.{eqb}
 use Rattle.tree.specs.Memory.{reads, segmented, apply, CrashImage, passed, Fit}
 use Rattle.tree.specs.declared.layout.Geometry.{Geometry}
 use Rattle.tree.specs.Layout.{mapWords, geometryOf}
+use Rattle.tree.specs.Fingerprint.{isGiven}
 use Rattle.tree.proofs.Memory.{crash-laws, crash-none, passed-or}
 use Rattle.book.specs.State.{State, Operation, format, recover, openReel, claim, fill, commit, abandon, remove, retire, query, Query, arguments}
 use Rattle.book.specs.Perform.{granted, perform}
@@ -49,12 +50,12 @@ pub record Steps : Type 0 where
 -- ---- the three kinds of operation
 
 pub data Kind : Operation → Type 0 where
-  formats : {words slots nodes : ℕ} → Kind (format words slots nodes)
+  formats : {words slots nodes : ℕ} {table : List ℕ} → Kind (format words table slots nodes)
   recovers : {words : ℕ} → Kind (recover words)
   scripted : {op : Operation} → Scripted op → Kind op
 
 pub kind : (op : Operation) → Kind op
-kind (format words slots nodes) = formats
+kind (format words table slots nodes) = formats
 kind (recover words) = recovers
 kind (openReel words script reel) = scripted opens
 kind (claim words script h reel f) = scripted claims
@@ -77,9 +78,9 @@ granted-image s asks = refl
 granted-image s retires = refl
 
 -- what the table becomes by an operation that is no script's
-table-format : (words slots nodes : ℕ) (t : Table) → tableWork (format words slots nodes) t .after ≡ emptyTable slots nodes
+table-format : (words : ℕ) (table : List ℕ) (slots nodes : ℕ) (t : Table) → tableWork (format words table slots nodes) t .after ≡ emptyTable (isGiven table) slots nodes
 unfolding tableWork
-table-format words slots nodes t = refl
+table-format words table slots nodes t = refl
 
 table-recover : (words : ℕ) (t : Table) → tableWork (recover words) t .after ≡ allIdle t
 unfolding tableWork
@@ -87,9 +88,9 @@ table-recover words t = refl
 
 -- ---- tables shown, as views
 
--- an image with a table's geometry and its reels
+-- an image with a table's geometry, with its own table if one was given, and its reels
 abbrev Seen : List ℕ → Table → Type 0
-Seen m t = View (geometry t) m (t .reels)
+Seen m t = View (geometry t) (t .own) m (t .reels)
 
 idle-seen : {m : List ℕ} (t : Table) → Seen m t → Seen m (allIdle t)
 unfolding allIdle
@@ -101,12 +102,12 @@ itself-same {s = s} c q =
     ext-getD 0 (c .itself) (s .image) (c .same-length) (λ i l. elim (c .old-or-new i) [ inl e ↦ e | inr e ↦ e ∙ ap (λ m. reads m i) q ])
 
 seen : {m : List ℕ} {t : Table} → Shows m t → Seen m t
-seen {m} {t} h = subst (λ g. View g m (t .reels)) (same-geometry h) (shows-view h)
+seen {m} {t} h = subst (λ g. View g (t .own) m (t .reels)) (same-geometry h) (shows-view h)
 
 -- what a recovery then answers and leaves
-accepted : {g : Geometry} {m : List ℕ} {rs : List Reel} → View g m rs → (words : ℕ) (r : State) → r .image ≡ m
+accepted : {g : Geometry} {o : Bool} {m : List ℕ} {rs : List Reel} → View g o m rs → (words : ℕ) (r : State) → r .image ≡ m
     → perform (recover words) r .answer ≡ cond (eqb words (mapWords (geometryOf (reads m)))) 0 3
-accepted {g} {rs = rs} v words r q = rw (v .header .geometry) (recover-answers {g = g} {rs = rs} r (rw q v) words)
+accepted {g} {o = o} {rs = rs} v words r q = rw (v .header .geometry) (recover-answers {g = g} {o = o} {rs = rs} r (rw q v) words)
 
 found-accepted : (m m' : List ℕ) (t : Table) → Shows m t → Attempts m m' → (words : ℕ) (r : State) → r .image ≡ m'
     → perform (recover words) r .answer ≡ cond (eqb words (mapWords (geometryOf (reads m')))) 0 3
@@ -128,8 +129,8 @@ module _ (steps : Steps) where
 
   answered-agrees : {s : State} {t : Table} → Agrees s t → {op : Operation} → Fit (arguments op) → Kind op → perform op s .answer ≡ 0
       → Agrees (done op s) (tableWork op t .after)
-  answered-agrees {s} {t} a fit (formats {words} {slots} {nodes}) h =
-      rw (table-format words slots nodes t) (format-agrees words slots nodes s (a .shows .fits) h)
+  answered-agrees {s} {t} a fit (formats {words} {slots} {nodes} {table}) h =
+      rw (table-format words table slots nodes t) (format-agrees words table slots nodes s (a .shows .fits) h)
   answered-agrees {s} {t} a fit (recovers {words}) h =
       rw (table-recover words t, ← idle-table {g = geometry t} t refl refl) (recovered-agrees words s (seen (a .shows)) h)
   answered-agrees {s} a {op} fit (scripted x) h = rw (done-granted op s h) (steps .step a x fit h .final)
@@ -179,7 +180,7 @@ module _ (steps : Steps) where
   -- ---- histories
 
   pub agreed : {s : State} {t : Table} → Follows s t → Agrees s t
-  agreed (started (formatted words slots nodes s fit h)) = format-agrees words slots nodes s fit h
+  agreed (started (formatted words table slots nodes s fit h)) = format-agrees words table slots nodes s fit h
   agreed (started (found {t = t} v r)) = whole t (seen v) r
   agreed (performed f op fit) = done-agrees (agreed f) op fit
   agreed (before f op fit k c r n a) = a

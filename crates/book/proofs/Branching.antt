@@ -1,5 +1,6 @@
 -- A branch-out: a group of nodes is made and linked to the last node of a full path. What the image is then.
 use mathlib.Core.Path.{_≡_, refl, sym, _∙_}
+use mathlib.Core.Bool.{Bool}
 use mathlib.Core.Logic.{_⊎_, inl, inr, _↔_}
 use mathlib.Core.List.{List, _∷_, List·Memᴰ}
 use Prim.Native.Nat.{ℕ, suc, _+_, _-_, _^_, _<_}
@@ -58,7 +59,7 @@ pub record Branches (g : Geometry) (m m' : Memory) (slot f d start : ℕ) : Type
   pub old-or-new : {k : ℕ} → Reached g m' k → Reached g m k ⊎ ((c : ℕ) × (c < fanout d) × (k ≡ start + c))
   pub reaches : {i k : ℕ} {w : List ℕ} → Reaches g m' i w k ↔ (Reaches g m i w k ⊎ NewChild slot (wayOf d f) start i w k)
 
-module _ {g : Geometry} {im : List ℕ} {rs : List Reel} {slot f d start : ℕ} (v : View g im rs) (x : FullPath g (reads im) slot f d)
+module _ {g : Geometry} {o : Bool} {im : List ℕ} {rs : List Reel} {slot f d start : ℕ} (v : View g o im rs) (x : FullPath g (reads im) slot f d)
     (deep : d < 31) (run : UnreachedRun g (reads im) (fanout d) start) where
   abbrev m : Memory
   m = reads im
@@ -84,13 +85,13 @@ module _ {g : Geometry} {im : List ℕ} {rs : List Reel} {slot f d start : ℕ} 
   level-fits = (omega arith, omega arith)
 
   -- torn or whole
-  pub still-made : {im' : List ℕ} → Torn im (newNodes g (suc d) 64 ns) im' → Still g rs im im'
+  pub still-made : {im' : List ℕ} → Torn im (newNodes g (suc d) 64 ns) im' → Still g o rs im im'
   still-made t = still-torn g (suc d) 64 ns v unreached level-fits t
 
   whole : Torn im (newNodes g (suc d) 64 ns) im1
   whole = torn-whole im (newNodes g (suc d) 64 ns)
 
-  pub still1 : Still g rs im im1
+  pub still1 : Still g o rs im im1
   still1 = still-made whole
 
   same1 : Same g m m1
@@ -141,14 +142,14 @@ module _ {g : Geometry} {im : List ℕ} {rs : List Reel} {slot f d start : ℕ} 
   stored2 : Stores m1 (nextAt g parent) (suc start) m2
   stored2 = let z : suc start ≡ start + 1 = omega arith in rw z (stores-set im1 (nextAt g parent) (start + 1) index)
 
-  header2 : HeaderAs g im1 im2
+  header2 : HeaderAs g o im1 im2
   header2 = header-set (nextAt g parent) (start + 1) (still1 .view .header) (omega arith) index
       (omega (arith, run .inside, child-laws .below d f deep, few-nodes (v .header)))
 
   grown : Grown (ruleOf m1) g m1 m2 (NewChild slot (wayOf d f) start)
   grown = change-laws m2 (still1 .view .sound) .linked links stored2
 
-  pub still2 : Still g rs im im2
+  pub still2 : Still g o rs im im2
   still2 =
       let o = node-slots {g = g} parent (omega arith) stored2 in
       still-on still1 (record {

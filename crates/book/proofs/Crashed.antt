@@ -1,6 +1,7 @@
 -- Images that a crash leaves of a script's segments.
 use mathlib.Core.Path.{_≡_, sym, _∙_, ap}
 use mathlib.Core.Logic.{_⊎_, inl, inr, _≢_}
+use mathlib.Core.Bool.{Bool}
 use mathlib.Core.List.{List, [], _∷_, map, List·Memᴰ, List·Memᴰ·eq-of-singleton}
 use Prim.Native.Nat.{ℕ, _^_, _≤_, _<_}
 use native.Mathlib.Omega.{arith}
@@ -72,7 +73,7 @@ PastHeader seg = (i v : ℕ) → List·Memᴰ {A = Store} (i, v) seg → (64 ≤
 header-kept : {im im' : List ℕ} {seg : List Store} → Torn im seg im' → PastHeader seg → SameHeader (reads im) (reads im')
 header-kept {im' = im'} t p i l = elim (t .each i) [ inl q ↦ sym q | inr x ↦ absurd (omega (arith, p i (reads im' i) x .0)) ]
 
-pub header-torn : {g : Geometry} {im im' : List ℕ} {seg : List Store} → Header g im → Torn im seg im' → PastHeader seg → HeaderAs g im im'
+pub header-torn : {g : Geometry} {o : Bool} {im im' : List ℕ} {seg : List Store} → Header g o im → Torn im seg im' → PastHeader seg → HeaderAs g o im im'
 header-torn h t p =
     header-same h (t .same-length) (λ i. elim (t .each i) [ inl q ↦ rw q (h .fits i) | inr x ↦ p i _ x .1 ]) (header-kept t p)
 
@@ -84,7 +85,7 @@ pub unread-past : {g : Geometry} {m : Memory} {i : ℕ} → Unread g m i → 64 
 unread-past (of-node n l h o) = omega arith
 unread-past (of-slot s h e q) = omega arith
 
-pub view-torn : {g : Geometry} {im im' : List ℕ} {rs : List Reel} {seg : List Store} → View g im rs → Torn im seg im'
-    → ((i v : ℕ) → List·Memᴰ {A = Store} (i, v) seg → Unread g (reads im) i × (v < 2 ^ 64)) → View g im' rs
+pub view-torn : {g : Geometry} {o : Bool} {im im' : List ℕ} {rs : List Reel} {seg : List Store} → View g o im rs → Torn im seg im'
+    → ((i v : ℕ) → List·Memᴰ {A = Store} (i, v) seg → Unread g (reads im) i × (v < 2 ^ 64)) → View g o im' rs
 view-torn v t u = view-fresh v (header-torn (v .header) t (λ i x z. (unread-past (u i x z .0), u i x z .1)))
     (λ i. elim (t .each i) [ inl q ↦ inl (sym q) | inr x ↦ inr (u i _ x .0) ])

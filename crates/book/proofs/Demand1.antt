@@ -26,7 +26,7 @@ without-third a b n rs = refusal-listed (a ∷ b ∷ rs)
 -- the numbers of an operation's tests are the paper's
 numbered : (op : Operation) (s : State) → refusal (refusals op s) ≢ 0 → List·Memᴰ (refusal (refusals op s)) (numbers op)
 unfolding refusals
-numbered (format words slots nodes) s = refusal-listed _
+numbered (format words table slots nodes) s = refusal-listed _
 numbered (recover words) s = refusal-listed _
 numbered (openReel words script reel) s = refusal-listed _
 numbered (claim words script h reel f) s = refusal-listed _
@@ -43,7 +43,7 @@ cleared-at unsound = refl
 
 left-by : (op : Operation) (s : State) (n : ℕ) → Leaves s op n (leaves op s n)
 unfolding leaves
-left-by (format words slots nodes) s n = as-before {op = format words slots nodes} {n = n} (λ c. elim c [ ]) refl
+left-by (format words table slots nodes) s n = as-before {op = format words table slots nodes} {n = n} (λ c. elim c [ ]) refl
 left-by (recover words) s n = elim (test (eqb n 4)) [
   | inl e ↦ rw (e, eqb-true n 4 e) (map-cleared refl refl (pool-laws .length-clear words) (pool-laws .clear-word words))
   | inr e ↦ rw e (as-before {op = recover words} {n = n} (λ c. eqb-false n 4 e (cleared-at c)) refl)
@@ -68,7 +68,7 @@ clears-scratch : (op : Operation) (n : ℕ) → (clears op n ≡ true) ↔ (Borr
 unfolding clears
 clears-scratch (query (list scratch room reel)) n = (λ h. (by-list, past-checks n .0 h), λ x. past-checks n .1 (x .1))
 clears-scratch (retire words scratch script reel) n = (λ h. (by-retire, past-checks n .0 h), λ x. past-checks n .1 (x .1))
-clears-scratch (format words slots nodes) n = (λ h. absurd (true-not-false h refl), λ x. elim (x .0) [ ])
+clears-scratch (format words table slots nodes) n = (λ h. absurd (true-not-false h refl), λ x. elim (x .0) [ ])
 clears-scratch (recover words) n = (λ h. absurd (true-not-false h refl), λ x. elim (x .0) [ ])
 clears-scratch (openReel words script reel) n = (λ h. absurd (true-not-false h refl), λ x. elim (x .0) [ ])
 clears-scratch (claim words script h reel f) n = (λ h. absurd (true-not-false h refl), λ x. elim (x .0) [ ])

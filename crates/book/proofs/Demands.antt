@@ -1,6 +1,7 @@
 -- The demands, proved: a proof for each statement of specs/Demands.antt, and for those beside it.
 use Rattle.book.specs.Demands.{Demand2, Demand3, Placed}
 use Rattle.book.specs.Growth.{Growth}
+use Rattle.book.specs.OwnTables.{OwnTables}
 pub use Rattle.book.proofs.Demand1.{demand1}
 pub use Rattle.book.proofs.Due.{refusals-due}
 pub use Rattle.book.proofs.AsBefore.{claim-as-before}
@@ -19,6 +20,7 @@ use Rattle.book.proofs.StepRetire.{step-retire}
 use Rattle.book.proofs.ClaimPlaced.{claim-placed}
 use Rattle.book.proofs.Placed.{placed-from}
 use Rattle.book.proofs.Growth.{growth-from}
+use Rattle.book.proofs.OwnTables.{own-tables-from}
 use Rattle.book.proofs.Witnesses.{witnesses-from}
 use Rattle.book.specs.Witnesses.{Witnesses}
 use mathlib.Core.Path.{_≡_}
@@ -53,6 +55,9 @@ placed = placed-from steps (record { placed = claim-placed })
 
 pub growth : Growth
 growth = growth-from steps
+
+pub own-tables : OwnTables
+own-tables = own-tables-from demand3
 
 pub witnesses : Witnesses
 witnesses = witnesses-from demand3

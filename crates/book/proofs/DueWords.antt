@@ -1,21 +1,25 @@
 -- Tests of the image, of buffers, heads, slots and runs, each with what it means by words.
 use mathlib.Core.Path.{_≡_, refl, sym, _∙_, ap, subst}
-use mathlib.Core.Bool.{Bool, true, not}
-use mathlib.Core.Logic.{inl, inr, _↔_, _≢_}
+use mathlib.Core.Bool.{Bool, true, false, not}
+use mathlib.Core.Logic.{_⊎_, inl, inr, _↔_, _≢_}
+use mathlib.Core.List.{List}
 use Prim.Native.Nat.{ℕ, _≤_, _<_}
 use native.Mathlib.Omega.{arith}
-use native.Mathlib.Decide.{decLt}
+use native.Mathlib.Decide.{decLt, ℕ-discrete}
+use lib.ListN.{length, getD}
 use lib.Dec.{eqb}
-use borrow.Author.Tests.{eqb-true, eqb-false, not-true}
-use Rattle.tree.specs.Memory.{reads}
-use Rattle.tree.specs.Test.{Test, lt, le, holds, Says}
+use borrow.Author.Tests.{ltb-true, lt-ltb, eqb-true, eqb-false, not-true}
+use Rattle.tree.specs.Memory.{Memory, reads}
+use Rattle.tree.specs.Test.{Test, lt, le, ne, is, _and_, _or_, holds, Says}
 use Rattle.tree.specs.declared.layout.Geometry.{Geometry}
 use Rattle.tree.specs.Layout.{badImage}
+use Rattle.tree.specs.Fingerprint.{hasEvery, isGiven, badGiven, LacksByte}
+use Rattle.tree.specs.Sound.{SoundImage}
 use Rattle.tree.specs.Slots.{slotOf, emptySlot}
 use Rattle.tree.specs.Lookup.{freeRun}
 use Rattle.tree.proofs.Cases.{test, true-not-false}
 use Rattle.tree.proofs.Tests.{says, said}
-use Rattle.tree.proofs.Laws.{slot-laws, run-laws}
+use Rattle.tree.proofs.Laws.{slot-laws, run-laws, table-laws}
 use Rattle.book.specs.declared.Target.{Target}
 use Rattle.book.specs.declared.HeadState.{HeadState}
 use Rattle.book.specs.declared.HeadState.the-variants as heads
@@ -24,8 +28,9 @@ use Rattle.book.specs.State.{State, memory, shape}
 use Rattle.book.specs.Checks.{outside}
 use Rattle.book.specs.Agrees.{About, by-claim, by-fill}
 use Rattle.book.specs.Ways.{SlotHas, ReelAt, HeadNames}
-use Rattle.book.specs.Due.{RightImage, stateWord, slotWord, nodeWord, placeWord, frameWord, Idle, Outside, Busy, OfReel, NoReel, OpenReel, NoEmptySlot, NoRun, LowestFree}
+use Rattle.book.specs.Due.{RightImage, BadGiven, stateWord, slotWord, nodeWord, placeWord, frameWord, Idle, Outside, Busy, OfReel, NoReel, OpenReel, NoEmptySlot, NoRun, LowestFree}
 use Rattle.book.proofs.Refusals.{Denies, decided, denies, denied}
+use Rattle.book.proofs.Recovery.{notSound, sound-test}
 use Rattle.book.proofs.Uses.{FoundRun}
 use Rattle.book.proofs.Conflicts.{busy-by}
 
@@ -39,6 +44,32 @@ turned {b} h = (
   λ e p. true-not-false (h .1 p) (not-true b e),
   λ wrong. elim (test b) [ inl e ↦ absurd (wrong (h .0 e)) | inr e ↦ ap not e ],
 )
+
+-- 4 in Recover
+pub unsound-test : (m : Memory) → (holds (notSound m) ≡ true) ↔ (SoundImage m → ⊥)
+unsound-test m = (
+  λ e a. true-not-false e (sound-test m .1 a),
+  λ wrong. elim (test (holds (notSound m))) [ inl e ↦ e | inr e ↦ absurd (wrong (sound-test m .0 e)) ],
+)
+
+-- 16
+pub given-test : (table : List ℕ) → (holds (badGiven table) ≡ true) ↔ BadGiven table
+unfolding badGiven isGiven
+given-test table =
+    let t = is (isGiven table) and (ne (length table) 256 or is (not (hasEvery table))) in (
+      λ e. let h = says t e in
+          (ltb-true 0 (length table) (h .0), elim (h .1) [ inl n ↦ inl n | inr x ↦ wrong (not-true _ x) ]),
+      λ b. said t (
+        lt-ltb 0 (length table) (b .0),
+        elim (ℕ-discrete (length table) 256) [
+          | yes q ↦ elim (b .1) [ inl n ↦ inl n | inr x ↦ inr (ap not (table-laws .lacks table q .1 x)) ]
+          | no n ↦ inl n
+        ],
+      ),
+    )
+  where
+    wrong : hasEvery table ≡ false → (length table ≢ 256) ⊎ LacksByte (λ i. getD table i 0)
+    wrong e = elim (ℕ-discrete (length table) 256) [ yes q ↦ inr (table-laws .lacks table q .0 e) | no n ↦ inl n ]
 
 -- 1
 pub image-test : (words : ℕ) (g : Geometry) → (holds (badImage words g) ≡ true) ↔ (RightImage words g → ⊥)

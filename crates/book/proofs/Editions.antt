@@ -43,7 +43,7 @@ record Keeps (s : State) (w : Work) : Type 0 where
 
 keeps-granted : (op : Operation) (s : State) → (Steady op 0 → ⊥) → Keeps s (granted op s)
 unfolding granted openScript fillScript removeScript
-keeps-granted (format words slots nodes) s u = absurd (u answered-format)
+keeps-granted (format words table slots nodes) s u = absurd (u answered-format)
 keeps-granted (recover words) s u =
     record { image = λ i l. not-mended (mended-words (geometryOf (memory s)) (s .image)) i (λ n. omega arith); script = tt }
 keeps-granted (openReel words script reel) s u = record { image = λ i l. refl; script = omega arith }
@@ -101,18 +101,18 @@ recovered r i l =
 
 -- ---- Format
 
-no-script : (words slots nodes : ℕ) (s : State) → granted (format words slots nodes) s .script ≡ []
+no-script : (words : ℕ) (table : List ℕ) (slots nodes : ℕ) (s : State) → granted (format words table slots nodes) s .script ≡ []
 unfolding granted
-no-script words slots nodes s = refl
+no-script words table slots nodes s = refl
 
-formatted : (words slots nodes : ℕ) (s : State) → perform (format words slots nodes) s .answer ≡ 0
-    → memory (done (format words slots nodes) s) editionAt ≡ 2
-formatted words slots nodes s h =
-    let w = perform (format words slots nodes) s .work in
-    let none : w .script ≡ [] = ap (λ (x : Work). x .script) (work-granted (format words slots nodes) s h) ∙ no-script words slots nodes s in
+formatted : (words : ℕ) (table : List ℕ) (slots nodes : ℕ) (s : State) → perform (format words table slots nodes) s .answer ≡ 0
+    → memory (done (format words table slots nodes) s) editionAt ≡ 2
+formatted words table slots nodes s h =
+    let w = perform (format words table slots nodes) s .work in
+    let none : w .script ≡ [] = ap (λ (x : Work). x .script) (work-granted (format words table slots nodes) s h) ∙ no-script words table slots nodes s in
     ap (λ x. reads (apply (w .after .image) (segmented x)) editionAt) none
     ∙ ap (λ im. reads im editionAt) (segment-laws .apply-none (w .after .image))
-    ∙ fixed .formats words (record { slots = slots; nodes = nodes }) s h .edition
+    ∙ fixed .formats words table (record { slots = slots; nodes = nodes }) s h .edition
 
 pub editions : Editions
 editions = record { formatted = formatted; kept = kept; crashed = λ op s s' k m c r i l. cut c i l ∙ recovered r i l }

@@ -1,26 +1,27 @@
 -- What document 01 fixes of single operations besides the demands.
 use mathlib.Core.Path.{_≡_, refl, sym, _∙_, ap}
-use mathlib.Core.Bool.{true, false, not}
+use mathlib.Core.Bool.{true, false}
 use mathlib.Core.Logic.{inl, inr, _↔_}
 use mathlib.Core.List.{List, [], _∷_}
-use Prim.Native.Nat.{ℕ, _+_, _*_, _≤_, _<_}
+use Prim.Native.Nat.{ℕ, _+_, _≤_, _<_}
 use native.Mathlib.Omega.{arith}
 use borrow.Author.Tests.{not-false}
-use lib.ListN.{length}
-use Rattle.tree.specs.Memory.{reads}
-use Rattle.tree.specs.Test.{is}
+use lib.ListN.{length, getD}
+use Rattle.tree.specs.Memory.{reads, stores}
+use Rattle.tree.specs.Test.{holds}
 use Rattle.tree.specs.declared.layout.Geometry.{Geometry}
-use Rattle.tree.specs.Layout.{badImage, inRange, imageWords, editionAt, slotsAt, nodesAt, rootAt, badEdition}
-use Rattle.tree.specs.Fingerprint.{ruleOf}
+use Rattle.tree.specs.Layout.{badImage, inRange, imageWords, editionAt, slotsAt, nodesAt, tableAt, rootAt, badEdition}
+use Rattle.tree.specs.Fingerprint.{ruleOf, isGiven}
 use Rattle.tree.specs.Slots.{emptySlot}
-use Rattle.tree.specs.Sound.{Sound}
+use Rattle.tree.specs.Sound.{Sound, SoundImage}
 use Rattle.tree.specs.Lookup.{freeRun}
 use Rattle.tree.specs.Pool.{used}
-use Rattle.tree.specs.Check.{isSound}
 use Rattle.tree.specs.Subtree.{allTrees}
 use Rattle.tree.proofs.Cases.{test, true-not-false}
-use Rattle.tree.proofs.Laws.{slot-laws, sound-laws, run-laws, node-laws, pool-laws}
-use Rattle.tree.proofs.Memory.{torn-whole}
+use Rattle.tree.proofs.Laws.{slot-laws, sound-laws, run-laws, node-laws, pool-laws, table-laws}
+use Rattle.tree.proofs.Fingerprints.{unpacked-at}
+use Rattle.tree.proofs.OwnTables.{given-good, given-none}
+use Rattle.tree.proofs.Memory.{apply-laws, torn-whole}
 use Rattle.book.specs.Refusals.{_gives_, refusal}
 use Rattle.book.specs.State.{State, format, recover, openReel, memory, shape}
 use Rattle.book.specs.Checks.{badMap, refusals}
@@ -28,34 +29,49 @@ use Rattle.tree.specs.Subtree.{nodesOf}
 use Rattle.tree.specs.Recovery.{recoverStores}
 use Rattle.book.specs.Perform.{formatStores, openScript, granted, perform}
 use Rattle.book.specs.Agrees.{Reached}
-use Rattle.book.specs.Fixed.{FormatWrites, RecoverWrites, Right, OpenTakes, Fixed}
+use Rattle.book.specs.Fixed.{HeaderRest, no-table, own-table, FormatWrites, RecoverWrites, Right, OpenTakes, Fixed}
 use Rattle.book.proofs.Refusals.{Denies, denied, passes, refused-later}
 use Rattle.book.proofs.Performed.{answer-is, work-granted}
 use Rattle.book.proofs.Stores.{claims, fills, commits, abandons, removes, retires, asks}
-use Rattle.book.proofs.Formatted.{header-stored, root-stored, unread-stored, format-avoids, written, granted-format}
-use Rattle.book.proofs.Recovery.{nodes-reached, corrects-stored, stored-once, now-equal, granted-recover, recover-refusals}
+use Rattle.book.proofs.GivenTable.{withTable, none-given, beside-table, own-put, entries-put}
+use Rattle.book.proofs.Formatted.{header-stored, root-stored, unread-stored, format-avoids, blank, made, written, granted-format, Answered, format-answered}
+use Rattle.book.proofs.Recovery.{nodes-reached, corrects-stored, stored-once, now-equal, granted-recover, recover-refusals, notSound, sound-test}
 
 -- ---- Format
 
-format-words : (words : ℕ) (g : Geometry) (s : State) → perform (format words (g .slots) (g .nodes)) s .answer ≡ 0 → 64 + 2 * g .slots ≤ length (s .image)
-unfolding refusals badImage
-format-words words g s h =
-    let op = format words (g .slots) (g .nodes) in
-    let p = passes (refusals op s) (omega arith) (sym (answer-is op s) ∙ h) in
-    omega (arith, p .0)
+-- words 3 to 63, by the table's stores over zeros
+header-rest : (table : List ℕ) (g : Geometry) (s : State) → Answered table g s → HeaderRest (reads (made table g (s .image))) table
+header-rest table g s a =
+    let im = blank g (s .image) in
+    let long : 40 ≤ length im = omega (arith, apply-laws .length-apply (s .image) (stores (formatStores g)), a .words) in
+    let clear : (i : ℕ) → 3 ≤ i → i < 64 → reads im i ≡ 0 = λ i l h. written g (s .image) i 0 (omega (arith, a .words)) (unread-stored g i l h) in
+    elim (test (isGiven table)) [
+      | inl e ↦
+          let t = given-good table e (a .good) in
+          own-table t (own-put table im e long)
+          (λ i h. sym (unpacked-at (reads (made table g (s .image))) tableAt i h) ∙ ap (λ x. getD x i 0) (table-laws .read-back t _ (entries-put table im e long)))
+          (λ j h. rw (entries-put table im e long j h) (table-laws .word-fits t j h))
+          (λ i l h o. beside-table table im i (λ q. omega arith) o ∙ clear i (omega arith) h)
+      | inr e ↦ no-table (given-none table e) (λ i l h. none-given table im e i ∙ clear i l h)
+    ]
 
-formats : (words : ℕ) (g : Geometry) (s : State) → perform (format words (g .slots) (g .nodes)) s .answer ≡ 0
-    → FormatWrites g s (perform (format words (g .slots) (g .nodes)) s .work .after)
-formats words g s h =
-    let l = format-words words g s h in
+formats : (words : ℕ) (table : List ℕ) (g : Geometry) (s : State) → perform (format words table (g .slots) (g .nodes)) s .answer ≡ 0
+    → FormatWrites table g s (perform (format words table (g .slots) (g .nodes)) s .work .after)
+formats words table g s h =
+    let a = format-answered words table g s h in
+    let l = a .words in
     let c = header-stored g in
-    rw (work-granted (format words (g .slots) (g .nodes)) s h ∙ granted-format words g s) (record {
-      edition = written g (s .image) editionAt 2 (omega arith) (c .0);
-      slots = written g (s .image) slotsAt (g .slots) (omega arith) (c .1);
-      nodes = written g (s .image) nodesAt (g .nodes) (omega arith) (c .2);
-      unread = λ i a b. written g (s .image) i 0 (omega arith) (unread-stored g i a b);
-      roots = λ k a. written g (s .image) (rootAt k) 0 (omega arith) (root-stored g k a);
-      others = λ i a k. elim (torn-whole (s .image) (formatStores g) .each i) [ inl q ↦ q | inr x ↦ absurd (format-avoids g i _ a k x) ];
+    let im = blank g (s .image) in
+    let low : (i : ℕ) → i < 3 → reads (withTable table im) i ≡ reads im i = λ i k. beside-table table im i (λ q. omega arith) (inl (omega arith)) in
+    let high : (i : ℕ) → 64 ≤ i → reads (withTable table im) i ≡ reads im i = λ i k. beside-table table im i (λ q. omega arith) (inr (omega arith)) in
+    rw (work-granted (format words table (g .slots) (g .nodes)) s h ∙ granted-format words table g s) (record {
+      edition = low editionAt (omega arith) ∙ written g (s .image) editionAt 2 (omega arith) (c .0);
+      slots = low slotsAt (omega arith) ∙ written g (s .image) slotsAt (g .slots) (omega arith) (c .1);
+      nodes = low nodesAt (omega arith) ∙ written g (s .image) nodesAt (g .nodes) (omega arith) (c .2);
+      rest = header-rest table g s a;
+      roots = λ k b. high (rootAt k) (omega arith) ∙ written g (s .image) (rootAt k) 0 (omega arith) (root-stored g k b);
+      others = λ i b k.
+          high i b ∙ (elim (torn-whole (s .image) (formatStores g) .each i) [ inl q ↦ q | inr x ↦ absurd (format-avoids g i _ b k x) ]);
       map = refl;
       heads = refl;
     })
@@ -63,7 +79,7 @@ formats words g s h =
 -- ---- Recover
 
 recover-answer : (words : ℕ) (s : State) → Right words s → perform (recover words) s .answer ≡
-    refusal ((is (not (isSound (ruleOf (memory s)) (shape s) (memory s))) gives 4) ∷ [])
+    refusal ((notSound (memory s) gives 4) ∷ [])
 unfolding badImage inRange
 recover-answer words s r =
     let d : Denies (badImage (length (s .image)) (shape s)) = omega (arith, r .image-words, r .in-range) in
@@ -72,18 +88,18 @@ recover-answer words s r =
     ∙ refused-later _ _ (denied (badEdition (memory s)) (r .edition))
     ∙ refused-later _ _ (denied (badMap (shape s) words) (r .map-words)))
 
-unsound : (words : ℕ) (s : State) → Right words s → (perform (recover words) s .answer ≡ 4) ↔ (Sound (ruleOf (memory s)) (shape s) (memory s) → ⊥)
+unsound : (words : ℕ) (s : State) → Right words s → (perform (recover words) s .answer ≡ 4) ↔ (SoundImage (memory s) → ⊥)
 unfolding refusal
 unsound words s r =
-    let l = sound-laws (ruleOf (memory s)) (shape s) (memory s) .image in
-    rw (recover-answer words s r) (elim (test (isSound (ruleOf (memory s)) (shape s) (memory s))) [
-      | inl e ↦ rw e (λ q. absurd (omega arith), λ n. absurd (n (l .0 e)))
-      | inr e ↦ rw e (λ q a. true-not-false (l .1 a) e, λ n. refl)
+    let d = sound-test (memory s) in
+    rw (recover-answer words s r) (elim (test (holds (notSound (memory s)))) [
+      | inl e ↦ rw e (λ q a. true-not-false e (d .1 a), λ n. refl)
+      | inr e ↦ rw e (λ q. absurd (omega arith), λ n. absurd (n (d .0 e)))
     ])
 
-sound : (words : ℕ) (s : State) → Right words s → Sound (ruleOf (memory s)) (shape s) (memory s) → perform (recover words) s .answer ≡ 0
+sound : (words : ℕ) (s : State) → Right words s → SoundImage (memory s) → perform (recover words) s .answer ≡ 0
 unfolding refusal
-sound words s r a = rw (recover-answer words s r, sound-laws (ruleOf (memory s)) (shape s) (memory s) .image .1 a) refl
+sound words s r a = rw (recover-answer words s r, sound-test (memory s) .1 a) refl
 
 -- what an answer says of the image
 record Accepted (s : State) : Type 0 where
@@ -96,7 +112,7 @@ accepted words s h =
     let p = passes (refusals (recover words) s) (omega arith) (sym (answer-is (recover words) s) ∙ h) in
     record {
       words = omega (arith, p .0);
-      sound = sound-laws (ruleOf (memory s)) (shape s) (memory s) .image .0 (not-false _ (p .1 .1 .1 .0));
+      sound = sound-laws (ruleOf (memory s)) (shape s) (memory s) .image .0 (not-false _ (p .1 .1 .1 .0 .1));
     }
 
 inside : {s : State} {n : ℕ} → Accepted s → Reached (shape s) (memory s) n → n < shape s .nodes
@@ -129,7 +145,7 @@ unfolding refusals
 open-passes words script reel s h =
     let op = openReel words script reel in
     let p = passes (refusals op s) (omega arith) (sym (answer-is op s) ∙ h) in
-    (p .1 .1 .1 .1 .0, p .1 .1 .1 .1 .1 .0)
+    (p .1 .1 .1 .1 .1 .0, p .1 .1 .1 .1 .1 .1 .0)
 
 -- the lowest free node of a map
 module _ (g : Geometry) (pool : List ℕ) (l : freeRun g (reads pool) 1 < g .nodes) where

@@ -1,6 +1,6 @@
 -- Which nodes the slots reach, in every history: from what each operation does to them.
 use mathlib.Core.Path.{_≡_, refl, sym, _∙_, ap}
-use mathlib.Core.Bool.{false}
+use mathlib.Core.Bool.{Bool, false}
 use mathlib.Core.Logic.{_⊎_, inl, inr, _≢_}
 use mathlib.Core.List.{List, [], List·Memᴰ·not-nil}
 use Prim.Native.Nat.{ℕ, _+_, _/_, _<_}
@@ -9,7 +9,7 @@ use native.Mathlib.Decide.{ℕ-discrete}
 use Rattle.tree.specs.Memory.{reads, isSet, segmented, apply, passed, Fit}
 use Rattle.tree.specs.Layout.{geometryOf, locateAt}
 use Rattle.tree.specs.Path.{wayOf}
-use Rattle.tree.specs.Fingerprint.{ruleOf}
+use Rattle.tree.specs.Fingerprint.{ruleOf, isGiven}
 use Rattle.tree.specs.Slots.{slotOf}
 use Rattle.tree.specs.Lookup.{find}
 use Rattle.tree.proofs.Memory.{crash-laws, crash-none, passed-or}
@@ -46,7 +46,7 @@ fill-quiet : (s : State) (script h : ℕ) → perform (fill script h) s .answer 
 unfolding refusals granted fillScript
 fill-quiet s script h e =
     let p = passes (refusals (fill script h) s) (omega arith) (sym (answer-is (fill script h) s) ∙ e) in
-    let in-pool = p .1 .1 .1 .1 .1 .0 in
+    let in-pool = p .1 .1 .1 .1 .1 .1 .0 in
     let x = targetOf (headAt (s .heads) h) in (
       ((x .node, 16 + x .place, omega arith, omega arith, omega arith, omega arith), tt),
       (((x .node, 8 + x .place / 8, omega arith, omega arith, omega arith, omega arith), tt), tt),
@@ -92,7 +92,7 @@ grows a (retires {words} {scratch} {script} {reel}) fit h = grows-retire a words
 -- ---- any operation
 
 -- an image without reels has no node
-none-reached : {im : List ℕ} → View (geometryOf (reads im)) im [] → (n : ℕ) → Reached (geometryOf (reads im)) (reads im) n → ⊥
+none-reached : {im : List ℕ} {o : Bool} → View (geometryOf (reads im)) o im [] → (n : ℕ) → Reached (geometryOf (reads im)) (reads im) n → ⊥
 none-reached v n r = List·Memᴰ·not-nil (v .same .present _ .0 (r .slot, record { open-slot = slot-filled (r .there); number = refl }) .1)
 
 end-image : {op : Operation} (s : State) → Scripted op → perform op s .answer ≡ 0 → done op s .image ≡ apply (s .image) (segmented (granted op s .script))
@@ -100,8 +100,8 @@ end-image {op} s x h = ap (λ y. y .image) (done-granted op s h) ∙ ap (λ i. a
 
 answered-grows : {s : State} {t : Table} {op : Operation} → Agrees s t → Fit (arguments op) → Kind op → perform op s .answer ≡ 0
     → Grows op (s .image) (done op s .image)
-answered-grows {s} a fit (formats {words} {slots} {nodes}) h =
-    none-reached (rw (no-reels slots nodes) at (shows-view (format-agrees words slots nodes s (a .shows .fits) h .shows)))
+answered-grows {s} a fit (formats {words} {slots} {nodes} {table}) h =
+    none-reached (rw (no-reels (isGiven table) slots nodes) at (shows-view (format-agrees words table slots nodes s (a .shows .fits) h .shows)))
 answered-grows {s} a fit (recovers {words}) h = recovered-nodes words s
 answered-grows {s} a fit (scripted x) h = rw (end-image s x h) (grows a x fit h .final)
 

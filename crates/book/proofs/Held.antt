@@ -6,7 +6,7 @@ use native.Mathlib.Omega.{arith}
 use Rattle.tree.specs.Memory.{Memory, reads, Fit}
 use Rattle.tree.specs.declared.layout.Geometry.{Geometry}
 use Rattle.tree.specs.Layout.{badImage, inRange, geometryOf, reelAt}
-use Rattle.tree.specs.Fingerprint.{ruleOf}
+use Rattle.tree.specs.Fingerprint.{ruleOf, badOwn}
 use Rattle.tree.specs.Slots.{Filled, filledSlots}
 use Rattle.tree.specs.Sound.{Sound}
 use Rattle.tree.specs.Subtree.{listing}
@@ -19,7 +19,7 @@ use Rattle.book.specs.Table.{Reel, allIdle}
 use Rattle.book.specs.Agrees.{Shows}
 use Rattle.book.specs.Histories.{done, none-yet, Recovered, Starts, found}
 use Rattle.book.specs.Held.{reelHeld, reelsHeld, tableOf}
-use Rattle.book.proofs.Refusals.{passes}
+use Rattle.book.proofs.Refusals.{denied, passes}
 use Rattle.book.proofs.Performed.{answer-is}
 use Rattle.book.proofs.View.{OnceListed, SameReels}
 use Rattle.book.proofs.Showing.{view-shows}
@@ -65,9 +65,17 @@ held-shown words s fit h =
     let p = passes (refusals (recover words) s) (omega arith) (sym (answer-is (recover words) s) ∙ h) in
     let m = reads (s .image) in
     let g = geometryOf m in
-    let d : Sound (ruleOf m) g m = sound-laws (ruleOf m) g m .image .0 (not-false _ (p .1 .1 .1 .0)) in
+    let d : Sound (ruleOf m) g m = sound-laws (ruleOf m) g m .image .0 (not-false _ (p .1 .1 .1 .0 .1)) in
     view-shows (record {
-      header = record { fits = fit; edition = p .1 .0; geometry = refl; in-range = omega (arith, p .0); words = omega (arith, p .0) };
+      header = record {
+        fits = fit;
+        edition = p .1 .0;
+        geometry = refl;
+        in-range = omega (arith, p .0);
+        words = omega (arith, p .0);
+        own = refl;
+        good-table = denied (badOwn m) (p .1 .1 .1 .0 .0);
+      };
       sound = d;
       once = held-once d;
       same = held-same d;

@@ -1,5 +1,6 @@
 -- Frames keep their places: from what an image holds, place by place.
 use mathlib.Core.Path.{_≡_, refl, sym, _∙_}
+use mathlib.Core.Bool.{Bool}
 use mathlib.Core.Logic.{_⊎_, inl, inr}
 use mathlib.Core.List.{List}
 use Prim.Native.Nat.{ℕ}
@@ -78,14 +79,14 @@ module _ {ws : List ℕ} {r : Rule} {g : Geometry} {m m' : Memory} (d : Sound r 
             absurd (z .1 (record { way = w; node = n; place = p; holds = rw e at x }))
       ]
 
-pub keeps-of : {ws : List ℕ} {g : Geometry} {im im' : List ℕ} {rs : List Reel} → View g im rs → Header g im' → Keeping ws g (reads im) (reads im')
+pub keeps-of : {ws : List ℕ} {g : Geometry} {o o' : Bool} {im im' : List ℕ} {rs : List Reel} → View g o im rs → Header g o' im' → Keeping ws g (reads im) (reads im')
     → Keeps ws im im'
 keeps-of v h a = record {
   same-place = rw (v .header .geometry, h .geometry) (λ x y q. keeping-place (v .sound) a x y q);
   came-from = rw (v .header .geometry, h .geometry) (λ x. elim (a .held x) [ inl y ↦ inl y | inr y ↦ inr (y .2) ]);
 }
 
-pub keeps-itself : {ws : List ℕ} {g : Geometry} {im : List ℕ} {rs : List Reel} → View g im rs → Keeps ws im im
+pub keeps-itself : {ws : List ℕ} {g : Geometry} {o : Bool} {im : List ℕ} {rs : List Reel} → View g o im rs → Keeps ws im im
 keeps-itself {g = g} {im = im} v = keeps-of v (v .header) (within-keeping (within-self g (reads im)))
 
 -- ---- a step from its parts: the script, the state after it and the table after it, and each image that a crash can leave

@@ -35,6 +35,7 @@ pub mod Settled
 pub mod Mended
 pub mod Recovery
 pub mod Held
+pub mod GivenTable
 pub mod Formatted
 pub mod Assembly
 pub mod Editions
@@ -58,6 +59,7 @@ pub mod StepBranch
 pub mod StepClaim
 pub mod ClaimPlaced
 pub mod Growth
+pub mod OwnTables
 pub mod Demands
 pub mod Sample
 pub mod OldBook

@@ -27,7 +27,7 @@ use Rattle.tree.specs.Fingerprint.{ruleOf}
 
 -- the image and the map with the room made
 pub record Makes (g : Geometry) (s : State) (t : Table) (im' pool' : List ℕ) : Type 0 where
-  pub still : Still g (t .reels) (s .image) im'
+  pub still : Still g (t .own) (t .reels) (s .image) im'
   pub map-words : length pool' ≡ length (s .pool)
   pub marks : (k : ℕ) → (used pool' k ≡ true) ↔ Reached g (reads im') k
   pub ways : {i : ℕ} {w : List ℕ} {k : ℕ} → Reaches g (reads (s .image)) i w k → Reaches g (reads im') i w k

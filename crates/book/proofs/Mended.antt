@@ -1,6 +1,6 @@
 -- Images in which some locate words of reached nodes have become their set words: what recovery writes, whole or in part.
 use mathlib.Core.Path.{_≡_, sym, _∙_, ap}
-use mathlib.Core.Bool.{true}
+use mathlib.Core.Bool.{Bool, true}
 use mathlib.Core.Logic.{_⊎_, inl, inr, _≢_, _↔_}
 use mathlib.Core.List.{List}
 use Prim.Native.Nat.{ℕ, _%_}
@@ -70,8 +70,8 @@ module _ {g : Geometry} {m m' : Memory} (a : Mended g m m') where
   pub mended-reached : {n : ℕ} → Reached g m n ↔ Reached g m' n
   mended-reached = same-reached (mended-same .links)
 
-pub mended-view : {g : Geometry} {im im' : List ℕ} {rs : List Reel} → View g im rs → length im' ≡ length im
-    → Mended g (reads im) (reads im') → View g im' rs
+pub mended-view : {g : Geometry} {o : Bool} {im im' : List ℕ} {rs : List Reel} → View g o im rs → length im' ≡ length im
+    → Mended g (reads im) (reads im') → View g o im' rs
 mended-view {im' = im'} v l a =
     let h = v .header in
     let fits : Fit im' = λ i. elim (a .each i) [ inl q ↦ rw q (h .fits i) | inr x ↦ rw (x .is) (h .fits _) ] in

@@ -1,5 +1,6 @@
 -- Nodes made anew, by one segment of stores to nodes that nothing reaches: what it leaves, torn and whole.
 use mathlib.Core.Path.{_≡_, refl, sym, ap}
+use mathlib.Core.Bool.{Bool}
 use mathlib.Core.Logic.{_⊎_, inl, inr}
 use mathlib.Core.List.{List, [], _∷_, flatMap, List·Memᴰ, List·Memᴰ·head, List·Memᴰ·tail}
 use Prim.Native.Nat.{ℕ, zero, suc, _+_, _^_, _≤_, _<_}
@@ -59,7 +60,7 @@ module _ (g : Geometry) (level size : ℕ) where
     pub level-is : m (levelAt g n) ≡ level
     pub size-is : m (sizeAt g n) ≡ size
 
-  pub made : {im : List ℕ} {n : ℕ} (ns : List ℕ) → Header g im → List·Memᴰ n ns → n < g .nodes → Made (reads (apply im (stores (newNodes ns)))) n
+  pub made : {o : Bool} {im : List ℕ} {n : ℕ} (ns : List ℕ) → Header g o im → List·Memᴰ n ns → n < g .nodes → Made (reads (apply im (stores (newNodes ns)))) n
   made {im} {n} ns b x l = record {
     next = word (nextAt g n) 0 (List·Memᴰ·head refl);
     locate = word (locateAt g n) 0 (List·Memᴰ·tail (List·Memᴰ·head refl));
@@ -76,7 +77,7 @@ module _ (g : Geometry) (level size : ℕ) where
           (inr (together (λ n. newNode g n level size) x y))
 
   -- a torn image shows and holds the same, if nothing reaches the nodes
-  module _ {im im' : List ℕ} {rs : List Reel} (ns : List ℕ) (v : View g im rs) (free : (n : ℕ) → List·Memᴰ n ns → Reached g (reads im) n → ⊥)
+  module _ {o : Bool} {im im' : List ℕ} {rs : List Reel} (ns : List ℕ) (v : View g o im rs) (free : (n : ℕ) → List·Memᴰ n ns → Reached g (reads im) n → ⊥)
       (fits : (level < 2 ^ 64) × (size < 2 ^ 64)) (t : Torn im (newNodes ns) im') where
     -- a word is as before, or one of the first five of such a node
     pub either : (i : ℕ) → (reads im i ≡ reads im' i) ⊎ ((n : ℕ) × List·Memᴰ n ns × (nodeAt g n ≤ i) × (i < nodeAt g n + 5))
@@ -110,7 +111,7 @@ module _ (g : Geometry) (level size : ℕ) where
     value-fits (suc (suc (suc (suc zero)))) h = fits .1
     value-fits (suc (suc (suc (suc (suc k))))) h = absurd (omega arith)
 
-    pub still-torn : Still g rs im im'
+    pub still-torn : Still g o rs im im'
     still-torn = record {
       view = view-torn v t (λ i u x.
           let y = within (λ n. newNode g n level size) ns x in

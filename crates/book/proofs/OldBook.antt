@@ -1,5 +1,6 @@
 -- A history that starts on an image of edition 1, computed.
 use mathlib.Core.Path.{_≡_, refl, subst}
+use mathlib.Core.Bool.{false}
 use mathlib.Core.List.{[], _∷_, flatMap}
 use Prim.Native.Nat.{_+_, _*_, _^_, _<_}
 use native.Mathlib.Omega.{arith}
@@ -7,7 +8,7 @@ use Rattle.tree.specs.MemoryComputed.{field, withField, bit, isSet, withBit, by
 use Rattle.tree.specs.Memory.{Fit, Store}
 use Rattle.tree.specs.Layout.{badImage, geometryOf}
 use Rattle.tree.specs.Lists.{upTo, range, keep, every, hasKey, distinct}
-use Rattle.tree.specs.Fingerprint.{fingerprint, folded, tableEntry, ruleFor, ruleOf}
+use Rattle.tree.specs.Fingerprint.{fingerprint, folded, tableEntry, ruleFor, ruleOf, hasOwn, badOwn, isGiven, badGiven}
 use Rattle.tree.specs.Node.{formed, wellFormed, sizeAllowed}
 use Rattle.tree.specs.Slots.{filled, filledSlots, slotOf, emptySlot}
 use Rattle.tree.specs.Lookup.{firstSpot, path, pathFrom, clearAt, clearSpot, matches, foundAt, lookup, find, isFreeRun, freeRun}
@@ -46,14 +47,14 @@ record Computed : Type 0 where
   fills : perform (fill 50 0) (done (claim 1 50 0 7 0) oldBook) .work .script ≡ ((83, 0) ∷ []) ∷ ((74, 144 + 144 * 256) ∷ []) ∷ []
   fills-new : perform (fill 50 0) (run (openReel 1 50 7 ∷ claim 1 50 0 7 0 ∷ []) (formatted 1 1)) .work .script
       ≡ ((82, 0) ∷ []) ∷ ((74, 32) ∷ []) ∷ []
-  formats : perform (format 1 1 1) oldBook .answer ≡ 0
-  emptied : replied (format 1 1 1) oldBook oneFrame .work .after ≡ emptyTable 1 1
+  formats : perform (format 1 [] 1 1) oldBook .answer ≡ 0
+  emptied : replied (format 1 [] 1 1) oldBook oneFrame .work .after ≡ emptyTable false 1 1
   asked : perform (query (has 7 (2 ^ 32))) (heldBook 2) .answer ≡ 0
   says-no : perform (query (has 7 (2 ^ 32))) (heldBook 2) .work .handed .value ≡ 0
   unsound : perform (recover 1) (heldBook 2) .answer ≡ 4
 
 computed : Computed
-unfolding heldBook formatted run tableOf reelsHeld reply tableRefusals tableWork emptyTable range upTo keep perform granted leaves clears refusals badImage refusal geometryOf formatStores openScript roomScript claimScript fillScript apply segmented stores first marked isSet withBit byte withByte field withField bit slotOf emptySlot filled freeRun isFreeRun mark headAt stateOf wordsOf withHead anyHead pathFrom path wellFormed formed sizeAllowed clearSpot clearAt firstSpot roomOn find lookup foundAt matches fingerprint folded tableEntry ruleFor ruleOf children subtree tree allTrees filledSlots walkable inPlace isSound heldPlaces framesIn listing distinct hasKey every recoverStores flatMap
+unfolding heldBook formatted run tableOf reelsHeld reply tableRefusals tableWork emptyTable range upTo keep perform granted leaves clears refusals badImage refusal geometryOf formatStores openScript roomScript claimScript fillScript apply segmented stores first marked isSet withBit byte withByte field withField bit slotOf emptySlot filled freeRun isFreeRun mark headAt stateOf wordsOf withHead anyHead pathFrom path wellFormed formed sizeAllowed clearSpot clearAt firstSpot roomOn find lookup foundAt matches fingerprint folded tableEntry ruleFor hasOwn ruleOf badOwn isGiven badGiven children subtree tree allTrees filledSlots walkable inPlace isSound heldPlaces framesIn listing distinct hasKey every recoverStores flatMap
 computed = record {
   recovers = refl;
   table = refl;
@@ -78,8 +79,8 @@ old-book = record {
   says-yes = computed .says-yes;
   fills = computed .fills;
   fills-new = computed .fills-new;
-  goes-on = subst (Follows _) (computed .emptied) (performed history (format 1 1 1) (words-fit (1 ∷ 1 ∷ []) (omega arith)));
-  anew = editions .formatted 1 1 1 oldBook (computed .formats);
+  goes-on = subst (Follows _) (computed .emptied) (performed history (format 1 [] 1 1) (words-fit (1 ∷ 1 ∷ []) (omega arith)));
+  anew = editions .formatted 1 [] 1 1 oldBook (computed .formats);
   asked = computed .asked;
   says-no = computed .says-no;
   unsound = computed .unsound;

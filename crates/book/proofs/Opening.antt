@@ -85,7 +85,7 @@ unfolding refusals
 open-passes s words script reel h =
     let op = openReel words script reel in
     let p = passes (refusals op s) (omega arith) (sym (answer-is op s) ∙ h) in
-    (p .1 .1 .1 .0, p .1 .1 .1 .1 .0, p .1 .1 .1 .1 .1 .0)
+    (p .1 .1 .1 .1 .0, p .1 .1 .1 .1 .1 .0, p .1 .1 .1 .1 .1 .1 .0)
 
 pub opening : {s : State} {t : Table} → Agrees s t → (words script reel : ℕ) → reel < 2 ^ 64 → perform (openReel words script reel) s .answer ≡ 0
     → Opening s (emptySlot (sizesOf (s .image)) (reads (s .image))) (freeRun (sizesOf (s .image)) (reads (s .pool)) 1) reel

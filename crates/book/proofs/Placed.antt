@@ -1,5 +1,6 @@
 -- Where frames sit: a frame that a reel held, and holds still, is where it was, and one that is new is where a head had put it.
 use mathlib.Core.Path.{_≡_, refl, sym, _∙_, ap}
+use mathlib.Core.Bool.{Bool}
 use mathlib.Core.List.{List, [], _∷_, List·Memᴰ·not-nil}
 use Prim.Native.Nat.{ℕ}
 use native.Mathlib.Omega.{arith}
@@ -12,6 +13,7 @@ use Rattle.tree.specs.Reach.{Reaches, Holds}
 use Rattle.tree.proofs.Memory.{crash-laws, apply-none, crash-none}
 use Rattle.tree.proofs.Reach.{slot-filled}
 use Rattle.tree.proofs.Laws.{same-laws}
+use Rattle.tree.specs.Fingerprint.{isGiven}
 use Rattle.book.specs.State.{State, Operation, recover, claim, arguments}
 use Rattle.book.specs.Perform.{granted, perform}
 use Rattle.book.specs.Table.{Table, emptyTable}
@@ -78,15 +80,15 @@ ended-held c = rw (c .is) (held-on (attempts-held (c .attempts)) (held-on (held-
 -- ---- an operation done or interrupted
 
 -- an image without reels holds nothing
-keeps-none : {ws im im' : List ℕ} → View (geometryOf (reads im')) im' [] → Keeps ws im im'
+keeps-none : {ws im im' : List ℕ} {o : Bool} → View (geometryOf (reads im')) o im' [] → Keeps ws im im'
 keeps-none {im' = im'} v = record { same-place = λ x y q. absurd (none (y .there)); came-from = λ y. absurd (none (y .there)) }
   where
     none : {s n : ℕ} {w : List ℕ} → Reaches (geometryOf (reads im')) (reads im') s w n → ⊥
     none r = List·Memᴰ·not-nil (v .same .present _ .0 (_, record { open-slot = slot-filled r; number = refl }) .1)
 
-pub no-reels : (slots nodes : ℕ) → emptyTable slots nodes .reels ≡ []
+pub no-reels : (own : Bool) (slots nodes : ℕ) → emptyTable own slots nodes .reels ≡ []
 unfolding emptyTable
-no-reels slots nodes = refl
+no-reels own slots nodes = refl
 
 -- one that leaves the image can be interrupted in its script alone
 pub script-alone : {op : Operation} {s : State} {k : ℕ} {m : List ℕ} (c : Interrupted op s k m) → perform op s .work .after .image ≡ s .image
@@ -96,8 +98,8 @@ script-alone c q = rw (itself-same c q) at (c .script)
 module _ (steps : Steps) where
   answered-keeps : {s : State} {t : Table} {op : Operation} → Agrees s t → Fit (arguments op) → Kind op → perform op s .answer ≡ 0
       → Keeps (s .heads) (s .image) (done op s .image)
-  answered-keeps {s} a fit (formats {words} {slots} {nodes}) h =
-      keeps-none (rw (no-reels slots nodes) at (shows-view (format-agrees words slots nodes s (a .shows .fits) h .shows)))
+  answered-keeps {s} a fit (formats {words} {slots} {nodes} {table}) h =
+      keeps-none (rw (no-reels (isGiven table) slots nodes) at (shows-view (format-agrees words table slots nodes s (a .shows .fits) h .shows)))
   answered-keeps {s} a fit (recovers {words}) h = keeps-held (keeps-itself (shows-view (a .shows))) (recovered-held words s)
   answered-keeps {s} {op = op} a fit (scripted x) h =
       let es = segmented (granted op s .script) in

@@ -1,6 +1,6 @@
 -- Places left, by the image after the claim's script.
 use mathlib.Core.Path.{_≡_, refl, sym, _∙_, ap}
-use mathlib.Core.Bool.{false, not}
+use mathlib.Core.Bool.{Bool, false, not}
 use mathlib.Core.List.{List, [], _∷_}
 use Prim.Native.Nat.{ℕ, suc, _+_, _-_, _*_, _^_, _≤_, _<_}
 use native.Mathlib.Omega.{arith}
@@ -26,6 +26,7 @@ use Rattle.tree.proofs.Ones.{ones-clear}
 use Rattle.tree.proofs.Memory.{apply-laws, bit-laws, apply-first, apply-single}
 use Rattle.tree.proofs.PathNodes.{room-by}
 use Rattle.tree.proofs.Laws.{child-laws}
+use Rattle.tree.specs.Fingerprint.{hasOwn, badOwn}
 use Rattle.book.specs.declared.HeadState.the-variants.{Claimed}
 use Rattle.book.specs.Heads.{headCount, headAt}
 use Rattle.book.specs.State.{State, Operation, format, recover, openReel, claim, fill, commit, abandon, remove, retire, query}
@@ -33,7 +34,7 @@ use Rattle.book.specs.Checks.{placeIn, targetIn, refusals}
 use Rattle.book.specs.Perform.{group, locateThen, claimScript, granted, leftBy, perform}
 use Rattle.book.specs.Histories.{done}
 use Rattle.book.specs.PlacesLeft.{LeftAfter, IsClaim, is-claim, PlacesLeft}
-use Rattle.book.proofs.Refusals.{passes}
+use Rattle.book.proofs.Refusals.{denied, passes}
 use Rattle.book.proofs.Performed.{answer-is, left-granted, left-refused}
 use Rattle.book.proofs.Done.{done-granted}
 use Rattle.book.proofs.Heads.{head-written}
@@ -69,7 +70,7 @@ record After (m' : Memory) (g : Geometry) (n w size left : ℕ) : Type 0 where
   fits : w < 2 ^ size
   left-is : left ≡ size - ones w
 
-module _ {g : Geometry} {im : List ℕ} (hd : Header g im) where
+module _ {g : Geometry} {o : Bool} {im : List ℕ} (hd : Header g o im) where
   abbrev m : Memory
   m = reads im
 
@@ -132,9 +133,17 @@ answered words script h reel f s fit hs e =
     let g = geometryOf mm in
     let slot = slotOf g mm reel in
     let p = passes (refusals op s) (omega arith) (sym (answer-is op s) ∙ e) in
-    let q = p .1 .1 .1 in
+    let q = p .1 .1 .1 .1 in
     let room = q .1 .1 .1 in
-    let hd : Header g im = record { fits = fit; edition = p .1 .0; geometry = refl; in-range = omega (arith, p .0); words = omega (arith, p .0) } in
+    let hd : Header g (hasOwn mm) im = record {
+      fits = fit;
+      edition = p .1 .0;
+      geometry = refl;
+      in-range = omega (arith, p .0);
+      words = omega (arith, p .0);
+      own = refl;
+      good-table = denied (badOwn mm) (p .1 .1 .1 .0);
+    } in
     let r = roomOn g mm (pathFrom g mm slot f) in
     let start = freeRun g (reads (s .pool)) (needs r) in
     let t = placeIn r start f in
@@ -161,7 +170,7 @@ answered words script h reel f s fit hs e =
 
 none-left : (op : Operation) (s : State) → (IsClaim op → ⊥) → leftBy op s ≡ 0
 none-left (claim words script h reel f) s n = absurd (n is-claim)
-none-left (format words slots nodes) s n = refl
+none-left (format words table slots nodes) s n = refl
 none-left (recover words) s n = refl
 none-left (openReel words script reel) s n = refl
 none-left (fill script h) s n = refl

@@ -1,7 +1,7 @@
 -- Recovery of an image that shows reels: accepted with a map of the right length, and it leaves those reels, whole, with
 -- every head idle; a recovery that is refused or interrupted keeps them.
 use mathlib.Core.Path.{_≡_, refl, sym, _∙_, ap, ap₂}
-use mathlib.Core.Bool.{false, cond, not}
+use mathlib.Core.Bool.{Bool, false, cond, not}
 use mathlib.Core.Logic.{inl, inr, _↔_}
 use mathlib.Core.List.{List, [], _∷_, map, List·Memᴰ, Memᴰ·map, Memᴰ·of-map, Memᴰ·cast}
 use Prim.Native.Nat.{ℕ, _<_}
@@ -9,13 +9,13 @@ use native.Mathlib.Omega.{arith}
 use native.Mathlib.Decide.{ℕ-discrete}
 use lib.ListN.{length}
 use lib.Dec.{eqb}
-use borrow.Author.Tests.{eqb-true, eqb-false, ne-eqb, not-true}
+use borrow.Author.Tests.{eqb-true, eqb-false, ne-eqb, not-true, not-false}
 use Rattle.tree.specs.Memory.{Memory, reads, Store, stores, apply}
-use Rattle.tree.specs.Test.{is}
+use Rattle.tree.specs.Test.{Test, is, _or_, holds}
 use Rattle.tree.specs.declared.layout.Geometry.{Geometry}
 use Rattle.tree.specs.Layout.{badImage, inRange, mapWords, geometryOf, locateAt, setAt, badEdition}
-use Rattle.tree.specs.Fingerprint.{Rule, ruleOf}
-use Rattle.tree.specs.Sound.{Sound}
+use Rattle.tree.specs.Fingerprint.{Rule, ruleOf, badOwn}
+use Rattle.tree.specs.Sound.{Sound, SoundImage}
 use Rattle.tree.specs.Lists.{Distinct}
 use Rattle.tree.specs.Slots.{filledSlots}
 use Rattle.tree.specs.Subtree.{Visit, visit, tree, allTrees}
@@ -28,6 +28,7 @@ use Rattle.tree.proofs.Lists as Lists
 use Rattle.tree.proofs.Distinct.{distinct-by, distinct-keep, distinct-made}
 use Rattle.tree.proofs.Trees.{distinct-trees}
 use Rattle.tree.proofs.Memory.{apply-laws, settles, torn-whole, crash-none}
+use Rattle.tree.proofs.OwnTables.{bad-or-not}
 use Rattle.tree.proofs.Pool.{pool-laws}
 use Rattle.tree.proofs.Laws.{slot-laws, tree-laws, reach-laws, sound-laws, node-laws}
 use Rattle.book.specs.Heads.{idleHeads}
@@ -41,7 +42,7 @@ use Rattle.book.specs.Table.{Reel}
 use Rattle.book.specs.Agrees.{Agrees, Reached}
 use Rattle.book.specs.Histories.{carriedOut, done, Interrupted, Attempts, none-yet, refused, interrupted, Recovered}
 use Rattle.book.specs.Fixed.{Corrects}
-use Rattle.book.proofs.Refusals.{Denies, denied, passed-all, refused-here, refused-later}
+use Rattle.book.proofs.Refusals.{Denies, denies, denied, passed-all, refused-here, refused-later}
 use Rattle.book.proofs.Performed.{answer-is, work-granted}
 use Rattle.book.proofs.Demand1.{demand1}
 use Rattle.book.proofs.Done.{carried-leaving, done-granted, refused-image, done-image}
@@ -119,28 +120,39 @@ module _ (g : Geometry) (im : List ℕ) where
 
 -- ---- what recovery answers and leaves
 
+-- Recover's 4
+abbrev pub notSound : Memory → Test
+notSound m = badOwn m or is (not (isSound (ruleOf m) (geometryOf m) m))
+
+pub sound-test : (m : Memory) → (holds (notSound m) ≡ false) ↔ SoundImage m
+sound-test m =
+    let l = sound-laws (ruleOf m) (geometryOf m) m .image in (
+      λ h. let d = denies (notSound m) h in record { good-table = bad-or-not m .0 (denied (badOwn m) (d .0)); sound = l .0 (not-false _ (d .1)) },
+      λ a. denied (notSound m) (denies (badOwn m) (bad-or-not m .1 (a .good-table)), rw (l .1 (a .sound)) refl),
+    )
+
 pub recover-refusals : (words : ℕ) (r : State) → refusals (recover words) r ≡
     (badImage (length (r .image)) (geometryOf (reads (r .image))) gives 1)
     ∷ (badEdition (reads (r .image)) gives 2)
     ∷ (badMap (geometryOf (reads (r .image))) words gives 3)
-    ∷ (is (not (isSound (ruleOf (reads (r .image))) (geometryOf (reads (r .image))) (reads (r .image)))) gives 4)
+    ∷ (notSound (reads (r .image)) gives 4)
     ∷ []
 unfolding refusals
 recover-refusals words r = refl
 
 -- an image with a right header is no bad image
-pub good-image : {g : Geometry} {im : List ℕ} → Header g im → Denies (badImage (length im) g)
+pub good-image : {g : Geometry} {o : Bool} {im : List ℕ} → Header g o im → Denies (badImage (length im) g)
 unfolding badImage inRange
 good-image h = omega (arith, h .words, h .in-range)
 
-pub recover-answers : {g : Geometry} {rs : List Reel} (r : State) → View g (r .image) rs → (words : ℕ)
+pub recover-answers : {g : Geometry} {o : Bool} {rs : List Reel} (r : State) → View g o (r .image) rs → (words : ℕ)
     → perform (recover words) r .answer ≡ cond (eqb words (mapWords g)) 0 3
 recover-answers {g} r v words =
     let h = v .header in
     let m = reads (r .image) in
-    let sound : not (isSound (ruleOf m) g m) ≡ false = rw (sound-laws (ruleOf m) g m .image .1 (v .sound)) refl in
+    let sound = denies (notSound m) (sound-test m .1 (record { good-table = bad-or-not m .0 (h .good-table); sound = rw (h .geometry) (v .sound) })) in
     rw (answer-is, recover-refusals, h .geometry) (elim (test (eqb words (mapWords g))) [
-      | inl e ↦ rw e (passed-all _ (good-image h, (h .edition, (eqb-true words (mapWords g) e, (sound, tt)))))
+      | inl e ↦ rw e (passed-all _ (good-image h, (h .edition, (eqb-true words (mapWords g) e, (rw (h .geometry) at sound, tt)))))
       | inr e ↦ rw e (
           refused-later _ _ (denied (badImage (length (r .image)) g) (good-image h))
           ∙ refused-later _ _ (denied (badEdition m) (h .edition))
@@ -177,16 +189,16 @@ interrupted-mended words r k m' c =
     let e : m' ≡ c .itself = crash-none (c .itself) k m' (rw (w .script) at (c .script)) in
     rw e (c .same-length, record { each = λ i. elim (c .old-or-new i) [ inl q ↦ inl q | inr q ↦ rw q (w .image .each i) ] })
 
-module _ {g : Geometry} {rs : List Reel} where
-  pub interrupted-view : (words : ℕ) (r : State) (k : ℕ) (m' : List ℕ) → View g (r .image) rs → Interrupted (recover words) r k m' → View g m' rs
+module _ {g : Geometry} {o : Bool} {rs : List Reel} where
+  pub interrupted-view : (words : ℕ) (r : State) (k : ℕ) (m' : List ℕ) → View g o (r .image) rs → Interrupted (recover words) r k m' → View g o m' rs
   interrupted-view words r k m' v c = let a = interrupted-mended words r k m' c in mended-view v (a .0) (rw (v .header .geometry) at (a .1))
 
   -- a reached node is inside the pool
-  inside : {im : List ℕ} {n : ℕ} → View g im rs → Reached g (reads im) n → n < g .nodes
+  inside : {im : List ℕ} {n : ℕ} → View g o im rs → Reached g (reads im) n → n < g .nodes
   inside {im} {n} v r = node-laws g (reads im) .facts (length (r .way)) n .0 (v .sound .well-formed (r .there)) .inside
 
   -- answered: the map and the locate words as the nodes reached and the set words have them
-  settled-image : (im : List ℕ) → View g im rs → Settled g (mendedImage g im) (mapOf g (nodesOf (allTrees g (reads im)))) rs
+  settled-image : (im : List ℕ) → View g o im rs → Settled g o (mendedImage g im) (mapOf g (nodesOf (allTrees g (reads im)))) rs
   settled-image im v =
       let a = mended-words g im in
       record {
@@ -201,17 +213,17 @@ module _ {g : Geometry} {rs : List Reel} where
             now-equal g im r' (omega (arith, inside v r', v .header .words)) ∙ kept a (setAt g n) (λ k. omega arith);
       }
 
-  pub recovered-agrees : (words : ℕ) (r : State) → View g (r .image) rs → perform (recover words) r .answer ≡ 0
-      → Agrees (done (recover words) r) (idleTable g rs)
+  pub recovered-agrees : (words : ℕ) (r : State) → View g o (r .image) rs → perform (recover words) r .answer ≡ 0
+      → Agrees (done (recover words) r) (idleTable g o rs)
   recovered-agrees words r v h =
       let q = done-granted (recover words) r h ∙ ap carriedOut (granted-recover words r) ∙ carried-leaving _ in
       rw (q, v .header .geometry) (agrees-settled (settled-image (r .image) v))
 
-  pub attempts-view : {m m' : List ℕ} → Attempts m m' → View g m rs → View g m' rs
+  pub attempts-view : {m m' : List ℕ} → Attempts m m' → View g o m rs → View g o m' rs
   attempts-view none-yet v = v
   attempts-view (refused words s q h a) v =
       attempts-view a (rw (done-image (recover words) s h ∙ q) v)
   attempts-view (interrupted words s k q c a) v = attempts-view a (interrupted-view words s k _ (rw q v) c)
 
-  pub recovered-view : {m : List ℕ} {s' : State} → Recovered m s' → View g m rs → Agrees s' (idleTable g rs)
+  pub recovered-view : {m : List ℕ} {s' : State} → Recovered m s' → View g o m rs → Agrees s' (idleTable g o rs)
   recovered-view c v = rw (c .is) (recovered-agrees (c .words) (c .from) (rw (c .image) (attempts-view (c .attempts) v)) (c .answered))

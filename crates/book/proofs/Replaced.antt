@@ -79,7 +79,7 @@ same-place? n p j q = elim (ℕ-discrete j n) [
 
 -- the table with its reels and one head changed, and the state with its image and one head changed
 abbrev pub retabled : Table → List Reel → ℕ → TableHead → Table
-retabled t rs h z = record { slots = t .slots; nodes = t .nodes; reels = rs; heads = set (t .heads) h z }
+retabled t rs h z = record { slots = t .slots; nodes = t .nodes; own = t .own; reels = rs; heads = set (t .heads) h z }
 
 abbrev pub restated : State → List ℕ → ℕ → HeadState → State
 restated s im h y = record { image = im; pool = s .pool; heads = withHead (s .heads) h y }

@@ -1,6 +1,6 @@
 -- An image's view through the stores that change nothing of what is reached or held.
 use mathlib.Core.Path.{_≡_, refl, sym, _∙_, ap}
-use mathlib.Core.Bool.{true, false}
+use mathlib.Core.Bool.{Bool, true, false}
 use mathlib.Core.Logic.{_⊎_, inl, inr, _≢_}
 use mathlib.Core.List.{List, []}
 use Prim.Native.Nat.{ℕ, _+_, _*_, _/_, _%_, _^_, _≤_, _<_}
@@ -70,7 +70,7 @@ module _ (g : Geometry) {m m' : Memory} {i v : ℕ} (n k : ℕ) (high : k < 80) 
 
 -- ---- the view
 
-module _ {g : Geometry} {im : List ℕ} {rs : List Reel} {s n : ℕ} {w : List ℕ} (v : View g im rs) (x : Reaches g (reads im) s w n) where
+module _ {g : Geometry} {o : Bool} {im : List ℕ} {rs : List Reel} {s n : ℕ} {w : List ℕ} (v : View g o im rs) (x : Reaches g (reads im) s w n) where
   -- a reached node is well formed, and its words are inside the image
   pub node-formed : WellFormed g (reads im) (length w) n
   node-formed = wellFormed-facts g (reads im) (length w) n .0 (v .sound .well-formed x)
@@ -83,13 +83,13 @@ module _ {g : Geometry} {im : List ℕ} {rs : List Reel} {s n : ℕ} {w : List �
 
   view-set : (i k u : ℕ) → i ≡ nodeAt g n + k → 0 < k → k < 80 → u < 2 ^ 64
       → (Stores (reads im) i u (reads (set im i u)) → SameFrames g (reads im) (reads (set im i u)) n × WellFormed g (reads (set im i u)) (length w) n)
-      → View g (set im i u) rs
+      → View g o (set im i u) rs
   view-set i k u e low high l f =
       let h : i < length im = omega (arith, reached-inside k high) in
       let t = stores-set im i u h in
       view-same v (header-set i u (v .header) (omega arith) h l) (same-but (v .sound) x low high e t (f t .0)) (formed-but (v .sound) x low high e t (f t .1))
 
-  pub view-locate : (u : ℕ) → u < 2 ^ reads im (sizeAt g n) → View g (set im (locateAt g n) u) rs
+  pub view-locate : (u : ℕ) → u < 2 ^ reads im (sizeAt g n) → View g o (set im (locateAt g n) u) rs
   view-locate u h = view-set (locateAt g n) 1 u refl (omega arith) (omega arith) (omega (arith, pow-mono (size-most node-formed))) (λ t. (
     frames-kept g n 1 (omega arith) refl t (omega arith) (omega arith),
     let size = t .old (sizeAt g n) (λ q. omega arith) in
@@ -104,7 +104,7 @@ module _ {g : Geometry} {im : List ℕ} {rs : List Reel} {s n : ℕ} {w : List �
   ))
 
   -- a place that is not held: its frame, and its fingerprint's byte
-  pub view-frame : (p u : ℕ) → p < 64 → held g (reads im) n p ≡ false → u < 2 ^ 64 → View g (set im (frameAt g n p) u) rs
+  pub view-frame : (p u : ℕ) → p < 64 → held g (reads im) n p ≡ false → u < 2 ^ 64 → View g o (set im (frameAt g n p) u) rs
   view-frame p u h c l = view-set (frameAt g n p) (16 + p) u (omega arith) (omega arith) (omega arith) l (λ t. (
     record {
       set = t .old (setAt g n) (λ q. omega arith);
@@ -115,7 +115,7 @@ module _ {g : Geometry} {im : List ℕ} {rs : List Reel} {s n : ℕ} {w : List �
   ))
 
   pub view-fingerprint : (p b : ℕ) → p < 64 → held g (reads im) n p ≡ false → b < 256
-      → View g (set im (fingerprintsAt g n p) (withByte (reads im (fingerprintsAt g n p)) (p % 8) b)) rs
+      → View g o (set im (fingerprintsAt g n p) (withByte (reads im (fingerprintsAt g n p)) (p % 8) b)) rs
   view-fingerprint p b h c l =
       let i = fingerprintsAt g n p in
       let fits = byte-laws .with-fits (reads im i) (p % 8) b 64 l (omega arith) (v .header .fits i) in
@@ -148,8 +148,8 @@ scaled {g} {m} {m'} {n} a h l t =
       next = inl (sym (t .old (nextAt g n) (λ q. omega arith)) ∙ h);
     }
 
-pub view-size : {g : Geometry} {im : List ℕ} {rs : List Reel} {s n : ℕ} → View g im rs → Reaches g (reads im) s [] n → reads im (nextAt g n) ≡ 0
-    → reads im (sizeAt g n) < 64 → View g (set im (sizeAt g n) (2 * reads im (sizeAt g n))) rs
+pub view-size : {g : Geometry} {o : Bool} {im : List ℕ} {rs : List Reel} {s n : ℕ} → View g o im rs → Reaches g (reads im) s [] n → reads im (nextAt g n) ≡ 0
+    → reads im (sizeAt g n) < 64 → View g o (set im (sizeAt g n) (2 * reads im (sizeAt g n))) rs
 view-size {g} {im} {n = n} v x h l =
     view-set v x (sizeAt g n) 4 (2 * reads im (sizeAt g n)) refl (omega arith) (omega arith) (omega arith)
     (λ t. (frames-kept g n 4 (omega arith) refl t (omega arith) (omega arith), scaled (node-formed v x) h l t))
@@ -189,6 +189,6 @@ module _ {g : Geometry} {m m' : Memory} (a : (i : ℕ) → (m i ≡ m' i) ⊎ Un
   pub same-read : Same g m m'
   same-read = record { links = record { roots = read-root; next = λ x. same-next (read-node x) }; reels = read-reel; holds = λ x. same-frames (read-node x) }
 
-pub view-fresh : {g : Geometry} {im im' : List ℕ} {rs : List Reel} → View g im rs → HeaderAs g im im'
-    → ((i : ℕ) → (reads im i ≡ reads im' i) ⊎ Unread g (reads im) i) → View g im' rs
+pub view-fresh : {g : Geometry} {o : Bool} {im im' : List ℕ} {rs : List Reel} → View g o im rs → HeaderAs g o im im'
+    → ((i : ℕ) → (reads im i ≡ reads im' i) ⊎ Unread g (reads im) i) → View g o im' rs
 view-fresh v h a = view-same v h (same-read a) (λ s w n x. sym (same-formed (read-node a x) (length w)) ∙ v .sound .well-formed x)

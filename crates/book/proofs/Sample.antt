@@ -1,5 +1,6 @@
 -- Books computed from a format on, and that histories come to them.
 use mathlib.Core.Path.{_≡_, refl, sym, _∙_, subst}
+use mathlib.Core.Bool.{false}
 use mathlib.Core.Logic.{inl, inr}
 use mathlib.Core.List.{List, [], _∷_, flatMap}
 use Prim.Native.Nat.{ℕ, zero, suc, _+_, _*_, _^_, _<_}
@@ -10,7 +11,7 @@ use Rattle.tree.specs.MemoryComputed.{field, withField, bit, isSet, withBit, by
 use Rattle.tree.specs.Memory.{Fit}
 use Rattle.tree.specs.Layout.{badImage, geometryOf}
 use Rattle.tree.specs.Lists.{upTo, range, keep, every, hasKey, distinct}
-use Rattle.tree.specs.Fingerprint.{fingerprint, folded, tableEntry, ruleFor, ruleOf}
+use Rattle.tree.specs.Fingerprint.{fingerprint, folded, tableEntry, ruleFor, ruleOf, hasOwn, badOwn, isGiven, badGiven}
 use Rattle.tree.specs.Node.{formed, wellFormed, sizeAllowed}
 use Rattle.tree.specs.Slots.{filled, filledSlots, slotOf, emptySlot}
 use Rattle.tree.specs.Lookup.{firstSpot, path, pathFrom, clearAt, clearSpot, matches, foundAt, lookup, find, isFreeRun, freeRun}
@@ -56,10 +57,10 @@ zeros-fit (suc n) (suc i) = zeros-fit n i
 abbrev pub zeros : (slots nodes : ℕ) → State
 zeros slots nodes = record { image = replicate (64 + 2 * slots + 80 * nodes) 0; pool = []; heads = [] }
 
-pub format-follows : (slots nodes : ℕ) → perform (format 1 slots nodes) (zeros slots nodes) .answer ≡ 0
-    → Follows (starred.formatted slots nodes) (emptyTable slots nodes)
-unfolding starred.formatted
-format-follows slots nodes h = started (formatted 1 slots nodes (zeros slots nodes) (zeros-fit (64 + 2 * slots + 80 * nodes)) h)
+pub format-follows : (slots nodes : ℕ) → perform (format 1 [] slots nodes) (zeros slots nodes) .answer ≡ 0
+    → Follows (starred.formatted slots nodes) (emptyTable false slots nodes)
+unfolding starred.formatted isGiven
+format-follows slots nodes h = started (formatted 1 [] slots nodes (zeros slots nodes) (zeros-fit (64 + 2 * slots + 80 * nodes)) h)
 
 -- the table that operations come to, one after the other
 unfoldable pub tableAfter : List Operation → State → Table → Table
@@ -74,12 +75,12 @@ run-follows (op ∷ ops) w f = run-follows ops (w .1) (performed f op (words-fit
 
 -- ---- the computed answers
 
-format-answers : (perform (format 1 41 1) (zeros 41 1) .answer ≡ 0) × (perform (format 1 4 4) (zeros 4 4) .answer ≡ 0)
-unfolding perform refusals badImage refusal
+format-answers : (perform (format 1 [] 41 1) (zeros 41 1) .answer ≡ 0) × (perform (format 1 [] 4 4) (zeros 4 4) .answer ≡ 0)
+unfolding perform refusals badImage refusal badGiven isGiven
 format-answers = (refl, refl)
 
 pub record Computed : Type 0 where
-  pub table : tableAfter claimsOfAll (starred.formatted 4 4) (emptyTable 4 4) ≡ fourOpen
+  pub table : tableAfter claimsOfAll (starred.formatted 4 4) (emptyTable false 4 4) ≡ fourOpen
   pub no-fifth : perform (claim 1 50 4 7 12) allClaimed .answer ≡ 11
   pub answered : perform (commit 50 3) allClaimed .answer ≡ 0
   -- Has of frame 12 of reel 10 hands back 0 before the commit, 1 after it
@@ -92,7 +93,7 @@ pub record Computed : Type 0 where
   pub all-idle : perform (recover 1) allClaimed .work .after .heads ≡ replicate 20 0
 
 pub computed : Computed
-unfolding allClaimed run tableAfter reply tableRefusals tableWork emptyTable isPresent framesIn anyTableHead isHeld framesOf starred.formatted range upTo keep perform granted leaves clears refusals badImage refusal geometryOf formatStores openScript roomScript claimScript fillScript apply segmented stores first marked isSet withBit byte withByte field withField bit slotOf emptySlot filled freeRun isFreeRun mark headAt stateOf wordsOf withHead anyHead pathFrom path wellFormed formed sizeAllowed clearSpot clearAt firstSpot roomOn find lookup foundAt matches fingerprint folded tableEntry ruleFor ruleOf children subtree tree allTrees filledSlots walkable inPlace isSound heldPlaces distinct hasKey every recoverStores flatMap
+unfolding allClaimed run tableAfter reply tableRefusals tableWork emptyTable isPresent framesIn anyTableHead isHeld framesOf starred.formatted range upTo keep perform granted leaves clears refusals badImage refusal geometryOf formatStores openScript roomScript claimScript fillScript apply segmented stores first marked isSet withBit byte withByte field withField bit slotOf emptySlot filled freeRun isFreeRun mark headAt stateOf wordsOf withHead anyHead pathFrom path wellFormed formed sizeAllowed clearSpot clearAt firstSpot roomOn find lookup foundAt matches fingerprint folded tableEntry ruleFor hasOwn ruleOf badOwn isGiven badGiven children subtree tree allTrees filledSlots walkable inPlace isSound heldPlaces distinct hasKey every recoverStores flatMap
 computed = record {
   table = refl;
   no-fifth = refl;
@@ -110,7 +111,7 @@ unfolding allClaimed
 four-follows = subst (Follows allClaimed) (computed .table) (run-follows claimsOfAll (omega arith) (format-follows 4 4 (format-answers .1)))
 
 pub other-geometry : OtherGeometry
-unfolding starred.formatted perform refusals badImage refusal granted leaves clears apply stores segmented formatStores range upTo geometryOf reply tableRefusals tableWork emptyTable
+unfolding starred.formatted perform refusals badImage refusal badGiven isGiven granted leaves clears apply stores segmented formatStores range upTo geometryOf reply tableRefusals tableWork emptyTable
 other-geometry = record { history = format-follows 41 1 (format-answers .0); answered = refl; table = refl }
 
 -- ---- a frame that a commit brings, before and after

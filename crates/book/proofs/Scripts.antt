@@ -1,5 +1,5 @@
 -- Scripts, over any state: bounded, inside the image, ending in a barrier, and carried out as words.
-use mathlib.Core.Path.{_≡_, refl, sym}
+use mathlib.Core.Path.{_≡_, refl, sym, _∙_}
 use mathlib.Core.Logic.{_⊎_, inl, inr, _≢_}
 use mathlib.Core.List.{List, [], List·Memᴰ·not-nil}
 use Prim.Native.Nat.{ℕ, _-_, _^_, _<_}
@@ -15,7 +15,7 @@ use Rattle.book.specs.State.{State, Operation, format, recover, openReel
 use Rattle.book.specs.Checks.{refusals}
 use Rattle.book.specs.CarryOut.{carry, carried}
 use Rattle.tree.specs.Recovery.{recoverStores}
-use Rattle.book.specs.Perform.{formatStores, granted, perform}
+use Rattle.book.specs.Perform.{formatStores, givenStores, granted, perform}
 use Rattle.book.specs.Demands.{WritesImage, by-format, by-recover, GoodScript, Scripts}
 use Rattle.tree.proofs.Memory.{script-laws, apply-laws, segment-laws, ends-in-barrier, length-segmented}
 use Rattle.book.proofs.Refusals.{Denies, denied, passes, first-passed}
@@ -23,7 +23,7 @@ use Rattle.book.proofs.Performed.{answer-is, work-granted, work-refused
 use Rattle.book.proofs.Done.{refused-image}
 use Rattle.book.proofs.Stored.{same-geometry}
 use Rattle.book.proofs.Mended.{kept}
-use Rattle.book.proofs.Formatted.{header-stored, geometry-is, blank, written}
+use Rattle.book.proofs.Formatted.{blank, made-geometry}
 use Rattle.book.proofs.Recovery.{mendedImage, mended-words}
 use Rattle.book.proofs.Entries.{each-entry}
 use Rattle.book.proofs.Inside.{sized, find-inside, path-room, run-inside, target-fits}
@@ -38,7 +38,7 @@ record Answered (s : State) (w : Work) : Type 0 where
 -- an answered operation stores by its script alone, or writes the image itself and has no script
 writes-one-way : (op : Operation) (s : State) → (WritesImage op × (granted op s .script ≡ [])) ⊎ (granted op s .after .image ≡ s .image)
 unfolding granted
-writes-one-way (format words slots nodes) s = inl (by-format, refl)
+writes-one-way (format words table slots nodes) s = inl (by-format, refl)
 writes-one-way (recover words) s = inl (by-recover, refl)
 writes-one-way (openReel words script reel) s = inr refl
 writes-one-way (claim words script h reel f) s = inr refl
@@ -48,12 +48,6 @@ writes-one-way (abandon script h) s = inr refl
 writes-one-way (remove script reel f) s = inr refl
 writes-one-way (query q) s = inr refl
 writes-one-way (retire words scratch script reel) s = inr refl
-
--- Format: words 1 and 2 are R and N
-formatted : (im : List ℕ) (g : Geometry) → 2 < length im → geometryOf (reads (blank g im)) ≡ g
-formatted im g l =
-    let h = header-stored g in
-    geometry-is (reads (blank g im)) (written g im slotsAt (g .slots) (omega arith) (h .1)) (written g im nodesAt (g .nodes) (omega arith) (h .2))
 
 -- Recover stores to locate words alone
 recovered : (im : List ℕ) (g : Geometry) → geometryOf (reads (mendedImage g im)) ≡ geometryOf (reads im)
@@ -65,14 +59,14 @@ recovered im g =
 
 answered : (op : Operation) (s : State) → Fit (s .image) → Fit (s .heads) → Fit (arguments op) → refusal (refusals op s) ≡ 0 → Answered s (granted op s)
 unfolding refusals granted
-answered (format words slots nodes) s a b c h =
+answered (format words table slots nodes) s a b c h =
     let p = passes _ (omega arith) h in
     let g' : Geometry = record { slots = slots; nodes = nodes } in
-    let n = apply-laws .length-apply (s .image) (stores (formatStores g')) in
+    let n = apply-laws .length-apply (blank g' (s .image)) (stores (givenStores table)) ∙ apply-laws .length-apply (s .image) (stores (formatStores g')) in
     record {
       script = no-stores _;
       words = n;
-      header = rw (n, formatted (s .image) g' (omega (arith, sized _ _ (p .0) .length))) (p .0);
+      header = rw (n, made-geometry table g' (s .image) (omega (arith, sized _ _ (p .0) .length))) (p .0);
     }
 answered (recover words) s a b c h =
     let p = passes _ (omega arith) h in
@@ -81,11 +75,11 @@ answered (recover words) s a b c h =
     record { script = no-stores _; words = n; header = rw (n, recovered (s .image) g) (p .0) }
 answered (openReel words script reel) s a b c h =
     let p = passes _ (omega arith) h in
-    record { script = good-open (sized _ _ (p .0)) _ _ reel (p .1 .1 .1 .1 .0) (p .1 .1 .1 .1 .1 .0) (c 0); words = refl; header = p .0 }
+    record { script = good-open (sized _ _ (p .0)) _ _ reel (p .1 .1 .1 .1 .1 .0) (p .1 .1 .1 .1 .1 .1 .0) (c 0); words = refl; header = p .0 }
 answered (claim words script h reel f) s a b c e =
     let m = reads (s .image) in
     let p = passes _ (omega arith) e in
-    let room = p .1 .1 .1 .1 .1 .1 in
+    let room = p .1 .1 .1 .1 .1 .1 .1 in
     record {
       script = good-claim (sized _ _ (p .0)) m a _ _ f (path-room _ m _ f (room .0 .0)) (room .0 .1) (run-inside _ (reads (s .pool)) _ (room .1 .1 .1 .0));
       words = refl;
@@ -93,26 +87,26 @@ answered (claim words script h reel f) s a b c e =
     }
 answered (fill script h) s a b c e =
     let p = passes _ (omega arith) e in
-    let in-pool = p .1 .1 .1 .1 .1 .0 in
+    let in-pool = p .1 .1 .1 .1 .1 .1 .0 in
     let good = good-fill (sized _ _ (p .0)) (reads (s .image)) a _ (in-pool .0) (in-pool .1) (target-fits (s .heads) h b) in
     record { script = good; words = refl; header = p .0 }
 answered (commit script h) s a b c e =
     let p = passes _ (omega arith) e in
-    let in-pool = p .1 .1 .1 .1 .1 .0 in
+    let in-pool = p .1 .1 .1 .1 .1 .1 .0 in
     record { script = good-commit (sized _ _ (p .0)) (reads (s .image)) a _ _ (in-pool .0) (in-pool .1); words = refl; header = p .0 }
 answered (abandon script h) s a b c e =
     let p = passes _ (omega arith) e in
-    let in-pool = p .1 .1 .1 .1 .1 .0 in
+    let in-pool = p .1 .1 .1 .1 .1 .1 .0 in
     record { script = good-abandon (sized _ _ (p .0)) (reads (s .image)) a _ _ (in-pool .0) (in-pool .1); words = refl; header = p .0 }
 answered (remove script reel f) s a b c h =
     let p = passes _ (omega arith) h in
     let m = reads (s .image) in
-    let good = good-remove (sized _ _ (p .0)) m a _ (find-inside _ m (ruleOf m) _ f (p .1 .1 .1 .1 .1 .1 .0)) in
+    let good = good-remove (sized _ _ (p .0)) m a _ (find-inside _ m (ruleOf m) _ f (p .1 .1 .1 .1 .1 .1 .1 .0)) in
     record { script = good; words = refl; header = p .0 }
 answered (query q) s a b c h = record { script = no-stores _; words = refl; header = first-passed _ _ (omega arith) h }
 answered (retire words scratch script reel) s a b c h =
     let p = passes _ (omega arith) h in
-    record { script = good-retire (sized _ _ (p .0)) _ (p .1 .1 .1 .0); words = refl; header = p .0 }
+    record { script = good-retire (sized _ _ (p .0)) _ (p .1 .1 .1 .1 .0); words = refl; header = p .0 }
 
 -- ---- any operation
 

@@ -1,5 +1,6 @@
 -- What an image shows, by lists and by membership: the two forms agree.
 use mathlib.Core.Path.{_≡_, refl, sym, _∙_, ap}
+use mathlib.Core.Bool.{Bool}
 use mathlib.Core.Logic.{_↔_}
 use mathlib.Core.List.{List, [], _∷_, map, List·Memᴰ, Memᴰ·map, Memᴰ·of-map, Memᴰ·cast}
 use Prim.Native.Nat.{ℕ}
@@ -45,9 +46,9 @@ module _ (g : Geometry) (m : Memory) where
 
 -- ---- the two forms
 
-pub shows-view : {im : List ℕ} {t : Table} → Shows im t → View (geometryOf (reads im)) im (t .reels)
+pub shows-view : {im : List ℕ} {t : Table} → Shows im t → View (geometryOf (reads im)) (t .own) im (t .reels)
 shows-view {im} {t} a = let m = reads im in let g = geometryOf m in record {
-  header = record { fits = a .fits; edition = a .edition; geometry = refl; in-range = a .in-range; words = a .words };
+  header = record { fits = a .fits; edition = a .edition; geometry = refl; in-range = a .in-range; words = a .words; own = a .own; good-table = a .good-table };
   sound = a .sound;
   once = record {
     numbers = distinct-of-map (λ r. r .number) (t .reels) (a .reels .once-too);
@@ -67,10 +68,10 @@ shows-view {im} {t} a = let m = reads im in let g = geometryOf m in record {
 }
 
 -- the view of an image is that by its own geometry
-own-geometry : {g : Geometry} {im : List ℕ} {rs : List Reel} → View g im rs → View (geometryOf (reads im)) im rs
+own-geometry : {g : Geometry} {o : Bool} {im : List ℕ} {rs : List Reel} → View g o im rs → View (geometryOf (reads im)) o im rs
 own-geometry v = rw (v .header .geometry) v
 
-shown : {im : List ℕ} {t : Table} → View (geometryOf (reads im)) im (t .reels) → geometryOf (reads im) .slots ≡ t .slots
+shown : {im : List ℕ} {t : Table} → View (geometryOf (reads im)) (t .own) im (t .reels) → geometryOf (reads im) .slots ≡ t .slots
     → geometryOf (reads im) .nodes ≡ t .nodes → Shows im t
 shown {im} {t} v p q = let m = reads im in let g = geometryOf m in record {
   fits = v .header .fits;
@@ -79,6 +80,8 @@ shown {im} {t} v p q = let m = reads im in let g = geometryOf m in record {
   words = v .header .words;
   slots = p;
   nodes = q;
+  own = v .header .own;
+  good-table = v .header .good-table;
   sound = v .sound;
   reels = record {
     once = present-once g m (v .sound);
@@ -97,5 +100,5 @@ shown {im} {t} v p q = let m = reads im in let g = geometryOf m in record {
       };
 }
 
-pub view-shows : {g : Geometry} {im : List ℕ} {t : Table} → View g im (t .reels) → g .slots ≡ t .slots → g .nodes ≡ t .nodes → Shows im t
+pub view-shows : {g : Geometry} {im : List ℕ} {t : Table} → View g (t .own) im (t .reels) → g .slots ≡ t .slots → g .nodes ≡ t .nodes → Shows im t
 view-shows v p q = shown (own-geometry v) (ap (λ g. g .slots) (v .header .geometry) ∙ p) (ap (λ g. g .nodes) (v .header .geometry) ∙ q)

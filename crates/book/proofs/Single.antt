@@ -41,15 +41,15 @@ left-itself v = record { shows = inl v; keeps = keeps-itself (shows-view v) }
 
 -- an image by its view: of the table before, and of the one after
 module _ {ws im im' : List ℕ} {t : Table} (v : Shows im t) where
-  pub left-old : {t' : Table} → View (geometryOf (reads im)) im' (t .reels) → Keeping ws (geometryOf (reads im)) (reads im) (reads im')
+  pub left-old : {t' : Table} → View (geometryOf (reads im)) (t .own) im' (t .reels) → Keeping ws (geometryOf (reads im)) (reads im) (reads im')
       → Left ws im t t' im'
   left-old w k = record { shows = inl (view-shows w (v .slots) (v .nodes)); keeps = keeps-of (shows-view v) (w .header) k }
 
-  pub left-new : {t' : Table} → View (geometryOf (reads im)) im' (t' .reels) → t .slots ≡ t' .slots → t .nodes ≡ t' .nodes
+  pub left-new : {t' : Table} → View (geometryOf (reads im)) (t' .own) im' (t' .reels) → t .slots ≡ t' .slots → t .nodes ≡ t' .nodes
       → Keeping ws (geometryOf (reads im)) (reads im) (reads im') → Left ws im t t' im'
   left-new w p q k = record { shows = inr (view-shows w (v .slots ∙ p) (v .nodes ∙ q)); keeps = keeps-of (shows-view v) (w .header) k }
 
-pub agrees-new : {im : List ℕ} {s' : State} {t t' : Table} → Shows im t → View (geometryOf (reads im)) (s' .image) (t' .reels)
+pub agrees-new : {im : List ℕ} {s' : State} {t t' : Table} → Shows im t → View (geometryOf (reads im)) (t' .own) (s' .image) (t' .reels)
     → t .slots ≡ t' .slots → t .nodes ≡ t' .nodes → AgreesBy (geometryOf (reads im)) s' t' → Agrees s' t'
 agrees-new v w p q a = agrees-of (w .header .geometry) (view-shows w (v .slots ∙ p) (v .nodes ∙ q)) a
 

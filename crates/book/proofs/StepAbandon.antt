@@ -1,6 +1,6 @@
 -- The step of Abandon: the locate bit goes, and the head is idle.
 use mathlib.Core.Path.{_≡_, refl, sym, _∙_, ap}
-use mathlib.Core.Bool.{false}
+use mathlib.Core.Bool.{Bool, false}
 use mathlib.Core.List.{List, [], _∷_}
 use Prim.Native.Nat.{ℕ, _<_}
 use native.Mathlib.Omega.{arith}
@@ -43,7 +43,7 @@ module _ (script h : ℕ) (s : State) where
   unfolding refusals
   abandon-passes e =
       let p = passes (refusals (abandon script h) s) (omega arith) (sym (answer-is (abandon script h) s) ∙ e) in
-      (p .1 .1 .1 .0, p .1 .1 .1 .1 .0)
+      (p .1 .1 .1 .1 .0, p .1 .1 .1 .1 .1 .0)
 
   abandon-granted : granted (abandon script h) s ≡ writing (single (clearing (geometryOf (reads (s .image))) (reads (s .image)) (targetOf (headAt (s .heads) h))))
       (record { image = s .image; pool = s .pool; heads = withHead (s .heads) h heads.Idle })
@@ -56,14 +56,14 @@ abandon-table script h t = refl
 
 -- ---- the image after it
 
-module _ {g : Geometry} {im : List ℕ} {rs : List Reel} {x : Target} {reel f : ℕ} (v : View g im rs) (c : Claims g (reads im) x reel f) where
+module _ {g : Geometry} {o : Bool} {im : List ℕ} {rs : List Reel} {x : Target} {reel f : ℕ} (v : View g o im rs) (c : Claims g (reads im) x reel f) where
   abbrev cleared : List ℕ
   cleared = setAll im (clearing g (reads im) x)
 
   stored : Stores (reads im) (locateAt g (x .node)) (withoutBit (reads im (locateAt g (x .node))) (x .place)) (reads cleared)
   stored = stores-set im _ _ (node-inside (x .node) 1 (v .header) (claim-formed (v .sound) c .inside) (omega arith))
 
-  view : View g cleared rs
+  view : View g o cleared rs
   view = view-locate v (c .on-path) _ (bit-laws .without-fits _ _ _ (claim-formed (v .sound) c .locate))
 
   place : OnePlace g (reads im) (reads cleared) (x .node) (x .place)

@@ -49,7 +49,7 @@ way-more d f = refl
 
 -- ---- the book with the group made and linked
 
-module _ {s : State} {t : Table} {slot f d start : ℕ} {im2 : List ℕ} (a : Agrees s t) (still : Still (sizesOf (s .image)) (t .reels) (s .image) im2)
+module _ {s : State} {t : Table} {slot f d start : ℕ} {im2 : List ℕ} (a : Agrees s t) (still : Still (sizesOf (s .image)) (t .own) (t .reels) (s .image) im2)
     (b : Branches (sizesOf (s .image)) (reads (s .image)) (reads im2) slot f d start)
     (run : UnreachedRun (sizesOf (s .image)) (reads (s .image)) (fanout d) start) where
   abbrev g : Geometry
@@ -143,13 +143,13 @@ module _ {s : State} {t : Table} {h reel f slot d start : ℕ} (a : Asked s t h 
   abbrev last : List ℕ
   last = set linked (locateAt shape node) (withBit 0 0)
 
-  old-view : View shape (s .image) (t .reels)
+  old-view : View shape (t .own) (s .image) (t .reels)
   old-view = shows-view (a .agrees .shows)
 
   low : child d f < fanout d
   low = child-laws .below d f deep
 
-  still-linked : Still shape (t .reels) (s .image) linked
+  still-linked : Still shape (t .own) (t .reels) (s .image) linked
   still-linked = still2 old-view x deep run
 
   group-there : Branches shape (reads (s .image)) (reads linked) slot f d start
@@ -191,11 +191,11 @@ module _ {s : State} {t : Table} {h reel f slot d start : ℕ} (a : Asked s t h 
       (λ q. o (inr (record { child = child d f; low = low; from = omega arith; to = omega arith }))))
       ∙ beside-linked old-view x deep run i o
 
-  pub through-branched : Through (Still shape (t .reels) (s .image)) (s .image)
+  pub through-branched : Through (Still shape (t .own) (t .reels) (s .image)) (s .image)
       (newNodes shape (suc d) 64 (group start d) ∷ map (λ z. z ∷ []) ((nextAt shape (x .last), start + 1) ∷ (locateAt shape node, withBit 0 0) ∷ []))
   through-branched = (
     λ im' y. still-made old-view x deep run y,
-    through-each (Still shape (t .reels) (s .image)) (madeImage shape (s .image) d start)
+    through-each (Still shape (t .own) (t .reels) (s .image)) (madeImage shape (s .image) d start)
         ((nextAt shape (x .last), start + 1) ∷ (locateAt shape node, withBit 0 0) ∷ []) (still1 old-view x deep run)
         (still-linked, (still-on still-linked (rw locate-new at (placed-there .still)), tt)),
   )

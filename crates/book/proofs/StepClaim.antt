@@ -77,7 +77,7 @@ record Tests (s : State) (h reel f : ℕ) : Type 0 where
 tests-passed : (s : State) (words script h reel f : ℕ) → perform (claim words script h reel f) s .answer ≡ 0 → Tests s h reel f
 unfolding refusals
 tests-passed s words script h reel f e =
-    let p = passes (refusals (claim words script h reel f) s) (omega arith) (sym (answer-is (claim words script h reel f) s) ∙ e) .1 .1 .1 in
+    let p = passes (refusals (claim words script h reel f) s) (omega arith) (sym (answer-is (claim words script h reel f) s) ∙ e) .1 .1 .1 .1 in
     record {
       low = p .0;
       idle = tests.not-false _ (p .1 .0);
@@ -136,7 +136,7 @@ workOf s h f slot r start = writing (claimScript (sizesOf (s .image)) (reads (s 
 
 pub record ClaimStep (s : State) (t : Table) (h reel f slot : ℕ) (r : Room) (start : ℕ) : Type 0 where
   pub final : Agrees (carriedOut (workOf s h f slot r start)) (withTableHead t h (claimed reel f))
-  pub through : Through (Still (sizesOf (s .image)) (t .reels) (s .image)) (s .image) (claimScript (sizesOf (s .image)) (reads (s .image)) r start f)
+  pub through : Through (Still (sizesOf (s .image)) (t .own) (t .reels) (s .image)) (s .image) (claimScript (sizesOf (s .image)) (reads (s .image)) r start f)
   pub takes : Takes (sizesOf (s .image)) (reads (s .image)) (reads (carriedOut (workOf s h f slot r start) .image)) slot f
       (placeIn r start f .node) (placeIn r start f .place)
   pub nodes : Nodes (s .image) (claimScript (sizesOf (s .image)) (reads (s .image)) r start f) (λ im'. ClaimGrows (s .image) im' slot f)
@@ -148,11 +148,11 @@ module _ {s : State} {t : Table} {h reel f slot : ℕ} (a : Asked s t h reel f s
   abbrev m : Memory
   m = reads (s .image)
 
-  start-view : Still g (t .reels) (s .image) (s .image)
+  start-view : Still g (t .own) (t .reels) (s .image) (s .image)
   start-view = still-self (shows-view (a .agrees .shows))
 
-  each : (zs : List Store) → AfterEach (Still g (t .reels) (s .image)) (s .image) zs → Through (Still g (t .reels) (s .image)) (s .image) (single zs)
-  each zs b = through-each (Still g (t .reels) (s .image)) (s .image) zs start-view b
+  each : (zs : List Store) → AfterEach (Still g (t .own) (t .reels) (s .image)) (s .image) zs → Through (Still g (t .own) (t .reels) (s .image)) (s .image) (single zs)
+  each zs b = through-each (Still g (t .own) (t .reels) (s .image)) (s .image) zs start-view b
 
   -- a node of the reel's tree with no head of its slot has none at all
   none-at : {n : ℕ} {w : List ℕ} → Reaches g m slot w n
@@ -228,9 +228,9 @@ module _ {s : State} {t : Table} (a : Agrees s t) (words script h reel f : ℕ) 
 
   -- whatever a crash leaves shows and holds what was there before
   crashed : (k : ℕ) (im' : List ℕ) → CrashImage (s .image) (segmented (granted (claim words script h reel f) s .script)) k im'
-      → Still (sizesOf (s .image)) (t .reels) (s .image) im'
+      → Still (sizesOf (s .image)) (t .own) (t .reels) (s .image) im'
   crashed k im' c =
-      falls-through (Still (sizesOf (s .image)) (t .reels) (s .image)) (crash-laws .falls-in (s .image) _ k im' c) (rw work-is (claim-step .through))
+      falls-through (Still (sizesOf (s .image)) (t .own) (t .reels) (s .image)) (crash-laws .falls-in (s .image) _ k im' c) (rw work-is (claim-step .through))
 
   step : Step (claim words script h reel f) s t
   step = record {

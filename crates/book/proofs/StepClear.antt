@@ -28,7 +28,7 @@ use Rattle.book.specs.Table.{Table, claimed, withTableHead}
 use Rattle.book.specs.Agrees.{Reached, Claims, Agrees}
 use Rattle.book.specs.Ways.{Beside}
 use Rattle.book.proofs.View.{View}
-use Rattle.book.proofs.Stored.{stores-set, same-rule}
+use Rattle.book.proofs.Stored.{same-rule, stores-set}
 use Rattle.book.proofs.Sames.{node-formed, reached-inside, view-locate}
 use Rattle.book.proofs.Showing.{shows-view, view-shows}
 use Rattle.book.proofs.Reading.{sizesOf, claim-inside}
@@ -56,7 +56,7 @@ module _ {s : State} {t : Table} {h reel f slot n p : ℕ} (d : ℕ) (a : Asked 
   abbrev m' : Memory
   m' = reads im'
 
-  old-view : View g (s .image) (t .reels)
+  old-view : View g (t .own) (s .image) (t .reels)
   old-view = shows-view (a .agrees .shows)
 
   formed : WellFormed g m (length (wayOf d f)) n
@@ -71,7 +71,7 @@ module _ {s : State} {t : Table} {h reel f slot n p : ℕ} (d : ℕ) (a : Asked 
   same : Same g m m'
   same = same-word n 1 stored refl (omega arith) (omega arith) (omega arith)
 
-  pub still-clear : Still g (t .reels) (s .image) im'
+  pub still-clear : Still g (t .own) (t .reels) (s .image) im'
   still-clear = record {
     view = view-locate old-view x new (bit-laws .with-fits (m (locateAt g n)) p (m (sizeAt g n)) low (formed .locate));
     within = within-same same;
@@ -145,7 +145,7 @@ module _ {s : State} {t : Table} {h reel f slot n p : ℕ} (d : ℕ) (a : Asked 
 
 -- the same in a given geometry: the bit of a clear place on a frame's path is put on
 pub record Placed (g : Geometry) (s : State) (t : Table) (h reel f slot n p : ℕ) : Type 0 where
-  pub still : Still g (t .reels) (s .image) (set (s .image) (locateAt g n) (withBit (reads (s .image) (locateAt g n)) p))
+  pub still : Still g (t .own) (t .reels) (s .image) (set (s .image) (locateAt g n) (withBit (reads (s .image) (locateAt g n)) p))
   pub ways : {i : ℕ} {w : List ℕ} {k : ℕ} → Reaches g (reads (s .image)) i w k
       → Reaches g (reads (set (s .image) (locateAt g n) (withBit (reads (s .image) (locateAt g n)) p))) i w k
   pub agrees : Agrees (record {

@@ -1,6 +1,6 @@
 -- The step of Commit: the set bit is put on, the frame joins its reel, and the head is idle.
 use mathlib.Core.Path.{_≡_, refl, sym, _∙_, ap}
-use mathlib.Core.Bool.{true}
+use mathlib.Core.Bool.{Bool, true}
 use mathlib.Core.Logic.{inl, inr}
 use mathlib.Core.List.{List, [], _∷_}
 use Prim.Native.Nat.{ℕ, _<_}
@@ -53,7 +53,7 @@ module _ (script h : ℕ) (s : State) where
   unfolding refusals
   commit-passes e =
       let p = passes (refusals (commit script h) s) (omega arith) (sym (answer-is (commit script h) s) ∙ e) in
-      (p .1 .1 .1 .0, not-false _ (p .1 .1 .1 .1 .0))
+      (p .1 .1 .1 .1 .0, not-false _ (p .1 .1 .1 .1 .1 .0))
 
   commit-granted : granted (commit script h) s ≡ writing (single (setting (geometryOf (reads (s .image))) (reads (s .image)) (targetOf (headAt (s .heads) h))))
       (record { image = s .image; pool = s .pool; heads = withHead (s .heads) h heads.Idle })
@@ -80,7 +80,7 @@ filling (both-filled c w) h = record { about = by-fill; claim = c; written = w }
 
 -- ---- the image after it
 
-module _ {g : Geometry} {im : List ℕ} {rs : List Reel} {x : Target} {reel f : ℕ} (v : View g im rs) (c : Claims g (reads im) x reel f)
+module _ {g : Geometry} {o : Bool} {im : List ℕ} {rs : List Reel} {x : Target} {reel f : ℕ} (v : View g o im rs) (c : Claims g (reads im) x reel f)
     (written : Written g (reads im) x f) where
   abbrev word : ℕ
   word = withBit (reads im (setAt g (x .node))) (x .place)
@@ -112,7 +112,7 @@ module _ {g : Geometry} {im : List ℕ} {rs : List Reel} {x : Target} {reel f : 
   change : Committed (ruleOf (reads im)) g (reads im) (reads held-now) (x .slot) (wayOf (c .depth) f) (x .node) (x .place) f
   change = change-laws (reads held-now) (v .sound) .committed commits stored
 
-  view : View g held-now (changeFrames reel (joined f) rs)
+  view : View g o held-now (changeFrames reel (joined f) rs)
   view = rw (c .of-reel) at
       (view-committed v (header-set _ word (v .header) (omega arith) inside (bit-laws .with-fits _ _ 64 (claim-low (v .sound) c) (v .header .fits _))) commits stored)
 

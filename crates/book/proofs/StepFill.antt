@@ -1,6 +1,6 @@
 -- The step of Fill: the frame and its fingerprint are put in the head's place, and the head is filled.
 use mathlib.Core.Path.{_≡_, refl, sym, _∙_, ap, ap₂, subst}
-use mathlib.Core.Bool.{true}
+use mathlib.Core.Bool.{Bool, true}
 use mathlib.Core.List.{List, [], _∷_}
 use Prim.Native.Nat.{ℕ, _+_, _/_, _%_, _<_}
 use native.Mathlib.Omega.{arith}
@@ -52,7 +52,7 @@ module _ (script h : ℕ) (s : State) where
   unfolding refusals
   fill-passes e =
       let p = passes (refusals (fill script h) s) (omega arith) (sym (answer-is (fill script h) s) ∙ e) in
-      (p .1 .1 .1 .0, not-false _ (p .1 .1 .1 .1 .0))
+      (p .1 .1 .1 .1 .0, not-false _ (p .1 .1 .1 .1 .1 .0))
 
   fill-granted : granted (fill script h) s ≡ writing (single (filling (geometryOf (reads (s .image))) (reads (s .image)) (targetOf (headAt (s .heads) h))))
       (record { image = s .image; pool = s .pool; heads = withHead (s .heads) h (heads.Filled (targetOf (headAt (s .heads) h))) })
@@ -76,7 +76,7 @@ claiming (both-filled c w) h = absurd (true-not-false h refl)
 
 -- ---- the images after each store
 
-module _ {g : Geometry} {im : List ℕ} {rs : List Reel} {x : Target} {reel f : ℕ} (v : View g im rs) (c : Claims g (reads im) x reel f) where
+module _ {g : Geometry} {o : Bool} {im : List ℕ} {rs : List Reel} {x : Target} {reel f : ℕ} (v : View g o im rs) (c : Claims g (reads im) x reel f) where
   low : x .place < 64
   low = claim-low (v .sound) c
 
@@ -88,7 +88,7 @@ module _ {g : Geometry} {im : List ℕ} {rs : List Reel} {x : Target} {reel f : 
   framed-stores = stores-set im _ _
       (omega (arith, low, node-inside (x .node) (16 + x .place) (v .header) (claim-formed (v .sound) c .inside) (omega (arith, low))))
 
-  framed-view : View g framed rs
+  framed-view : View g o framed rs
   framed-view = view-frame v (c .on-path) (x .place) (x .frame) low (c .not-set) (rw (c .of-frame) (c .word))
 
   framed-place : OnePlace g (reads im) (reads framed) (x .node) (x .place)
@@ -108,9 +108,9 @@ module _ {g : Geometry} {im : List ℕ} {rs : List Reel} {x : Target} {reel f : 
   stored = stores-set framed _ _
       (omega (arith, low, node-inside (x .node) (8 + x .place / 8) (framed-view .header) (claim-formed (v .sound) c .inside) (omega (arith, low))))
 
-  view : View g written rs
+  view : View g o written rs
   view =
-      subst (λ w. View g (set framed (fingerprintsAt g (x .node) (x .place)) (withByte w (x .place % 8) (fingerprint (ruleOf (reads im)) (x .frame)))) rs)
+      subst (λ w. View g o (set framed (fingerprintsAt g (x .node) (x .place)) (withByte w (x .place % 8) (fingerprint (ruleOf (reads im)) (x .frame)))) rs)
       (sym same-prints)
       (view-fingerprint framed-view (reaches-on (framed-place .links) (c .on-path)) (x .place) (fingerprint (ruleOf (reads im)) (x .frame)) low
       (ap (λ w. isSet w (x .place)) (sym (framed-stores .old (setAt g (x .node)) (λ q. omega arith))) ∙ c .not-set) (fingerprint-laws .rule-fits (reads im) (x .frame)))

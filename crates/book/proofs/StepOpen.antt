@@ -60,7 +60,7 @@ module _ {s : State} {t : Table} {slot n reel : ℕ} (a : Agrees s t) (o : Openi
   abbrev first : List Store
   first = opened g slot n reel
 
-  v : View g (s .image) (t .reels)
+  v : View g (t .own) (s .image) (t .reels)
   v = shows-view (a .shows)
 
   unread : (i x : ℕ) → List·Memᴰ {A = Store} (i, x) first → Unread g m i × (x < 2 ^ 64)
@@ -72,7 +72,7 @@ module _ {s : State} {t : Table} {slot n reel : ℕ} (a : Agrees s t) (o : Openi
 
   -- torn or whole, it changes nothing that is read
   module _ {im : List ℕ} (y : Torn (s .image) first im) where
-    torn-view : View g im (t .reels)
+    torn-view : View g (t .own) im (t .reels)
     torn-view = view-torn v y unread
 
     differ : (i : ℕ) → (m i ≡ reads im i) ⊎ Unread g m i
@@ -149,7 +149,7 @@ module _ {s : State} {t : Table} {slot n reel : ℕ} (a : Agrees s t) (o : Openi
       let y = stores-set written (rootAt slot) (n + 1) root-inside in
       record { new = y .new ∙ z; old = y .old }
 
-  header : HeaderAs g written rooted
+  header : HeaderAs g (t .own) written rooted
   header =
       let l = few-nodes (v .header) in
       header-set (rootAt slot) (n + 1) (torn-view whole .header) (omega arith) root-inside (omega arith)

@@ -1,6 +1,6 @@
 -- The step of Remove: the set bit goes, and with it the frame from its reel; then the locate bit goes.
 use mathlib.Core.Path.{_≡_, refl, sym, _∙_, ap}
-use mathlib.Core.Bool.{true, false}
+use mathlib.Core.Bool.{Bool, true, false}
 use mathlib.Core.Logic.{inl, inr}
 use mathlib.Core.Option.{Option}
 use mathlib.Core.List.{List, [], _∷_}
@@ -36,7 +36,7 @@ use Rattle.book.proofs.Refusals.{passes}
 use Rattle.book.proofs.Performed.{answer-is}
 use Rattle.book.proofs.View.{View}
 use Rattle.book.proofs.Step.{Step}
-use Rattle.book.proofs.Stored.{stores-set, header-set, node-inside, same-rule}
+use Rattle.book.proofs.Stored.{same-rule, stores-set, header-set, node-inside}
 use Rattle.book.proofs.Reels.{same-reached}
 use Rattle.book.proofs.Views.{view-removed}
 use Rattle.book.proofs.Sames.{view-locate}
@@ -64,7 +64,7 @@ module _ (script reel f : ℕ) (s : State) where
   unfolding refusals
   remove-passes e =
       let p = passes (refusals (remove script reel f) s) (omega arith) (sym (answer-is (remove script reel f) s) ∙ e) in
-      (p .1 .1 .1 .0, not-false _ (p .1 .1 .1 .1 .1 .1 .0))
+      (p .1 .1 .1 .1 .0, not-false _ (p .1 .1 .1 .1 .1 .1 .1 .0))
 
   remove-granted : granted (remove script reel f) s ≡ writing (single (removing (geometryOf (reads (s .image))) (reads (s .image)) (foundSpot found)))
       (record { image = s .image; pool = s .pool; heads = s .heads })
@@ -77,7 +77,7 @@ remove-table script reel f t = refl
 
 -- ---- the images after each store
 
-module _ {g : Geometry} {im : List ℕ} {rs : List Reel} {slot f : ℕ} {w : List ℕ} (v : View g im rs) (x : Spot)
+module _ {g : Geometry} {o : Bool} {im : List ℕ} {rs : List Reel} {slot f : ℕ} {w : List ℕ} (v : View g o im rs) (x : Spot)
     (y : Holds g (reads im) slot w (x .node) (x .place) f) where
   formed : WellFormed g (reads im) (length w) (x .node)
   formed = wellFormed-facts g (reads im) (length w) (x .node) .0 (v .sound .well-formed (y .there))
@@ -106,7 +106,7 @@ module _ {g : Geometry} {im : List ℕ} {rs : List Reel} {slot f : ℕ} {w : Lis
     off = bit-laws .without-clears _ (x .place);
   }
 
-  unset-view : View g unset (changeFrames (reads im (reelAt slot)) (without f) rs)
+  unset-view : View g o unset (changeFrames (reads im (reelAt slot)) (without f) rs)
   unset-view = view-removed v
       (header-set _ _ (v .header) (omega arith) inside (bit-laws .without-fits _ (x .place) 64 (v .header .fits _))) y removes unset-stores
 
@@ -123,7 +123,7 @@ module _ {g : Geometry} {im : List ℕ} {rs : List Reel} {slot f : ℕ} {w : Lis
   stored : Stores (reads unset) (locateAt g (x .node)) (withoutBit (reads im (locateAt g (x .node))) (x .place)) (reads cleared)
   stored = stores-set unset _ _ (node-inside (x .node) 1 (unset-view .header) (formed .inside) (omega arith))
 
-  view : View g cleared (changeFrames (reads im (reelAt slot)) (without f) rs)
+  view : View g o cleared (changeFrames (reads im (reelAt slot)) (without f) rs)
   view = view-locate unset-view (reaches-on (unset-place .links) (y .there)) _
       (rw (← unset-place .sizes (x .node)) (bit-laws .without-fits _ (x .place) _ (formed .locate)))
 
@@ -142,7 +142,7 @@ module _ {g : Geometry} {im : List ℕ} {rs : List Reel} {slot f : ℕ} {w : Lis
 
 -- ---- agreement after them: no claim is of a place that was held
 
-module _ {g : Geometry} {s : State} {t : Table} {rs : List Reel} {slot f : ℕ} {w : List ℕ} (v : View g (s .image) rs) (a : AgreesBy g s t) (x : Spot)
+module _ {g : Geometry} {o : Bool} {s : State} {t : Table} {rs : List Reel} {slot f : ℕ} {w : List ℕ} (v : View g o (s .image) rs) (a : AgreesBy g s t) (x : Spot)
     (y : Holds g (reads (s .image)) slot w (x .node) (x .place) f) where
   other-place : {b : Target} {reel f' : ℕ} → Claims g (reads (s .image)) b reel f' → (b .node ≡ x .node) × (b .place ≡ x .place) → ⊥
   other-place c q = true-not-false (y .set) (rw (q .0, q .1) at (c .not-set))

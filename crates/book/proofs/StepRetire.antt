@@ -57,7 +57,7 @@ unfolding refusals
 retire-passes s words scratch script reel h =
     let op = retire words scratch script reel in
     let p = passes (refusals op s) (omega arith) (sym (answer-is op s) ∙ h) in
-    (p .1 .1 .1 .0, p .1 .1 .1 .1 .0)
+    (p .1 .1 .1 .1 .0, p .1 .1 .1 .1 .1 .0)
 
 retire-granted : (s : State) (words scratch script reel : ℕ) →
     let slot = slotOf (sizesOf (s .image)) (reads (s .image)) reel in
@@ -93,7 +93,7 @@ module _ {s : State} {t : Table} (a : Agrees s t) (slot : ℕ) (b : Filled (size
   abbrev cleared : List ℕ
   cleared = set (s .image) (rootAt slot) 0
 
-  v : View g (s .image) (t .reels)
+  v : View g (t .own) (s .image) (t .reels)
   v = shows-view (a .shows)
 
   inside : rootAt slot < length (s .image)
@@ -102,7 +102,7 @@ module _ {s : State} {t : Table} (a : Agrees s t) (slot : ℕ) (b : Filled (size
   stored : Stores m (rootAt slot) 0 (reads cleared)
   stored = stores-set (s .image) (rootAt slot) 0 inside
 
-  header : HeaderAs g (s .image) cleared
+  header : HeaderAs g (t .own) (s .image) cleared
   header = header-set (rootAt slot) 0 (v .header) (omega arith) inside (omega arith)
 
   change : Retired (ruleOf m) g m (reads cleared) slot

@@ -24,7 +24,7 @@ use Rattle.book.specs.Ways.{Beside}
 use Rattle.book.specs.Growth.{SameNodes, Doubles}
 use Rattle.book.proofs.View.{View}
 use Rattle.book.proofs.Rooms.{root-way}
-use Rattle.book.proofs.Stored.{stores-set, node-inside, same-rule}
+use Rattle.book.proofs.Stored.{same-rule, stores-set, node-inside}
 use Rattle.book.proofs.Sames.{node-formed, reached-inside, view-size}
 use Rattle.book.proofs.Showing.{shows-view}
 use Rattle.book.proofs.Crashed.{AfterEach, through-each}
@@ -56,7 +56,7 @@ module _ {s : State} {t : Table} {h reel f slot n : ℕ} (a : Asked s t h reel f
   abbrev m' : Memory
   m' = reads im'
 
-  old-view : View g (s .image) (t .reels)
+  old-view : View g (t .own) (s .image) (t .reels)
   old-view = shows-view (a .agrees .shows)
 
   formed : WellFormed g m 0 n
@@ -107,7 +107,7 @@ module _ {s : State} {t : Table} {h reel f slot n : ℕ} (a : Asked s t h reel f
       (withTableHead t h (claimed reel f))
   agrees-scaled = rw locate-same (placed-there .agrees)
 
-  pub each-scaled : AfterEach (Still g (t .reels) (s .image)) (s .image) ((sizeAt g n, 2 * size) ∷ (locateAt g n, withBit (m (locateAt g n)) size) ∷ [])
+  pub each-scaled : AfterEach (Still g (t .own) (t .reels) (s .image)) (s .image) ((sizeAt g n, 2 * size) ∷ (locateAt g n, withBit (m (locateAt g n)) size) ∷ [])
   each-scaled = (makes .still, (still-on (makes .still) (rw locate-same (placed-there .still)), tt))
 
   marked : Stores m' (locateAt g n) (withBit (m (locateAt g n)) size) (reads last)

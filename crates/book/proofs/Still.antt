@@ -1,5 +1,6 @@
 -- Images that hold only what another one holds, in the same places, and show the same reels.
 use mathlib.Core.Path.{_≡_, ap}
+use mathlib.Core.Bool.{Bool}
 use mathlib.Core.Logic.{_≢_}
 use mathlib.Core.List.{List}
 use Prim.Native.Nat.{ℕ, _+_, _*_, _%_, _≤_, _<_}
@@ -59,15 +60,15 @@ same-words h a = record {
 
 -- ---- images
 
-pub record Still (g : Geometry) (rs : List Reel) (im im' : List ℕ) : Type 0 where
-  pub view : View g im' rs
+pub record Still (g : Geometry) (o : Bool) (rs : List Reel) (im im' : List ℕ) : Type 0 where
+  pub view : View g o im' rs
   pub within : Within g (reads im) (reads im')
 
-pub still-self : {g : Geometry} {rs : List Reel} {im : List ℕ} → View g im rs → Still g rs im im
+pub still-self : {g : Geometry} {o : Bool} {rs : List Reel} {im : List ℕ} → View g o im rs → Still g o rs im im
 still-self {g} {im = im} v = record { view = v; within = within-self g (reads im) }
 
-pub still-keeps : {ws : List ℕ} {g : Geometry} {rs : List Reel} {im im' : List ℕ} → View g im rs → Still g rs im im' → Keeps ws im im'
+pub still-keeps : {ws : List ℕ} {g : Geometry} {o : Bool} {rs : List Reel} {im im' : List ℕ} → View g o im rs → Still g o rs im im' → Keeps ws im im'
 still-keeps v a = keeps-of v (a .view .header) (within-keeping (a .within))
 
-pub still-on : {g : Geometry} {rs : List Reel} {im im' im'' : List ℕ} → Still g rs im im' → Still g rs im' im'' → Still g rs im im''
+pub still-on : {g : Geometry} {o : Bool} {rs : List Reel} {im im' im'' : List ℕ} → Still g o rs im im' → Still g o rs im' im'' → Still g o rs im im''
 still-on a b = record { view = b .view; within = within-on (a .within) (b .within) }

@@ -135,7 +135,7 @@ fills script h s l e =
     let op = fill script h in
     let p = passes (refusals op s) (omega arith) (sym (answer-is op s) ∙ e) in
     let t = targetOf (headAt (s .heads) h) in
-    let q = claimed-is (headAt (s .heads) h) (not-false _ (p .1 .1 .1 .1 .0)) in
+    let q = claimed-is (headAt (s .heads) h) (not-false _ (p .1 .1 .1 .1 .1 .0)) in
     let b = fingerprint-laws .rule-fits (memory s) (t .frame) in
     let i = fingerprintsAt (shape s) (t .node) (t .place) in
     let w = work-granted op s e in
@@ -146,7 +146,7 @@ fills script h s l e =
       printed = byte-laws .with-puts (memory s i) (t .place % 8) _ b;
       kept = λ j d. byte-laws .with-keeps (memory s i) (t .place % 8) _ j b d;
       stores = ap (λ x. x .script) w;
-      head = rw w (record-filled (s .heads) h (inside s l (p .1 .1 .1 .0)) t);
+      head = rw w (record-filled (s .heads) h (inside s l (p .1 .1 .1 .1 .0)) t);
     }
 
 pub commits : (script h : ℕ) (s : State) → length (s .heads) ≡ 5 * headCount → perform (commit script h) s .answer ≡ 0 → CommitStores (commit script h) s h
@@ -158,11 +158,11 @@ commits script h s l e =
     let w = work-granted op s e in
     record {
       target = t;
-      filled = filled-is (headAt (s .heads) h) (not-false _ (p .1 .1 .1 .1 .0));
+      filled = filled-is (headAt (s .heads) h) (not-false _ (p .1 .1 .1 .1 .1 .0));
       word = withBit (memory s (setAt (shape s) (t .node))) (t .place);
       bit = bit-on _ _;
       stores = ap (λ x. x .script) w;
-      head = rw w (record-idle (s .heads) h (inside s l (p .1 .1 .1 .0)));
+      head = rw w (record-idle (s .heads) h (inside s l (p .1 .1 .1 .1 .0)));
     }
 
 pub abandons : (script h : ℕ) (s : State) → length (s .heads) ≡ 5 * headCount → perform (abandon script h) s .answer ≡ 0
@@ -175,11 +175,11 @@ abandons script h s l e =
     let w = work-granted op s e in
     record {
       target = t;
-      about = about-target (headAt (s .heads) h) (p .1 .1 .1 .1 .0);
+      about = about-target (headAt (s .heads) h) (p .1 .1 .1 .1 .1 .0);
       word = withoutBit (memory s (locateAt (shape s) (t .node))) (t .place);
       bit = bit-off _ _;
       stores = ap (λ x. x .script) w;
-      head = rw w (record-idle (s .heads) h (inside s l (p .1 .1 .1 .0)));
+      head = rw w (record-idle (s .heads) h (inside s l (p .1 .1 .1 .1 .0)));
     }
 
 -- ---- the operations on a reel
@@ -206,9 +206,9 @@ removes script reel f s e =
     let m = memory s in
     let slot = slotOf g m reel in
     let p = passes (refusals op s) (omega arith) (sym (answer-is op s) ∙ e) in
-    let reel-there = reel-slot s reel (p .1 .1 .1 .0) in
-    let path = some-path r g m slot f (not-false _ (p .1 .1 .1 .1 .1 .0)) in
-    let at = found-spot (find r g m slot f) (not-false _ (p .1 .1 .1 .1 .1 .1 .0)) in
+    let reel-there = reel-slot s reel (p .1 .1 .1 .1 .0) in
+    let path = some-path r g m slot f (not-false _ (p .1 .1 .1 .1 .1 .1 .0)) in
+    let at = found-spot (find r g m slot f) (not-false _ (p .1 .1 .1 .1 .1 .1 .1 .0)) in
     let w = work-granted op s e in
     record {
       slot = slot;
@@ -232,8 +232,8 @@ asks reel f s e =
     let m = memory s in
     let slot = slotOf g m reel in
     let p = passes (refusals op s) (omega arith) (sym (answer-is op s) ∙ e) in
-    let reel-there = reel-slot s reel (p .1 .1 .1 .0) in
-    let path = some-path r g m slot f (not-false _ (p .1 .1 .1 .1 .0)) in
+    let reel-there = reel-slot s reel (p .1 .1 .1 .1 .0) in
+    let path = some-path r g m slot f (not-false _ (p .1 .1 .1 .1 .1 .0)) in
     let open-slot = reel-there .has .open-slot in
     rw (work-granted op s e) (elim (seen (find r g m slot f)) [
       | just t q ↦ rw q (yes reel-there (first-match r f (path .0) open-slot (path .1) t (sym (path .2) ∙ q) .is))
@@ -249,7 +249,7 @@ retires words scratch script reel s e =
     let m = memory s in
     let slot = slotOf g m reel in
     let p = passes (refusals op s) (omega arith) (sym (answer-is op s) ∙ e) in
-    let reel-there = reel-slot s reel (p .1 .1 .1 .0) in
+    let reel-there = reel-slot s reel (p .1 .1 .1 .1 .0) in
     let nodes = tree-nodes (reel-there .has .open-slot) in
     let w = work-granted op s e in
     record {
@@ -298,9 +298,9 @@ claims words script h reel f s l e =
     let shape-of = shape s in
     let slot = slotOf shape-of (memory s) reel in
     let p = passes (refusals op s) (omega arith) (sym (answer-is op s) ∙ e) in
-    let reel-there = reel-slot s reel (p .1 .1 .1 .1 .1 .0) in
+    let reel-there = reel-slot s reel (p .1 .1 .1 .1 .1 .1 .0) in
     let open-slot = reel-there .has .open-slot in
-    let path = some-path (ruleOf (memory s)) shape-of (memory s) slot f (not-false _ (p .1 .1 .1 .1 .1 .1 .0 .0)) in
+    let path = some-path (ruleOf (memory s)) shape-of (memory s) slot f (not-false _ (p .1 .1 .1 .1 .1 .1 .1 .0 .0)) in
     let room = roomOn shape-of (memory s) (pathFrom shape-of (memory s) slot f) in
     let is : RoomIs shape-of (memory s) slot f room = rw (path .1) (room-is f (path .0) open-slot (path .1)) in
     let w = work-granted op s e in
@@ -310,6 +310,6 @@ claims words script h reel f s l e =
       of-reel = reel-there;
       node = place .node;
       place = place .place;
-      stores = subst (λ x. ClaimStores op s slot f x (place .node) (place .place)) (sym (ap (λ x. x .script) w)) (by-room s op slot f room is (p .1 .1 .1 .1 .1 .1 .0 .1) (p .1 .1 .1 .1 .1 .1 .1 .1 .1 .0));
-      head = rw w (record-claimed (s .heads) h (inside s l (p .1 .1 .1 .0)) (record { slot = slot; node = place .node; place = place .place; frame = f }));
+      stores = subst (λ x. ClaimStores op s slot f x (place .node) (place .place)) (sym (ap (λ x. x .script) w)) (by-room s op slot f room is (p .1 .1 .1 .1 .1 .1 .1 .0 .1) (p .1 .1 .1 .1 .1 .1 .1 .1 .1 .1 .0));
+      head = rw w (record-claimed (s .heads) h (inside s l (p .1 .1 .1 .1 .0)) (record { slot = slot; node = place .node; place = place .place; frame = f }));
     }

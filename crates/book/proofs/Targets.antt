@@ -46,20 +46,20 @@ data HeadsAfter (ws : List ℕ) : List ℕ → Type 0 where
 
 heads-after : (op : Operation) (s : State) → perform op s .answer ≡ 0 → HeadsAfter (s .heads) (granted op s .after .heads)
 unfolding granted refusals
-heads-after (format words slots nodes) s e = all-idle
+heads-after (format words bytes slots nodes) s e = all-idle
 heads-after (recover words) s e = all-idle
 heads-after (openReel words script reel) s e = left
 heads-after (claim words script h reel f) s e =
-    let p = passes (refusals (claim words script h reel f) s) (omega arith) (sym (answer-is (claim words script h reel f) s) ∙ e) .1 .1 .1 in
+    let p = passes (refusals (claim words script h reel f) s) (omega arith) (sym (answer-is (claim words script h reel f) s) ∙ e) .1 .1 .1 .1 in
     written h _ (p .0) (same-from-idle (not-false _ (p .1 .0)))
 heads-after (fill script h) s e =
-    let p = passes (refusals (fill script h) s) (omega arith) (sym (answer-is (fill script h) s) ∙ e) .1 .1 .1 in
+    let p = passes (refusals (fill script h) s) (omega arith) (sym (answer-is (fill script h) s) ∙ e) .1 .1 .1 .1 in
     written h _ (p .0) (same-filled _)
 heads-after (commit script h) s e =
-    let p = passes (refusals (commit script h) s) (omega arith) (sym (answer-is (commit script h) s) ∙ e) .1 .1 .1 in
+    let p = passes (refusals (commit script h) s) (omega arith) (sym (answer-is (commit script h) s) ∙ e) .1 .1 .1 .1 in
     written h _ (p .0) (same-to-idle _ refl)
 heads-after (abandon script h) s e =
-    let p = passes (refusals (abandon script h) s) (omega arith) (sym (answer-is (abandon script h) s) ∙ e) .1 .1 .1 in
+    let p = passes (refusals (abandon script h) s) (omega arith) (sym (answer-is (abandon script h) s) ∙ e) .1 .1 .1 .1 in
     written h _ (p .0) (same-to-idle _ refl)
 heads-after (remove script reel f) s e = left
 heads-after (query q) s e = left

@@ -1,6 +1,6 @@
 -- An image's view through the stores that change what is reached or held.
 use mathlib.Core.Path.{_≡_, refl, sym, _∙_, ap₂}
-use mathlib.Core.Bool.{true, not}
+use mathlib.Core.Bool.{Bool, true, not}
 use mathlib.Core.Logic.{inl, inr}
 use mathlib.Core.List.{List, [], _∷_}
 use Prim.Native.Nat.{ℕ, suc}
@@ -27,13 +27,13 @@ use Rattle.book.proofs.Stored.{HeaderAs}
 use Rattle.book.proofs.ReelLists.{joined-members, joined-once, without-members, without-once, once-more, once-others, once-change}
 use Rattle.book.proofs.Reels.{SameSlots, frames-to, reels-same, reels-changed, node-slots, new-number, reels-opened, reels-retired}
 
-module _ {g : Geometry} {im im' : List ℕ} {rs : List Reel} (v : View g im rs) (h : HeaderAs g im im') where
+module _ {g : Geometry} {o : Bool} {im im' : List ℕ} {rs : List Reel} (v : View g o im rs) (h : HeaderAs g o im im') where
   -- the view again, from its parts; the rule is the same
-  view-of : {rs' : List Reel} → Sound (ruleOf (reads im)) g (reads im') → OnceListed rs' → SameReels g (reads im') rs' → View g im' rs'
+  view-of : {rs' : List Reel} → Sound (ruleOf (reads im)) g (reads im') → OnceListed rs' → SameReels g (reads im') rs' → View g o im' rs'
   view-of d o e = record { header = h .header; sound = rw (← h .rule) d; once = o; same = e }
 
   pub view-same : Same g (reads im) (reads im')
-      → ((s : ℕ) (w : List ℕ) (n : ℕ) → Reaches g (reads im) s w n → wellFormed g (reads im') (length w) n ≡ true) → View g im' rs
+      → ((s : ℕ) (w : List ℕ) (n : ℕ) → Reaches g (reads im) s w n → wellFormed g (reads im') (length w) n ≡ true) → View g o im' rs
   view-same a formed =
       let l = same-laws a in
       let slots : SameSlots g (reads im) (reads im') = record { filled = (filled-on (a .links), filled-back (a .links)); reels = λ b. a .reels b } in
@@ -41,14 +41,14 @@ module _ {g : Geometry} {im im' : List ℕ} {rs : List Reel} (v : View g im rs) 
       (reels-same slots (λ s f. (frames-to (λ w n p x. l .holds .0 x), frames-to (λ w n p x. l .holds .1 x))) (v .same))
 
   pub view-linked : {s : ℕ} {w : List ℕ} {n start : ℕ} → Links g (reads im) s w n start → Stores (reads im) (nextAt g n) (suc start) (reads im')
-      → View g im' rs
+      → View g o im' rs
   view-linked {n = n} a t =
       let c = change-laws (reads im') (v .sound) .linked a t in
       view-of (c .sound) (v .once)
       (reels-same (node-slots n (omega arith) t) (λ s f. (frames-to (λ w n p x. c .holds .1 x), frames-to (λ w n p x. c .holds .0 x))) (v .same))
 
   pub view-committed : {s : ℕ} {w : List ℕ} {n p f x : ℕ} → Commits (ruleOf (reads im)) g (reads im) s w n p f x → Stores (reads im) (setAt g n) x (reads im')
-      → View g im' (changeFrames (reads im (reelAt s)) (joined f) rs)
+      → View g o im' (changeFrames (reads im (reelAt s)) (joined f) rs)
   view-committed {s} {w} {n} {p} {f} a t =
       let c = change-laws (reads im') (v .sound) .committed a t in
       let more : (s' f' : ℕ) → FrameOf g (reads im) s' f' → FrameOf g (reads im') s' f' = λ s' f'. frames-to (λ w' n' p' x. c .holds .1 (inl x)) in
@@ -67,7 +67,7 @@ module _ {g : Geometry} {im im' : List ℕ} {rs : List Reel} (v : View g im rs) 
       )) (v .same))
 
   pub view-removed : {s : ℕ} {w : List ℕ} {n p f x : ℕ} → Holds g (reads im) s w n p f → Removes g (reads im) s w n p x
-      → Stores (reads im) (setAt g n) x (reads im') → View g im' (changeFrames (reads im (reelAt s)) (without f) rs)
+      → Stores (reads im) (setAt g n) x (reads im') → View g o im' (changeFrames (reads im (reelAt s)) (without f) rs)
   view-removed {s} {w} {n} {p} {f} b a t =
       let c = change-laws (reads im') (v .sound) .removed a t in
       view-of (c .sound) (once-change (reads im (reelAt s)) (without f) (without-once f) (v .once))
@@ -91,12 +91,12 @@ module _ {g : Geometry} {im im' : List ℕ} {rs : List Reel} (v : View g im rs) 
       )) (v .same))
 
   pub view-opened : {s n : ℕ} → Opens g (reads im) s n → Stores (reads im) (rootAt s) (suc n) (reads im')
-      → View g im' (record { number = reads im (reelAt s); frames = [] } ∷ rs)
+      → View g o im' (record { number = reads im (reelAt s); frames = [] } ∷ rs)
   view-opened a t =
       view-of (change-laws (reads im') (v .sound) .opened a t .sound) (once-more (v .once) (new-number (v .same) a))
       (reels-opened (v .sound) (v .same) a t)
 
   pub view-retired : {s : ℕ} → Filled g (reads im) s → Stores (reads im) (rootAt s) 0 (reads im')
-      → View g im' (keep (λ r. not (eqb (r .number) (reads im (reelAt s)))) rs)
+      → View g o im' (keep (λ r. not (eqb (r .number) (reads im (reelAt s)))) rs)
   view-retired {s} a t =
       view-of (change-laws (reads im') (v .sound) .retired a t .sound) (once-others (reads im (reelAt s)) (v .once)) (reels-retired (v .sound) (v .same) a t)

@@ -6,12 +6,12 @@ use mathlib.Core.List.{List, map, List·Memᴰ}
 use Prim.Native.Nat.{ℕ, _*_, _^_, _<_}
 use lib.ListN.{length}
 use Rattle.tree.specs.Memory.{Memory, reads, isSet, Fit}
-use Rattle.tree.specs.Test.{Says}
+use Rattle.tree.specs.Test.{Says, holds}
 use Rattle.tree.specs.Lists.{Distinct}
 use Rattle.tree.specs.declared.layout.Geometry.{Geometry}
 use Rattle.tree.specs.Layout.{inRange, imageWords, mapWords, editionAt, geometryOf, reelAt, locateAt, sizeAt}
 use Rattle.tree.specs.Path.{wayOf}
-use Rattle.tree.specs.Fingerprint.{fingerprint, ruleOf}
+use Rattle.tree.specs.Fingerprint.{fingerprint, hasOwn, ruleOf, badOwn}
 use Rattle.tree.specs.Node.{held, frame, storedFingerprint}
 use Rattle.tree.specs.Slots.{Filled, reelsPresent}
 use Rattle.tree.specs.Reach.{Reaches, FrameOf}
@@ -41,7 +41,8 @@ pub record Reached (g : Geometry) (m : Memory) (n : ℕ) : Type 0 where
 abbrev pub IsEdition : ℕ → Type 0
 IsEdition e = (e ≡ 1) ⊎ (e ≡ 2)
 
--- an image shows a table: a sound image of its geometry, with exactly its reels and of each exactly its frames
+-- an image shows a plain table: a sound image of its geometry, with its own table for fingerprints exactly if one was given, with
+-- exactly its reels and of each exactly its frames
 pub record Shows (image : List ℕ) (t : Table) : Type 0 where
   pub fits : Fit image
   pub edition : IsEdition (reads image editionAt)
@@ -49,6 +50,8 @@ pub record Shows (image : List ℕ) (t : Table) : Type 0 where
   pub words : length image ≡ imageWords (geometryOf (reads image))
   pub slots : geometryOf (reads image) .slots ≡ t .slots
   pub nodes : geometryOf (reads image) .nodes ≡ t .nodes
+  pub own : hasOwn (reads image) ≡ t .own
+  pub good-table : holds (badOwn (reads image)) ≡ false
   pub sound : Sound (ruleOf (reads image)) (geometryOf (reads image)) (reads image)
   pub reels : EachOnce (reelsPresent (geometryOf (reads image)) (reads image)) (map (λ r. r .number) (t .reels))
   pub frames : (s : ℕ) (r : Reel) → Filled (geometryOf (reads image)) (reads image) s → List·Memᴰ r (t .reels)

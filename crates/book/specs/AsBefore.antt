@@ -27,7 +27,7 @@ module _ (s : State) (map script h reel f : ℕ) where
   abbrev pub room : Room
   room = roomOn (shape s) (memory s) (pathFrom (shape s) (memory s) slot f)
 
-  -- Claim's refusals as they were: 13 for any open claim on the reel, just after 5
+  -- Claim's refusals as they were: 13 for any open claim on the reel, just after 5 (4 for a bad table, in `checked`, is newer)
   unfoldable pub refusalsBefore : List Refusal
   refusalsBefore =
       checked (s .image) (badMap (shape s) map or badScript script)

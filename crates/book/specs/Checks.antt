@@ -8,7 +8,7 @@ use Rattle.tree.specs.Memory.{Memory, reads, isSome}
 use Rattle.tree.specs.Test.{Test, lt, le, ne, is, _and_, _or_, holds}
 use Rattle.tree.specs.declared.layout.Geometry.{Geometry}
 use Rattle.tree.specs.Layout.{badImage, badEdition, mapWords, geometryOf}
-use Rattle.tree.specs.Fingerprint.{ruleOf}
+use Rattle.tree.specs.Fingerprint.{ruleOf, badOwn, badGiven}
 use Rattle.tree.specs.Slots.{slotOf, emptySlot}
 use Rattle.tree.specs.Path.{child}
 use Rattle.tree.specs.declared.path.Spot.{Spot}
@@ -31,10 +31,14 @@ abbrev pub badScript : ℕ → Test
 badScript words = lt words 50
 
 -- 1, 2 and 3 first, for what is borrowed
-abbrev pub checked : List ℕ → Test → List Refusal → List Refusal
-checked image buffers rest =
+abbrev pub firstThree : List ℕ → Test → List Refusal → List Refusal
+firstThree image buffers rest =
     let m = reads image in
     (badImage (length image) (geometryOf m) gives 1) ∷ (badEdition m gives 2) ∷ (buffers gives 3) ∷ rest
+
+-- and just after 3, 4 for a bad table: every order but Format and Recover
+abbrev pub checked : List ℕ → Test → List Refusal → List Refusal
+checked image buffers rest = firstThree image buffers ((badOwn (reads image) gives 4) ∷ rest)
 
 -- 4 in Fill, Commit and Abandon: node or place is outside
 abbrev pub outside : Geometry → Target → Test
@@ -63,7 +67,7 @@ abbrev pub inConflict : Geometry → (map : Memory) → (heads : List ℕ) → (
 inConflict g map heads slot r f =
     is (anyHead (conflicts (targetIn slot r (freeRun g map (needs r)) f) (not (holds (noRunFor g map r)))) heads)
 
--- the orders that only read: what they borrow, and their tests after 1, 2 and 3
+-- the orders that only read: what they borrow, and their tests after those
 abbrev pub queryBuffers : Query → Geometry → Test
 queryBuffers (has reel f) g = is false
 queryBuffers (list scratch room reel) g = badMap g scratch
@@ -80,11 +84,11 @@ refusals op s =
     let g = geometryOf m in
     let head = headAt (s .heads) in
     elim op [
-      | format map slots nodes ↦
+      | format map table slots nodes ↦
           let g' : Geometry = record { slots = slots; nodes = nodes } in
-          (badImage (length (s .image)) g' gives 1) ∷ (badMap g' map gives 3) ∷ []
+          (badImage (length (s .image)) g' gives 1) ∷ (badMap g' map gives 3) ∷ (badGiven table gives 16) ∷ []
       | recover map ↦
-          checked (s .image) (badMap g map) ((is (not (isSound (ruleOf m) g m)) gives 4) ∷ [])
+          firstThree (s .image) (badMap g map) ((badOwn m or is (not (isSound (ruleOf m) g m)) gives 4) ∷ [])
       | openReel map script reel ↦
           checked (s .image) (badMap g map or badScript script)
           ((lt (slotOf g m reel) (g .slots) gives 6) ∷ (le (g .slots) (emptySlot g m) gives 7) ∷ (le (g .nodes) (freeRun g (reads (s .pool)) 1) gives 8) ∷ [])

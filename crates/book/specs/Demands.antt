@@ -10,6 +10,7 @@ use Rattle.tree.specs.Memory.{reads, Entry, barrier, encode, segmented, passed,
 use Rattle.tree.specs.Test.{Says}
 use Rattle.tree.specs.declared.layout.Geometry.{Geometry}
 use Rattle.tree.specs.Layout.{inRange, imageWords, mapWords, reelAt, geometryOf}
+use Rattle.tree.specs.Fingerprint.{GoodTable}
 use Rattle.tree.specs.Reach.{Holds}
 use Rattle.book.specs.declared.Target.{Target}
 use Rattle.book.specs.declared.HeadState.the-variants.{Claimed, Filled}
@@ -26,21 +27,21 @@ use Rattle.book.specs.Histories.{done, replied, Interrupted, Attempts, R
 
 -- ---- 1: over any state, an operation is answered or refused; a refusal hands out nothing and leaves everything
 
--- the numbers that the paper gives an operation; Due.antt says when each is due
+-- the numbers that the paper gives an operation; Due.antt says when each is due, and in which sequence
 abbrev pub queryNumbers : Query → List ℕ
-queryNumbers (has reel f) = 1 ∷ 2 ∷ 5 ∷ 4 ∷ []
-queryNumbers (list scratch room reel) = 1 ∷ 2 ∷ 3 ∷ 5 ∷ 4 ∷ 14 ∷ []
+queryNumbers (has reel f) = 1 ∷ 2 ∷ 4 ∷ 5 ∷ 4 ∷ []
+queryNumbers (list scratch room reel) = 1 ∷ 2 ∷ 3 ∷ 4 ∷ 5 ∷ 4 ∷ 14 ∷ []
 
 abbrev pub numbers : Operation → List ℕ
-numbers (format words slots nodes) = 1 ∷ 3 ∷ []
+numbers (format words table slots nodes) = 1 ∷ 3 ∷ 16 ∷ []
 numbers (recover words) = 1 ∷ 2 ∷ 3 ∷ 4 ∷ []
-numbers (openReel words script reel) = 1 ∷ 2 ∷ 3 ∷ 6 ∷ 7 ∷ 8 ∷ []
-numbers (claim words script h reel f) = 1 ∷ 2 ∷ 3 ∷ 11 ∷ 12 ∷ 5 ∷ 4 ∷ 9 ∷ 13 ∷ 8 ∷ []
-numbers (fill script h) = 1 ∷ 2 ∷ 3 ∷ 11 ∷ 12 ∷ 4 ∷ []
-numbers (commit script h) = 1 ∷ 2 ∷ 3 ∷ 11 ∷ 12 ∷ 4 ∷ []
-numbers (abandon script h) = 1 ∷ 2 ∷ 3 ∷ 11 ∷ 12 ∷ 4 ∷ []
-numbers (remove script reel f) = 1 ∷ 2 ∷ 3 ∷ 5 ∷ 13 ∷ 4 ∷ 10 ∷ []
-numbers (retire words scratch script reel) = 1 ∷ 2 ∷ 3 ∷ 5 ∷ 13 ∷ 4 ∷ []
+numbers (openReel words script reel) = 1 ∷ 2 ∷ 3 ∷ 4 ∷ 6 ∷ 7 ∷ 8 ∷ []
+numbers (claim words script h reel f) = 1 ∷ 2 ∷ 3 ∷ 4 ∷ 11 ∷ 12 ∷ 5 ∷ 4 ∷ 9 ∷ 13 ∷ 8 ∷ []
+numbers (fill script h) = 1 ∷ 2 ∷ 3 ∷ 4 ∷ 11 ∷ 12 ∷ 4 ∷ []
+numbers (commit script h) = 1 ∷ 2 ∷ 3 ∷ 4 ∷ 11 ∷ 12 ∷ 4 ∷ []
+numbers (abandon script h) = 1 ∷ 2 ∷ 3 ∷ 4 ∷ 11 ∷ 12 ∷ 4 ∷ []
+numbers (remove script reel f) = 1 ∷ 2 ∷ 3 ∷ 4 ∷ 5 ∷ 13 ∷ 4 ∷ 10 ∷ []
+numbers (retire words scratch script reel) = 1 ∷ 2 ∷ 3 ∷ 4 ∷ 5 ∷ 13 ∷ 4 ∷ []
 numbers (query q) = queryNumbers q
 
 -- a recovery refused 4 clears the map
@@ -74,7 +75,7 @@ pub record Demand1 : Type 0 where
 -- ---- 2: in every history, book and table answer alike
 
 pub data IsFormat : Operation → Type 0 where
-  is-format : {words slots nodes : ℕ} → IsFormat (format words slots nodes)
+  is-format : {words slots nodes : ℕ} {table : List ℕ} → IsFormat (format words table slots nodes)
 
 pub record Alike (op : Operation) (s : State) (t : Table) : Type 0 where
   pub answer : perform op s .answer ≡ replied op s t .answer
@@ -89,9 +90,10 @@ pub record Alike (op : Operation) (s : State) (t : Table) : Type 0 where
   pub busy : comesTo 13 (tableRefusals op nothing t) ≡ true → (perform op s .answer ≡ 13) ↔ InTheWay s op
 
 pub record Demand2 : Type 0 where
-  -- a format is answered over any memory, map and heads where numbers and lengths are right, so that histories start
-  pub starts : (g : Geometry) (s : State) → Says (inRange g) → length (s .image) ≡ imageWords g
-      → perform (format (mapWords g) (g .slots) (g .nodes)) s .answer ≡ 0
+  -- a format is answered over any memory, map and heads where numbers and lengths are right, without a table or with one in which
+  -- every byte occurs once, so that histories start
+  pub starts : (table : List ℕ) (g : Geometry) (s : State) → (table ≡ []) ⊎ GoodTable table → Says (inRange g) → length (s .image) ≡ imageWords g
+      → perform (format (mapWords g) table (g .slots) (g .nodes)) s .answer ≡ 0
   -- an image that a recovery accepts, with whatever map and heads, shows the table of the frames held there
   pub shown : (words : ℕ) (s : State) → Fit (s .image) → perform (recover words) s .answer ≡ 0
       → Shows (s .image) (tableOf (s .image))
@@ -171,7 +173,7 @@ Placed = (s : State) (t : Table) → Follows s t → Places s
 
 -- the operations that write the image themselves
 pub data WritesImage : Operation → Type 0 where
-  by-format : {words slots nodes : ℕ} → WritesImage (format words slots nodes)
+  by-format : {words slots nodes : ℕ} {table : List ℕ} → WritesImage (format words table slots nodes)
   by-recover : {words : ℕ} → WritesImage (recover words)
 
 pub record GoodScript (op : Operation) (s : State) : Type 0 where

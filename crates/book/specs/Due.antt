@@ -5,16 +5,16 @@ use mathlib.Core.Bool.{false}
 use mathlib.Core.Logic.{_⊎_, _≢_}
 use mathlib.Core.List.{List, [], _∷_, List·Memᴰ}
 use Prim.Native.Nat.{ℕ, _+_, _*_, _/_, _≤_, _<_}
-use lib.ListN.{length}
+use lib.ListN.{length, getD}
 use Rattle.tree.specs.Memory.{reads}
 use Rattle.tree.specs.Lists.{Distinct}
 use Rattle.tree.specs.declared.layout.Geometry.{Geometry}
 use Rattle.tree.specs.Layout.{editionAt, rootAt, frameAt}
 use Rattle.tree.specs.Path.{fanout}
-use Rattle.tree.specs.Fingerprint.{ruleOf}
+use Rattle.tree.specs.Fingerprint.{ruleOf, LacksByte, BadOwn}
 use Rattle.tree.specs.Node.{wellFormed, frame}
 use Rattle.tree.specs.Reach.{Reaches, Holds}
-use Rattle.tree.specs.Sound.{Sound}
+use Rattle.tree.specs.Sound.{SoundImage}
 use Rattle.tree.specs.declared.path.Spot.{Spot}
 use Rattle.tree.specs.Laws.{Malformed, FreeRun}
 use Rattle.book.specs.Heads.{headCount}
@@ -59,6 +59,14 @@ ShortScript words = words < 50
 abbrev pub header : State → List Due → List Due
 header s ds =
     (1 when (RightImage (length (s .image)) (shape s) → ⊥)) ∷ (2 when ((memory s editionAt ≢ 1) × (memory s editionAt ≢ 2))) ∷ ds
+
+-- 16: a given table is not 256 bytes long, or lacks some byte; one of length 0 is none
+abbrev pub BadGiven : (table : List ℕ) → Type 0
+BadGiven table = (0 < length table) × ((length table ≢ 256) ⊎ LacksByte (λ i. getD table i 0))
+
+-- 1, 2, 3, and just after 3 a 4 for a bad own table, before all else
+abbrev pub checked : State → (buffers : Type 0) → List Due → List Due
+checked s buffers ds = header s ((3 when buffers) ∷ (4 when BadOwn (memory s)) ∷ ds)
 
 -- ---- heads, by their words
 
@@ -168,20 +176,20 @@ module _ (s : State) where
 -- ---- the operations' sequences
 
 unfoldable pub due : Operation → State → List Due
-due (format map slots nodes) s =
+due (format map table slots nodes) s =
     let g : Geometry = record { slots = slots; nodes = nodes } in
-    (1 when (RightImage (length (s .image)) g → ⊥)) ∷ (3 when WrongMap g map) ∷ []
+    (1 when (RightImage (length (s .image)) g → ⊥)) ∷ (3 when WrongMap g map) ∷ (16 when BadGiven table) ∷ []
 due (recover map) s =
-    header s ((3 when WrongMap (shape s) map) ∷ (4 when (Sound (ruleOf (memory s)) (shape s) (memory s) → ⊥)) ∷ [])
+    header s ((3 when WrongMap (shape s) map) ∷ (4 when (SoundImage (memory s) → ⊥)) ∷ [])
 due (openReel map script reel) s =
-    header s ((3 when (WrongMap (shape s) map ⊎ ShortScript script))
-    ∷ (6 when OpenReel s reel)
+    checked s (WrongMap (shape s) map ⊎ ShortScript script)
+    ((6 when OpenReel s reel)
     ∷ (7 when NoEmptySlot s)
     ∷ (8 when NoRun s 1)
     ∷ [])
 due (claim map script h reel f) s =
-    header s ((3 when (WrongMap (shape s) map ⊎ ShortScript script))
-    ∷ (11 when (headCount ≤ h))
+    checked s (WrongMap (shape s) map ⊎ ShortScript script)
+    ((11 when (headCount ≤ h))
     ∷ (12 when (Idle s h → ⊥))
     ∷ (5 when NoReel s reel)
     ∷ (4 when OfReel s reel (NoRoom s f))
@@ -190,29 +198,29 @@ due (claim map script h reel f) s =
     ∷ (8 when OfReel s reel (NoChildren s f))
     ∷ [])
 due (fill script h) s =
-    header s ((3 when ShortScript script) ∷ (11 when (headCount ≤ h)) ∷ (12 when (stateWord s h ≢ 1)) ∷ (4 when Outside s h) ∷ [])
+    checked s (ShortScript script) ((11 when (headCount ≤ h)) ∷ (12 when (stateWord s h ≢ 1)) ∷ (4 when Outside s h) ∷ [])
 due (commit script h) s =
-    header s ((3 when ShortScript script) ∷ (11 when (headCount ≤ h)) ∷ (12 when (stateWord s h ≢ 2)) ∷ (4 when Outside s h) ∷ [])
+    checked s (ShortScript script) ((11 when (headCount ≤ h)) ∷ (12 when (stateWord s h ≢ 2)) ∷ (4 when Outside s h) ∷ [])
 due (abandon script h) s =
-    header s ((3 when ShortScript script) ∷ (11 when (headCount ≤ h)) ∷ (12 when Idle s h) ∷ (4 when Outside s h) ∷ [])
+    checked s (ShortScript script) ((11 when (headCount ≤ h)) ∷ (12 when Idle s h) ∷ (4 when Outside s h) ∷ [])
 due (remove script reel f) s =
-    header s ((3 when ShortScript script)
-    ∷ (5 when NoReel s reel)
+    checked s (ShortScript script)
+    ((5 when NoReel s reel)
     ∷ (13 when OfReel s reel (Busy s))
     ∷ (4 when OfReel s reel (BadPath s f))
     ∷ (10 when OfReel s reel (λ slot. Finds s f slot → ⊥))
     ∷ [])
 due (retire map scratch script reel) s =
-    header s ((3 when (WrongMap (shape s) map ⊎ (WrongMap (shape s) scratch ⊎ ShortScript script)))
-    ∷ (5 when NoReel s reel)
+    checked s (WrongMap (shape s) map ⊎ (WrongMap (shape s) scratch ⊎ ShortScript script))
+    ((5 when NoReel s reel)
     ∷ (13 when OfReel s reel (Busy s))
     ∷ (4 when OfReel s reel (BadTree s))
     ∷ [])
 due (query (has reel f)) s =
-    header s ((5 when NoReel s reel) ∷ (4 when OfReel s reel (BadPath s f)) ∷ [])
+    header s ((4 when BadOwn (memory s)) ∷ (5 when NoReel s reel) ∷ (4 when OfReel s reel (BadPath s f)) ∷ [])
 due (query (list scratch room reel)) s =
-    header s ((3 when WrongMap (shape s) scratch)
-    ∷ (5 when NoReel s reel)
+    checked s (WrongMap (shape s) scratch)
+    ((5 when NoReel s reel)
     ∷ (4 when OfReel s reel (BadTree s))
     ∷ (14 when OfReel s reel (MoreFrames s room))
     ∷ [])

@@ -1,17 +1,17 @@
 -- What document 01 fixes of single operations besides the demands: statements alone, over any state.
 use mathlib.Core.Path.{_≡_}
 use mathlib.Core.Bool.{true, false}
-use mathlib.Core.Logic.{_↔_, _≢_}
-use mathlib.Core.List.{[], _∷_, List·Memᴰ}
-use Prim.Native.Nat.{ℕ, _+_, _*_, _≤_, _<_}
-use lib.ListN.{length, replicate}
-use Rattle.tree.specs.Memory.{Memory}
+use mathlib.Core.Logic.{_⊎_, _↔_, _≢_}
+use mathlib.Core.List.{List, [], _∷_, List·Memᴰ}
+use Prim.Native.Nat.{ℕ, _+_, _*_, _/_, _%_, _^_, _≤_, _<_}
+use lib.ListN.{length, getD, replicate}
+use Rattle.tree.specs.Memory.{Memory, byte}
 use Rattle.tree.specs.Test.{Says}
 use Rattle.tree.specs.Lists.{Distinct}
 use Rattle.tree.specs.declared.layout.Geometry.{Geometry}
-use Rattle.tree.specs.Layout.{inRange, imageWords, mapWords, editionAt, slotsAt, nodesAt, reelAt, rootAt, nextAt, locateAt, setAt, levelAt, sizeAt}
-use Rattle.tree.specs.Fingerprint.{ruleOf}
-use Rattle.tree.specs.Sound.{Sound}
+use Rattle.tree.specs.Layout.{inRange, imageWords, mapWords, editionAt, slotsAt, nodesAt, ownAt, reelAt, rootAt, nextAt, locateAt, setAt, levelAt, sizeAt}
+use Rattle.tree.specs.Fingerprint.{GoodTable}
+use Rattle.tree.specs.Sound.{SoundImage}
 use Rattle.tree.specs.Pool.{used, mark, clearMap}
 use Rattle.book.specs.Heads.{headCount}
 use Rattle.book.specs.State.{State, format, recover, openReel, claim, fill, commit, abandon, remove, retire, query, has, memory, shape}
@@ -22,13 +22,20 @@ use Rattle.book.specs.Stores.{ClaimWrites, FillStores, CommitStores, Aba
 
 -- ---- Format
 
+-- words 3 to 63 after a format without a table, and with one
+pub data HeaderRest (m : Memory) (table : List ℕ) : Type 0 where
+  no-table : table ≡ [] → ((i : ℕ) → 3 ≤ i → i < 64 → m i ≡ 0) → HeaderRest m table
+  -- word 3 is 1; words 8 to 39 have eight entries each, lowest byte first; the others are 0
+  own-table : GoodTable table → m ownAt ≡ 1 → ((i : ℕ) → i < 256 → byte (m (8 + i / 8)) (i % 8) ≡ getD table i 0)
+      → ((j : ℕ) → j < 32 → m (8 + j) < 2 ^ 64) → ((i : ℕ) → 4 ≤ i → i < 64 → (i < 8) ⊎ (40 ≤ i) → m i ≡ 0) → HeaderRest m table
+
 -- an answered format, from a state to a state
-pub record FormatWrites (g : Geometry) (s s' : State) : Type 0 where
+pub record FormatWrites (table : List ℕ) (g : Geometry) (s s' : State) : Type 0 where
   -- words 0 to 63
   pub edition : memory s' editionAt ≡ 2
   pub slots : memory s' slotsAt ≡ g .slots
   pub nodes : memory s' nodesAt ≡ g .nodes
-  pub unread : (i : ℕ) → 3 ≤ i → i < 64 → memory s' i ≡ 0
+  pub rest : HeaderRest (memory s') table
   -- the roots
   pub roots : (k : ℕ) → k < g .slots → memory s' (rootAt k) ≡ 0
   -- and no other word
@@ -99,13 +106,13 @@ pub record OpenTakes (words script reel : ℕ) (s : State) : Type 0 where
 -- ---- all of them
 
 pub record Fixed : Type 0 where
-  pub formats : (words : ℕ) (g : Geometry) (s : State) → perform (format words (g .slots) (g .nodes)) s .answer ≡ 0
-      → FormatWrites g s (perform (format words (g .slots) (g .nodes)) s .work .after)
-  -- Recover is refused 4 exactly if the image is not sound
+  pub formats : (words : ℕ) (table : List ℕ) (g : Geometry) (s : State) → perform (format words table (g .slots) (g .nodes)) s .answer ≡ 0
+      → FormatWrites table g s (perform (format words table (g .slots) (g .nodes)) s .work .after)
+  -- Recover is refused 4 exactly if the image is not sound: one with a bad table is not
   pub unsound : (words : ℕ) (s : State) → Right words s
-      → (perform (recover words) s .answer ≡ 4) ↔ (Sound (ruleOf (memory s)) (shape s) (memory s) → ⊥)
+      → (perform (recover words) s .answer ≡ 4) ↔ (SoundImage (memory s) → ⊥)
   -- and answered where it is
-  pub sound : (words : ℕ) (s : State) → Right words s → Sound (ruleOf (memory s)) (shape s) (memory s) → perform (recover words) s .answer ≡ 0
+  pub sound : (words : ℕ) (s : State) → Right words s → SoundImage (memory s) → perform (recover words) s .answer ≡ 0
   pub recovers : (words : ℕ) (s : State) → perform (recover words) s .answer ≡ 0 → RecoverWrites s (perform (recover words) s .work .after)
   pub opens : (words script reel : ℕ) (s : State) → perform (openReel words script reel) s .answer ≡ 0 → OpenTakes words script reel s
   -- the other operations; the driver's heads are as many words as their records have

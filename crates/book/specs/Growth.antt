@@ -78,7 +78,7 @@ pub data ClaimGrows (im im' : List ℕ) (slot f : ℕ) : Type 0 where
 
 -- by the operation: nodes come with Open and with a claim that finds no clear place, and go with Format and Retire, whole reels
 abbrev pub Grows : Operation → (im im' : List ℕ) → Type 0
-Grows (format words slots nodes) im im' = (n : ℕ) → Reached (shapeIn im') (reads im') n → ⊥
+Grows (format words table slots nodes) im im' = (n : ℕ) → Reached (shapeIn im') (reads im') n → ⊥
 Grows (openReel words script reel) im im' = OpenGrows im im' reel
 Grows (claim words script h reel f) im im' = (slot : ℕ) × SlotHas (shapeIn im) (reads im) reel slot × ClaimGrows im im' slot f
 Grows (retire words scratch script reel) im im' = (slot : ℕ) × SlotHas (shapeIn im) (reads im) reel slot × Drops im im' slot

@@ -5,6 +5,7 @@ use lib.ListN.{replicate}
 use Rattle.tree.specs.Memory.{Memory, reads}
 use Rattle.tree.specs.declared.layout.Geometry.{Geometry}
 use Rattle.tree.specs.Layout.{geometryOf, reelAt}
+use Rattle.tree.specs.Fingerprint.{hasOwn}
 use Rattle.tree.specs.Slots.{filledSlots}
 use Rattle.tree.specs.Subtree.{listing}
 use Rattle.book.specs.Heads.{headCount}
@@ -23,4 +24,4 @@ unfoldable pub tableOf : List ℕ → Table
 tableOf image =
     let m = reads image in
     let g = geometryOf m in
-    record { slots = g .slots; nodes = g .nodes; reels = reelsHeld g m; heads = replicate headCount idle }
+    record { slots = g .slots; nodes = g .nodes; own = hasOwn m; reels = reelsHeld g m; heads = replicate headCount idle }

@@ -4,6 +4,7 @@ use mathlib.Core.Logic.{_⊎_, _≢_}
 use mathlib.Core.List.{List}
 use Prim.Native.Nat.{ℕ}
 use lib.ListN.{length}
+use Rattle.tree.specs.Fingerprint.{isGiven}
 use Rattle.tree.specs.Memory.{reads, segmented, apply, CrashImage, passed, Fit}
 use Rattle.book.specs.State.{State, Operation, format, recover, arguments, Work, memory}
 use Rattle.book.specs.Perform.{perform}
@@ -24,7 +25,7 @@ replied op s t = reply op (fed (perform op s .answer)) t
 
 -- operations that run on steady power: an answered format
 pub data Steady : Operation → ℕ → Type 0 where
-  answered-format : {words slots nodes : ℕ} → Steady (format words slots nodes) 0
+  answered-format : {words slots nodes : ℕ} {table : List ℕ} → Steady (format words table slots nodes) 0
 
 -- the images that power lost within an operation can leave: of its script, after k entries; of one that writes the image
 -- itself, each word old or new. Power lost between two operations is k = 0 of the next.
@@ -61,8 +62,8 @@ pub data Next (s : State) : State → Type 0 where
 -- what a history starts with: a format that is answered, over any memory, map and heads; or an image of either edition that shows a
 -- table, and a recovery that ends, after any that were refused or interrupted
 pub data Starts : State → Table → Type 0 where
-  formatted : (words slots nodes : ℕ) (s : State) → Fit (s .image) → perform (format words slots nodes) s .answer ≡ 0
-      → Starts (done (format words slots nodes) s) (emptyTable slots nodes)
+  formatted : (words : ℕ) (table : List ℕ) (slots nodes : ℕ) (s : State) → Fit (s .image) → perform (format words table slots nodes) s .answer ≡ 0
+      → Starts (done (format words table slots nodes) s) (emptyTable (isGiven table) slots nodes)
   found : {s : State} {m : List ℕ} {t : Table} → Shows m t → Recovered m s → Starts s (allIdle t)
 
 -- a history so far, by the state and the table that it has come to. At a crash the table becomes the one before, while a barrier was

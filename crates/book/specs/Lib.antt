@@ -9,6 +9,7 @@ pub mod Held
 pub mod CarryOut
 pub mod Histories
 pub mod Editions
+pub mod OwnTables
 pub mod Ways
 pub mod Demands
 pub mod Growth

@@ -6,10 +6,10 @@ use Prim.Native.Nat.{ℕ, suc, _+_, _*_, _%_}
 use lib.Dec.{eqb, ltb}
 use Rattle.tree.specs.Memory.{Memory, reads, withBit, withoutBit, withByte, Store, stores, apply, isSome}
 use Rattle.tree.specs.declared.layout.Geometry.{Geometry}
-use Rattle.tree.specs.Layout.{mapWords, reelAt, rootAt, nextAt, locateAt, setAt, levelAt, sizeAt, fingerprintsAt, frameAt, geometryOf}
+use Rattle.tree.specs.Layout.{mapWords, ownAt, tableAt, reelAt, rootAt, nextAt, locateAt, setAt, levelAt, sizeAt, fingerprintsAt, frameAt, geometryOf}
 use Rattle.tree.specs.Lists.{range, upTo}
 use Rattle.tree.specs.Path.{fanout}
-use Rattle.tree.specs.Fingerprint.{Rule, fingerprint, ruleOf}
+use Rattle.tree.specs.Fingerprint.{Rule, fingerprint, ruleOf, isGiven, packed}
 use Rattle.tree.specs.Slots.{slotOf, emptySlot}
 use Rattle.tree.specs.declared.path.Spot.{Spot}
 use Rattle.tree.specs.Lookup.{spot, pathFrom, find, freeRun}
@@ -34,6 +34,18 @@ unfoldable pub formatStores : Geometry → List Store
 formatStores g =
     (0, 2) ∷ (1, g .slots) ∷ (2, g .nodes)
     ∷ (map (λ i. (i, 0)) (range 3 61) ++ map (λ s. (rootAt s, 0)) (upTo (g .slots)))
+
+-- then a table that is given: word 3 is 1, and words 8 to 39 have it
+unfoldable pub tableStores : List ℕ → List Store
+tableStores table = (ownAt, 1) ∷ map (λ j. (tableAt + j, packed table j)) (upTo 32)
+
+-- and nothing where none is given
+abbrev pub givenStores : List ℕ → List Store
+givenStores table = cond (isGiven table) (tableStores table) []
+
+-- the image once it is formatted
+abbrev pub formatted : (table : List ℕ) → Geometry → (image : List ℕ) → List ℕ
+formatted table g image = apply (apply image (stores (formatStores g))) (stores (givenStores table))
 
 -- a node made anew: next, locate and set 0, its level, its size
 abbrev pub newNode : Geometry → (node level size : ℕ) → List Store
@@ -118,9 +130,9 @@ granted op s =
     let g = geometryOf m in
     let target : ℕ → Target = λ h. targetOf (headAt (s .heads) h) in
     elim op [
-      | format words slots nodes ↦
+      | format words table slots nodes ↦
           let g' : Geometry = record { slots = slots; nodes = nodes } in
-          leaving (record { image = apply (s .image) (stores (formatStores g')); pool = clearMap (mapWords g'); heads = idleHeads })
+          leaving (record { image = formatted table g' (s .image); pool = clearMap (mapWords g'); heads = idleHeads })
       | recover words ↦
           leaving (record {
             image = apply (s .image) (stores (recoverStores g m));
@@ -156,7 +168,7 @@ granted op s =
 -- what a refusal leaves: everything, but for the map that a recovery refused 4 clears
 unfoldable pub leaves : Operation → State → ℕ → State
 leaves (recover words) s n = cond (eqb n 4) (record { image = s .image; pool = clearMap words; heads = s .heads }) s
-leaves (format words slots nodes) s n = s
+leaves (format words table slots nodes) s n = s
 leaves (openReel words script reel) s n = s
 leaves (claim words script h reel f) s n = s
 leaves (fill script h) s n = s
@@ -178,7 +190,7 @@ borrowsScratch (list scratch room reel) = true
 unfoldable pub clears : Operation → ℕ → Bool
 clears (query q) n = borrowsScratch q && pastChecks n
 clears (retire words scratch script reel) n = pastChecks n
-clears (format words slots nodes) n = false
+clears (format words table slots nodes) n = false
 clears (recover words) n = false
 clears (openReel words script reel) n = false
 clears (claim words script h reel f) n = false
@@ -193,7 +205,7 @@ leftBy (claim words script h reel f) s =
     let m = reads (s .image) in
     let g = geometryOf m in
     placesLeft g m (roomOn g m (pathFrom g m (slotOf g m reel) f))
-leftBy (format words slots nodes) s = 0
+leftBy (format words table slots nodes) s = 0
 leftBy (recover words) s = 0
 leftBy (openReel words script reel) s = 0
 leftBy (fill script h) s = 0

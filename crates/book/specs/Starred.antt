@@ -1,15 +1,15 @@
--- The starred cases of the paper, those of two heads on a reel and of places left, in one table: what is computed beside what it should be.
+-- The starred cases of the paper, those of two heads on a reel, of places left and of own tables, in one table: what is computed beside what it should be.
 use mathlib.Core.Path.{_≡_}
 use mathlib.Core.Bool.{true}
-use mathlib.Core.List.{List, [], _∷_, _++_, flatMap}
-use Prim.Native.Nat.{ℕ, _+_, _-_, _*_, _^_}
+use mathlib.Core.List.{List, [], _∷_, _++_, map, flatMap}
+use Prim.Native.Nat.{ℕ, _+_, _-_, _*_, _%_, _^_}
 use lib.ListN.{replicate}
 use lib.Dec.{eqb}
 use Rattle.tree.specs.Memory.{reads}
 use Rattle.tree.specs.Layout.{nextAt, sizeAt}
 use Rattle.tree.specs.Lists.{upTo, every}
 use Rattle.tree.specs.Path.{child}
-use Rattle.tree.specs.Fingerprint.{fingerprint, ruleFor}
+use Rattle.tree.specs.Fingerprint.{fingerprint, ruleFor, ownRule}
 use Rattle.book.specs.declared.Target.{Target}
 use Rattle.book.specs.Heads.{headAt, targetOf}
 use Rattle.book.specs.State.{State, Operation, format, openReel, claim, fill, commit, retire, memory, shape}
@@ -24,7 +24,7 @@ run (op ∷ ops) s = run ops (done op s)
 -- a book just formatted over zeros
 unfoldable pub formatted : (slots nodes : ℕ) → State
 formatted slots nodes =
-    done (format 1 slots nodes) (record { image = replicate (64 + 2 * slots + 80 * nodes) 0; pool = []; heads = [] })
+    done (format 1 [] slots nodes) (record { image = replicate (64 + 2 * slots + 80 * nodes) 0; pool = []; heads = [] })
 
 -- a frame of a reel claimed, by head h and by head 0
 abbrev pub claimsBy : (h reel f : ℕ) → Operation
@@ -74,6 +74,10 @@ left n k = perform (claims 7 k) (withFrames n k) .places-left
 abbrev pub third : (f : ℕ) → ℕ
 third f = perform (claimsBy 2 7 f) (done (claimsBy 1 7 65) (next 3 64)) .answer
 
+-- a table in which every byte occurs once
+abbrev pub successors : List ℕ
+successors = map (λ i. (i + 1) % 256) (upTo 256)
+
 unfoldable pub starred : List (ℕ × ℕ)
 starred =
     -- level 3: frames 8, 16, 24 go to children 1, 2, 3; level 30: 2^57 to 1, 2^58 to 2
@@ -84,6 +88,11 @@ starred =
     ∷ (fingerprint (ruleFor 2) 0, 32)
     ∷ (fingerprint (ruleFor 2) 1, 225) ∷ (fingerprint (ruleFor 2) (2 ^ 32), 1) ∷ (fingerprint (ruleFor 2) (2 ^ 56), 121)
     ∷ (fingerprint (ruleFor 2) 578437695752307201, 136)
+    -- with an own table all eight bytes are folded over that: where entry i is i, it is their xor
+    ∷ (fingerprint (ownRule (upTo 256)) 578437695752307201, 8)
+    -- where entry i is i + 1, and the last 0: 0 gets 8, 1 gets 9, 2^56 gets 7, and 255 in the lowest byte 7
+    ∷ (fingerprint (ownRule successors) 0, 8) ∷ (fingerprint (ownRule successors) 1, 9)
+    ∷ (fingerprint (ownRule successors) (2 ^ 56), 7) ∷ (fingerprint (ownRule successors) 255, 7)
     -- 16th frame: place 15, size 16; 17th: size 32, place 16; 33rd: size 64, place 32
     ∷ (target (next 1 15) .place, 15) ∷ (rootSize (next 1 15), 16)
     ∷ (target (next 1 16) .place, 16) ∷ (rootSize (next 1 16), 32)

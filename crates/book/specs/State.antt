@@ -26,9 +26,10 @@ pub data Query : Type 0 where
   has : (reel frame : ℕ) → Query
   list : (scratch room : ℕ) (reel : ℕ) → Query
 
--- the paper's orders, each with the lengths of the buffers that it borrows beside image and heads, and its numbers
+-- the paper's orders, each with the lengths of the buffers that it borrows beside image and heads, and its numbers; Format with
+-- the table that it is given, byte by byte
 pub data Operation : Type 0 where
-  format : (map : ℕ) (slots nodes : ℕ) → Operation
+  format : (map : ℕ) (table : List ℕ) (slots nodes : ℕ) → Operation
   recover : (map : ℕ) → Operation
   openReel : (map script : ℕ) (reel : ℕ) → Operation
   claim : (map script : ℕ) (head reel frame : ℕ) → Operation
@@ -45,7 +46,7 @@ queryArguments (has reel frame) = reel ∷ frame ∷ []
 queryArguments (list scratch room reel) = reel ∷ []
 
 abbrev pub arguments : Operation → List ℕ
-arguments (format map slots nodes) = slots ∷ nodes ∷ []
+arguments (format map table slots nodes) = slots ∷ nodes ∷ []
 arguments (recover map) = []
 arguments (openReel map script reel) = reel ∷ []
 arguments (claim map script head reel frame) = head ∷ reel ∷ frame ∷ []

@@ -11,6 +11,7 @@ use Rattle.tree.specs.Test.{lt, le, is, _or_}
 use Rattle.tree.specs.Lists.{keep, every, hasKey}
 use Rattle.tree.specs.declared.layout.Geometry.{Geometry}
 use Rattle.tree.specs.Layout.{badImage, imageWords}
+use Rattle.tree.specs.Fingerprint.{isGiven, badGiven}
 use Rattle.book.specs.Heads.{headCount}
 use Rattle.book.specs.Refusals.{Refusal, _gives_, refusal}
 use Rattle.book.specs.State.{Operation, format, recover, openReel, claim, fill, commit, abandon, remove, retire, query, Query, has, list, Handed, nothingHanded, handing, handingFrames}
@@ -26,10 +27,11 @@ pub record Reel : Type 0 where
   pub number : ℕ
   pub frames : List ℕ
 
--- R and N, the reels, the heads
+-- R and N, whether a table was given, the reels, the heads
 pub record Table : Type 0 where
   pub slots : ℕ
   pub nodes : ℕ
+  pub own : Bool
   pub reels : List Reel
   pub heads : List TableHead
 
@@ -132,9 +134,9 @@ tableRefusals op fed t =
     let g = geometry t in
     let head = tableHead t in
     elim op [
-      | format words slots nodes ↦
+      | format words table slots nodes ↦
           let g' : Geometry = record { slots = slots; nodes = nodes } in
-          (badImage (imageWords g) g' gives 1) ∷ (badMap g' words gives 3) ∷ []
+          (badImage (imageWords g) g' gives 1) ∷ (badMap g' words gives 3) ∷ (badGiven table gives 16) ∷ []
       | recover words ↦ (badMap g words gives 3) ∷ []
       | openReel words script reel ↦
           (badMap g words or badScript script gives 3)
@@ -170,19 +172,19 @@ tableRefusals op fed t =
 
 -- ---- what it becomes
 
--- a book just formatted: no reel, heads idle
-unfoldable pub emptyTable : (slots nodes : ℕ) → Table
-emptyTable slots nodes = record { slots = slots; nodes = nodes; reels = []; heads = replicate headCount idle }
+-- a book just formatted, with a table of its own or without: no reel, heads idle
+unfoldable pub emptyTable : (own : Bool) (slots nodes : ℕ) → Table
+emptyTable own slots nodes = record { slots = slots; nodes = nodes; own = own; reels = []; heads = replicate headCount idle }
 
 abbrev pub withReels : Table → List Reel → Table
-withReels t rs = record { slots = t .slots; nodes = t .nodes; reels = rs; heads = t .heads }
+withReels t rs = record { slots = t .slots; nodes = t .nodes; own = t .own; reels = rs; heads = t .heads }
 
 abbrev pub withTableHead : Table → ℕ → TableHead → Table
-withTableHead t h x = record { slots = t .slots; nodes = t .nodes; reels = t .reels; heads = set (t .heads) h x }
+withTableHead t h x = record { slots = t .slots; nodes = t .nodes; own = t .own; reels = t .reels; heads = set (t .heads) h x }
 
 -- every head idle
 unfoldable pub allIdle : Table → Table
-allIdle t = record { slots = t .slots; nodes = t .nodes; reels = t .reels; heads = replicate headCount idle }
+allIdle t = record { slots = t .slots; nodes = t .nodes; own = t .own; reels = t .reels; heads = replicate headCount idle }
 
 -- the frames of a reel changed
 abbrev pub changeReel : ℕ → (List ℕ → List ℕ) → Reel → Reel
@@ -212,7 +214,7 @@ tableQueried (has reel f) t = handing (cond (isHeld t reel f) 1 0)
 tableQueried (list scratch room reel) t = handingFrames (framesOf t reel)
 
 unfoldable pub tableWork : Operation → Table → TableWork
-tableWork (format words slots nodes) t = becoming (emptyTable slots nodes)
+tableWork (format words table slots nodes) t = becoming (emptyTable (isGiven table) slots nodes)
 tableWork (recover words) t = becoming (allIdle t)
 tableWork (openReel words script reel) t = becoming (withReels t (record { number = reel; frames = [] } ∷ t .reels))
 tableWork (claim words script h reel f) t = becoming (withTableHead t h (claimed reel f))

@@ -1,6 +1,7 @@
 -- That the model of histories is not too small: crashes and formats that document 01 speaks of are in it. Statements alone.
 -- (That every mixture of stores kept and lost is a crash image is `possible` of the memory layer.)
 use mathlib.Core.Path.{_≡_}
+use mathlib.Core.Bool.{false}
 use mathlib.Core.Logic.{_⊎_}
 use mathlib.Core.List.{List, [], _∷_, map}
 use Prim.Native.Nat.{ℕ, _+_, _*_, _^_, _<_}
@@ -51,6 +52,7 @@ abbrev pub fourOpen : Table
 fourOpen = record {
   slots = 4;
   nodes = 4;
+  own = false;
   reels = noFrames 10 ∷ noFrames 9 ∷ noFrames 8 ∷ noFrames 7 ∷ [];
   heads = claimed 7 12 ∷ claimed 8 12 ∷ filled 9 12 ∷ filled 10 12 ∷ [];
 }
@@ -120,7 +122,7 @@ abbrev pub oldBook : State
 oldBook = done (recover 1) (heldBook 1)
 
 abbrev pub oneFrame : Table
-oneFrame = record { slots = 1; nodes = 1; reels = record { number = 7; frames = 2 ^ 32 ∷ [] } ∷ []; heads = replicate headCount idle }
+oneFrame = record { slots = 1; nodes = 1; own = false; reels = record { number = 7; frames = 2 ^ 32 ∷ [] } ∷ []; heads = replicate headCount idle }
 
 pub record OldBook : Type 0 where
   -- a recovery is answered there, and a history starts with that frame; Has says yes
@@ -132,8 +134,8 @@ pub record OldBook : Type 0 where
   pub fills-new : perform (fill 50 0) (run (openReel 1 50 7 ∷ claim 1 50 0 7 0 ∷ []) (formatted 1 1)) .work .script
       ≡ ((82, 0) ∷ []) ∷ ((74, 32) ∷ []) ∷ []
   -- a format in this history makes it one of edition 2
-  pub goes-on : Follows (done (format 1 1 1) oldBook) (emptyTable 1 1)
-  pub anew : memory (done (format 1 1 1) oldBook) editionAt ≡ 2
+  pub goes-on : Follows (done (format 1 [] 1 1) oldBook) (emptyTable false 1 1)
+  pub anew : memory (done (format 1 [] 1 1) oldBook) editionAt ≡ 2
   -- the same words as edition 2: Has is answered, and says no; a recovery is refused
   pub asked : perform (query (has 7 (2 ^ 32))) (heldBook 2) .answer ≡ 0
   pub says-no : perform (query (has 7 (2 ^ 32))) (heldBook 2) .work .handed .value ≡ 0
@@ -144,11 +146,11 @@ pub record OldBook : Type 0 where
 -- a format to another geometry of the same image length, 226 words
 pub record OtherGeometry : Type 0 where
   -- a history has come to a book of 41 slots and 1 node
-  pub history : Follows (formatted 41 1) (emptyTable 41 1)
+  pub history : Follows (formatted 41 1) (emptyTable false 41 1)
   -- there a format to 1 slot and 2 nodes is answered
-  pub answered : perform (format 1 1 2) (formatted 41 1) .answer ≡ 0
+  pub answered : perform (format 1 [] 1 2) (formatted 41 1) .answer ≡ 0
   -- and the history goes on with the table of that geometry
-  pub table : replied (format 1 1 2) (formatted 41 1) (emptyTable 41 1) .work .after ≡ emptyTable 1 2
+  pub table : replied (format 1 [] 1 2) (formatted 41 1) (emptyTable false 41 1) .work .after ≡ emptyTable false 1 2
 
 -- ---- all of them but TwoInTree, whose 64 inserts are computed in the crate `starred`
 

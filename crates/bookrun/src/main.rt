@@ -60,7 +60,7 @@ fn main() {
     let mut map = [0u64; 1];
     let mut heads = [0u64; HEAD_WORDS];
     let mut line = [0u8; 81];
-    reelbook_format(&mut image, &mut map, &mut heads, 4, 16);
+    reelbook_format(&mut image, &mut map, &mut heads, &[], 4, 16);
     let mut held = 0;
     let mut turns = u64::MAX;
     while turns > 0 {

@@ -9,6 +9,8 @@ use crate::command::OPEN;
 use crate::command::RECOVER;
 use crate::command::REMOVE;
 use crate::command::RETIRE;
+use crate::lent::TABLE_WORDS;
+use crate::lent::least;
 use crate::print;
 use reelbook::HEAD_WORDS;
 use reelbook::reelbook_abandon;
@@ -34,12 +36,37 @@ pub fn run_whole(
     map: &mut [u64],
     heads: &mut [u64; HEAD_WORDS],
     script: &[u64],
+    table: &[u64],
 ) {
     let name = command.name;
     match name {
-        FORMAT => print::answer(reelbook_format(image, map, heads, command.a, command.b)),
+        FORMAT => print::answer(call_format(image, map, heads, table, command.a, command.b)),
         RECOVER => print::answer(reelbook_recover(image, map, heads)),
         _ => print::answer(reelbook_apply(image, script)),
+    }
+}
+
+// The table is lent as bytes: the lowest of each word.
+fn call_format(
+    image: &mut [u64],
+    map: &mut [u64],
+    heads: &mut [u64; HEAD_WORDS],
+    table: &[u64],
+    slots: u64,
+    nodes: u64,
+) -> u64 {
+    let mut bytes = [0u8; TABLE_WORDS];
+    let n = least(table.len(), TABLE_WORDS);
+    put_low_bytes(table, &mut bytes);
+    reelbook_format(image, map, heads, &bytes[..n], slots, nodes)
+}
+
+fn put_low_bytes(words: &[u64], bytes: &mut [u8]) {
+    let end = least(words.len(), bytes.len());
+    let mut i = 0;
+    while i < end {
+        bytes[i] = (words[i] % 256) as u8;
+        i += 1;
     }
 }
 

@@ -9,8 +9,10 @@ use crate::values::LIST;
 use crate::values::MAP;
 use crate::values::SCRATCH;
 use crate::values::SCRIPT;
+use crate::values::TABLE;
 
-// The words of the buffers: an image of 128 nodes and its maps; the longest script; the frames of a path down to level 31.
+// The words of the buffers: an image of 128 nodes and its maps; the longest script; the frames of a path down to level 31; one
+// more than a table has bytes.
 pub const IMAGE_WORDS: usize = 10306;
 
 pub const MAP_WORDS: usize = 2;
@@ -19,6 +21,8 @@ pub const SCRIPT_WORDS: usize = 50;
 
 pub const LIST_WORDS: usize = 2016;
 
+pub const TABLE_WORDS: usize = 257;
+
 // How many words are lent, the first ones; and whether a script is held, or carried out as soon as it is written.
 pub struct Lent {
     pub image: usize,
@@ -26,6 +30,7 @@ pub struct Lent {
     pub scratch: usize,
     pub script: usize,
     pub list: usize,
+    pub table: usize,
     pub held: bool,
 }
 
@@ -37,6 +42,7 @@ impl Lent {
             scratch: 0,
             script: 0,
             list: 0,
+            table: 0,
             held: false,
         }
     }
@@ -59,6 +65,7 @@ impl Lent {
             SCRATCH => self.scratch = words,
             SCRIPT => self.script = words,
             LIST => self.list = words,
+            TABLE => self.table = words,
             _ => {}
         }
         self
@@ -78,6 +85,7 @@ pub fn has_words(buffer: u64, words: usize) -> bool {
         SCRATCH => words <= MAP_WORDS,
         SCRIPT => words <= SCRIPT_WORDS,
         LIST => words <= LIST_WORDS,
+        TABLE => words <= TABLE_WORDS,
         _ => false,
     }
 }

@@ -5,7 +5,7 @@
 // number, a power of 2 written as 2^51, the name of a buffer, or `ones`, the word whose bits are all 1. A command has the first
 // words of each buffer, as many as are lent, and all words of the heads.
 //
-//   lend BUFFER WORDS          so many words from now on, none in the beginning
+//   lend BUFFER WORDS          so many words from now on, none in the beginning; of a word of `table` its lowest byte is lent
 //   format SLOTS NODES, ..     the operations, with their numbers in the sequence of the C interface: what comes out is the
 //                              answer, and behind it what is handed back
 //   apply                      carries out a script: the words of `script` that are lent
@@ -37,6 +37,7 @@ use lent::LIST_WORDS;
 use lent::Lent;
 use lent::MAP_WORDS;
 use lent::SCRIPT_WORDS;
+use lent::TABLE_WORDS;
 use libc::STDIN_FILENO;
 use reelbook::HEAD_WORDS;
 use run::run_lent;
@@ -59,6 +60,7 @@ fn run_text(text: &[u8]) {
     let mut scratch = [0u64; MAP_WORDS];
     let mut script = [0u64; SCRIPT_WORDS];
     let mut list = [0u64; LIST_WORDS];
+    let mut table = [0u64; TABLE_WORDS];
     let mut lent = Lent::nothing();
     let mut at = 0;
     while at < text.len() {
@@ -74,6 +76,7 @@ fn run_text(text: &[u8]) {
             &mut scratch,
             &mut script,
             &mut list,
+            &mut table,
             lent,
         );
     }

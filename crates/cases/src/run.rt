@@ -32,6 +32,7 @@ use crate::values::IMAGE;
 use crate::values::MAP;
 use crate::values::SCRATCH;
 use crate::values::SCRIPT;
+use crate::values::TABLE;
 use reelbook::HEAD_WORDS;
 use reelbook::reelbook_apply;
 
@@ -44,6 +45,7 @@ pub fn run_lent(
     scratch: &mut [u64],
     script: &mut [u64],
     list: &mut [u64],
+    table: &mut [u64],
     lent: Lent,
 ) {
     let a = least(lent.image, image.len());
@@ -51,6 +53,7 @@ pub fn run_lent(
     let c = least(lent.scratch, scratch.len());
     let d = least(lent.script, script.len());
     let e = least(lent.list, list.len());
+    let f = least(lent.table, table.len());
     run_command(
         command,
         &mut image[..a],
@@ -59,6 +62,7 @@ pub fn run_lent(
         &mut scratch[..c],
         &mut script[..d],
         &mut list[..e],
+        &mut table[..f],
         lent.held,
     );
 }
@@ -71,15 +75,16 @@ fn run_command(
     scratch: &mut [u64],
     script: &mut [u64],
     list: &mut [u64],
+    table: &mut [u64],
     held: bool,
 ) {
     let name = command.name;
     match name {
-        FORMAT..=APPLY => run_whole(command, image, map, heads, script),
+        FORMAT..=APPLY => run_whole(command, image, map, heads, script, table),
         OPEN..=ADD => run_scripted(command, image, map, heads, scratch, script, held),
         HAS..=LIST => run_query(command, image, scratch, list),
         CRASH => run_crash(command, image, script, list),
-        PUT..=SHOW => run_buffer(command, image, map, heads, scratch, script, list),
+        PUT..=SHOW => run_buffer(command, image, map, heads, scratch, script, list, table),
         _ => run_mode(command),
     }
 }
@@ -200,6 +205,7 @@ fn run_buffer(
     scratch: &mut [u64],
     script: &mut [u64],
     list: &mut [u64],
+    table: &mut [u64],
 ) {
     let buffer = command.a;
     match buffer {
@@ -209,6 +215,7 @@ fn run_buffer(
         SCRATCH => run_words(command, scratch),
         SCRIPT => run_words(command, script),
         values::LIST => run_words(command, list),
+        TABLE => run_words(command, table),
         _ => print::end(false),
     }
 }

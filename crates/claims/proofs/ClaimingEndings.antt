@@ -147,10 +147,10 @@ module _ (im pool script ws : List ℕ) (h reel f : ℕ) where
   abbrev allTests : Geometry → (slot : ℕ) → List Refusal
   allTests g slot = headTests g slot ++ roomTests g slot (roomIn g slot)
 
-  -- 1, 2 or 3
+  -- 1, 2, 3, or 4 for the table
   pub claim-early : {v : Verdict} {why : enums.Refusal} → v ≡ firstChecks im (Words (length pool)) Absent (Words (length script)) → v ≡ verdict.Refused why
       → EndsWith (numberOf why)
-  unfolding refusals
+  unfolding refusals leaves clears scratchAfter
   claim-early =
       ended-early op begun borrowed (Words (length pool)) Absent (Words (length script))
       (allTests (geometryOf (reads im)) (slotOf (geometryOf (reads im)) (reads im) reel)) (same-checks im _ _ _ refl)

@@ -30,7 +30,7 @@ use book::HEADS;
 use book::Head;
 use book::HeadState;
 use book::Target;
-use nodes::fingerprint::fingerprint;
+use fingerprints::fingerprint::fingerprint;
 use nodes::reels::slot_of;
 use operations::answer::HeadAnswer;
 use operations::answer::Refusal;

@@ -12,6 +12,7 @@ use operations::answer::Refusal;
 use operations::checks::Buffer;
 use operations::checks::Verdict;
 use operations::checks::checks;
+use operations::checks::clear_on_4;
 use recovery::recovery::recover_image;
 
 // Recover: an image that is not sound stays as it is, and its map is all 0.
@@ -30,7 +31,10 @@ pub fn recover(image: &mut [u64], pool: &mut [u64]) -> Answer
         Buffer::Absent,
     ) {
         Verdict::Passed(g) => g,
-        Verdict::Refused(why) => return Answer::Refused(why),
+        Verdict::Refused(why) => {
+            clear_on_4(pool, why);
+            return Answer::Refused(why);
+        }
     };
     if !recover_image(image, pool, g) {
         return Answer::Refused(Refusal::Malformed);

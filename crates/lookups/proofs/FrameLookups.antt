@@ -78,7 +78,7 @@ module _ (s : State) (reel f : ℕ) where
 
   pub on-has : OnReel (query (has reel f)) s none none none false reel hasRest
   unfolding refusals leaves clears
-  on-has = record { tested = record { tests = same-checks (s .image) _ _ _ refl; leaves-all = λ n. refl; clears-past = λ n e. refl } }
+  on-has = record { tested = record { tests = same-checks (s .image) _ _ _ refl; leaves-all = λ n. refl; clears-past = λ n. refl } }
 
   module _ {g : Geometry} {slot : ℕ} {x : Found} (p : Looked (s .image) none reel f g slot x) where
     pub has-malformed : x ≡ Malformed → ended 4 0 s noBuffers ≡ ends (query (has reel f)) s noBuffers
@@ -109,7 +109,7 @@ module _ (s : State) (script : List ℕ) (reel f : ℕ) where
 
   pub on-remove : OnReel op s none none (some script) false reel (λ g slot. (is (busy (s .heads) slot) gives 13) ∷ frameTests g slot)
   unfolding refusals leaves clears
-  on-remove = record { tested = record { tests = same-checks (s .image) _ _ _ refl; leaves-all = λ n. refl; clears-past = λ n e. refl } }
+  on-remove = record { tested = record { tests = same-checks (s .image) _ _ _ refl; leaves-all = λ n. refl; clears-past = λ n. refl } }
 
   module _ {g : Geometry} {slot : ℕ} where
     pub remove-busy : SlotRead (s .image) none none (some script) reel g slot → slot < g .slots → busy (s .heads) slot ≡ true

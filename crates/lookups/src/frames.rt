@@ -12,7 +12,7 @@ ghost use Rattle.operations.specs.HeadLists.{headsIn};
 ghost use Rattle.operations.specs.Ends.{buffers, noBuffers, state, ended, ends};
 use book::HEADS;
 use book::Head;
-use nodes::fingerprint::fingerprint;
+use fingerprints::fingerprint::fingerprint;
 use nodes::reels::slot_of;
 use operations::answer::Answer;
 use operations::answer::Refusal;

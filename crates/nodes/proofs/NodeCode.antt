@@ -1,60 +1,23 @@
--- What the code of fingerprints and nodes computes, step by step, in the code's own terms.
+-- What the code of nodes computes, step by step, in the code's own terms.
 use mathlib.Core.Path.{_≡_, refl, sym, _∙_}
 use mathlib.Core.Bool.{Bool, true, false, _&&_, and-assoc, or-false}
 use mathlib.Core.Logic.{inl, inr}
 use Prim.Native.Nat.{ℕ, _+_, _-_, _*_, _/_, _^_, _≤_, _<_}
-use native.Mathlib.Numerals.{add-one}
 use native.Mathlib.Omega.{arith}
 use native.Mathlib.Nat.{div-eq-of-lt, div-lt-iff-lt-mul, one-mul}
 use native.Mathlib.Decide.{decLt}
 use borrow.Author.Tests.{lt-ltb, le-ltb, le-leb, lt-leb, eq-eqb, ne-eqb}
 use lib.Dec.{eqb, ltb, leb}
 use lib.Pow.{pow-pos}
-use lib.Bits.{bitXor, xor-lt}
-use Rattle.memory.specs.Words.{Memory, byte}
-use Rattle.memory.proofs.Laws.{byte-laws}
+use Rattle.memory.specs.Words.{Memory}
 use Rattle.tree.specs.declared.layout.Geometry.{Geometry}
 use Rattle.tree.specs.Test.{Test, lt, le, eq, _and_, _or_, holds}
 use Rattle.tree.specs.Layout.{nextAt, locateAt, setAt, levelAt, sizeAt}
 use Rattle.tree.specs.Node.{sizeAllowed, formed, wellFormed}
 use Rattle.tree.specs.Path.{fanout}
-use Rattle.tree.specs.Fingerprint.{folded, tableEntry, fingerprint, ruleFor, ruleOf}
-use Rattle.tree.proofs.Fingerprints.{fingerprint-laws}
 use Rattle.tree.proofs.Cases.{not-false}
 use Rattle.tree.proofs.Tests.{says}
 use Rattle.tree.proofs.Ways.{child-lt}
-
--- ---- the fingerprint
-
-pub byte-small : {b : ℕ} (w j : ℕ) → b ≡ byte w j → b < 256
-byte-small w j e = rw e (byte-laws .byte-fits w j)
-
-pub folded-small : {h : ℕ} (k f : ℕ) → h ≡ folded tableEntry k f → h < 256
-folded-small k f e = rw e (fingerprint-laws .fits (fingerprint-laws .table-once) k f)
-
--- a step of the fold: to an entry of the table, and so to the next h
-module _ (k f : ℕ) {h b : ℕ} (p : h ≡ folded tableEntry k f) (q : b ≡ byte f k) where
-  pub entry-inside : bitXor h b < 256
-  entry-inside = xor-lt 8 h b (folded-small k f p) (byte-small f k q)
-
-  pub folded-step : {e : ℕ} → e ≡ tableEntry (bitXor h b) → e ≡ folded tableEntry (k + 1) f
-  unfolding folded
-  folded-step s = rw (add-one, ← p, ← q) s
-
--- a fold begins with 0
-pub begun : (f : ℕ) → 0 ≡ folded tableEntry 0 f
-unfolding folded
-begun f = refl
-
--- and over as many bytes as the image's edition folds, it is a frame's fingerprint there
-pub by-rule : (m : Memory) (f : ℕ) {bytes h : ℕ} → bytes ≡ ruleOf m .bytes → h ≡ folded tableEntry bytes f → h ≡ fingerprint (ruleOf m) f
-unfolding fingerprint ruleFor ruleOf
-by-rule m f b e = rw b at e
-
-pub fingerprint-small : {h : ℕ} (m : Memory) (f : ℕ) → h ≡ fingerprint (ruleOf m) f → h < 256
-fingerprint-small m f e = rw e (fingerprint-laws .rule-fits m f)
-
--- ---- nodes
 
 -- a bitmap has no bit at or above a size, by a shift
 pub shifted-out : (w size : ℕ) → eqb (w / 2 ^ size) 0 ≡ ltb w (2 ^ size)

@@ -18,6 +18,7 @@ use Rattle.tree.specs.Subtree.{listed}
 use Rattle.tree.proofs.Memory.{script-laws, segment-laws}
 use Rattle.tree.proofs.Cases.{test}
 use Rattle.book.specs.Refusals.{refusal}
+use Rattle.tree.specs.Fingerprint.{isGiven}
 use Rattle.book.specs.State.{State, Operation, format, recover, openReel, claim, fill, commit, abandon, remove, retire, query, has, list, Work, scratchAfter}
 use Rattle.book.specs.Checks.{refusals}
 use Rattle.book.specs.Perform.{granted, leaves, clears, leftBy, perform}
@@ -59,7 +60,7 @@ HandsOver op w e =
 
 granted-over : (op : Operation) (s : State) (b : Buffers) → HandsOver op (granted op s) (answering op s b)
 unfolding found granted listed
-granted-over (format words slots nodes) s b = (no-words, refl, refl)
+granted-over (format words table slots nodes) s b = (no-words, refl, refl)
 granted-over (recover words) s b = (no-words, refl, refl)
 granted-over (openReel words script reel) s b = (script-laws .take-written _ _, refl, refl)
 granted-over (claim words script h reel f) s b = (script-laws .take-written _ _, refl, refl)
@@ -163,7 +164,7 @@ checks-only image is = record {
 
 early : {image : List ℕ} {op : Operation} → OtherMap image op → (heads : List ℕ) → Early op image heads
 unfolding refusals refusal earlyNumber
-early {image} (by-format {words} {slots} {nodes} d) heads =
+early {image} (by-format {words} {slots} {nodes} {table} d) heads =
     let g : Geometry = record { slots = slots; nodes = nodes } in
     record {
       number = cond (holds (badImage (length image) g)) 1 3;
@@ -264,14 +265,23 @@ goes-on op s t b f fit =
 -- ---- with another buffer
 
 -- what a format answers goes by the image's length and by the map's: neither map nor heads is read
-format-answer : (words slots nodes : ℕ) (image pool pool' heads heads' : List ℕ)
-    → perform (format words slots nodes) (state image pool heads) .answer ≡ perform (format words slots nodes) (state image pool' heads') .answer
+format-answer : (words : ℕ) (table : List ℕ) (slots nodes : ℕ) (image pool pool' heads heads' : List ℕ)
+    → perform (format words table slots nodes) (state image pool heads) .answer ≡ perform (format words table slots nodes) (state image pool' heads') .answer
 unfolding perform refusals
-format-answer words slots nodes image pool pool' heads heads' = refl
+format-answer words table slots nodes image pool pool' heads heads' = refl
 
-one-or-three : {n : ℕ} → List·Memᴰ n (1 ∷ 3 ∷ []) → n ≤ 3
-one-or-three (List·Memᴰ·head q) = omega arith
-one-or-three (List·Memᴰ·tail (List·Memᴰ·head q)) = omega arith
+-- a format that is refused ends with everything as it was
+format-ends : (words : ℕ) (table : List ℕ) (slots nodes : ℕ) (s : State) (b : Buffers) → perform (format words table slots nodes) s .answer ≢ 0
+    → ends (format words table slots nodes) s b ≡ ended (perform (format words table slots nodes) s .answer) 0 s b
+unfolding leaves clears scratchAfter
+format-ends words table slots nodes s b z =
+    let op = format words table slots nodes in
+    ends-refused op s b (perform op s .answer) (sym (answer-is op s)) z refl
+
+no-format-4 : {n : ℕ} → List·Memᴰ n (1 ∷ 3 ∷ 16 ∷ []) → n ≢ 4
+no-format-4 (List·Memᴰ·head q) = omega arith
+no-format-4 (List·Memᴰ·tail (List·Memᴰ·head q)) = omega arith
+no-format-4 (List·Memᴰ·tail (List·Memᴰ·tail (List·Memᴰ·head q))) = omega arith
 
 -- the number is the same with the book's map, and a refusal leaves everything
 pub record SentBack (op : Operation) (s : State) (map : List ℕ) (b : Buffers) (e : Ends) : Type 0 where
@@ -289,26 +299,26 @@ sent-back {op} {s} map b (another-length o) =
       is = λ z. u .leaves-all map;
       stays = λ z. done-same op s (rw (u .same (s .pool)) z) (λ p. omega (arith, u .same (s .pool), p, n .1));
     }
-sent-back {s = s} map b (to-format {words} {slots} {nodes}) =
-    let op = format words slots nodes in
+sent-back {s = s} map b (to-format {words} {slots} {nodes} {table}) =
+    let op = format words table slots nodes in
     let s' = state (s .image) map (s .heads) in
     let q = answer-ends op s' b in
-    let same = format-answer words slots nodes (s .image) map (s .pool) (s .heads) (s .heads) in
+    let same = format-answer words table slots nodes (s .image) map (s .pool) (s .heads) (s .heads) in
     record {
       answer = q ∙ same;
       is = λ z.
           let h : perform op s' .answer ≢ 0 = λ p. z (q ∙ p) in
-          early-ends op s' h (one-or-three (demand1 .refused op s' h .number)) b ∙ ap (λ n. ended n 0 s' b) (sym q);
+          format-ends words table slots nodes s' b h ∙ ap (λ n. ended n 0 s' b) (sym q);
       stays = λ z.
           let h : perform op s .answer ≢ 0 = λ p. z (q ∙ same ∙ p) in
-          done-same op s h (λ p. omega (arith, p, one-or-three (demand1 .refused op s h .number)));
+          done-same op s h (no-format-4 (demand1 .refused op s h .number));
     }
 
 -- a format that the table answers leaves it empty
-format-table : (words slots nodes : ℕ) (s : State) (t : Table) → replied (format words slots nodes) s t .answer ≡ 0
-    → replied (format words slots nodes) s t .work .after ≡ emptyTable slots nodes
+format-table : (words : ℕ) (table : List ℕ) (slots nodes : ℕ) (s : State) (t : Table) → replied (format words table slots nodes) s t .answer ≡ 0
+    → replied (format words table slots nodes) s t .work .after ≡ emptyTable (isGiven table) slots nodes
 unfolding reply tableWork
-format-table words slots nodes s t h = rw h refl
+format-table words table slots nodes s t h = rw h refl
 
 -- refused, it is told what the table replies, and has its own map still
 sent-back-goes-on : {op : Operation} {s : State} {t : Table} {map : List ℕ} {b : Buffers} {e : Ends} → Follows s t → Fits op s → SentBack op s map b e
@@ -328,11 +338,11 @@ sent-back-goes-on {op} {s} {t} {map} {b} {e} f fit x z =
     }
 
 -- a format that is answered starts the book anew, with the map that it was lent
-format-goes-on : (words slots nodes : ℕ) (s : State) (t : Table) (map : List ℕ) (b : Buffers) {e : Ends} → Follows s t → Fits (format words slots nodes) s
-    → e ≡ ends (format words slots nodes) (state (s .image) map (s .heads)) b → e .answer ≡ 0
-    → GoesOn (format words slots nodes) s t e (next (format words slots nodes) e)
-format-goes-on words slots nodes s t map b {e} f fit q h =
-    let op = format words slots nodes in
+format-goes-on : (words : ℕ) (table : List ℕ) (slots nodes : ℕ) (s : State) (t : Table) (map : List ℕ) (b : Buffers) {e : Ends} → Follows s t → Fits (format words table slots nodes) s
+    → e ≡ ends (format words table slots nodes) (state (s .image) map (s .heads)) b → e .answer ≡ 0
+    → GoesOn (format words table slots nodes) s t e (next (format words table slots nodes) e)
+format-goes-on words table slots nodes s t map b {e} f fit q h =
+    let op = format words table slots nodes in
     let s' = state (s .image) map (s .heads) in
     let own = goes-on op s t b f fit in
     let x = rw (← q) at (sent-back {op = op} {s = s} map b to-format) in
@@ -343,7 +353,7 @@ format-goes-on words slots nodes s t map b {e} f fit q h =
       answer = answer;
       value = own .value;
       listing = own .listing;
-      follows = rw (format-table words slots nodes s t (sym answer ∙ h), q, told op s' b fit' .step) (started (formatted words slots nodes s' (fit .image) h'));
+      follows = rw (format-table words table slots nodes s t (sym answer ∙ h), q, told op s' b fit' .step) (started (formatted words table slots nodes s' (fit .image) h'));
     }
 
 -- one that is lent a map of another length is never answered
@@ -351,7 +361,7 @@ answered-another : (op : Operation) (s : State) (t : Table) (b : Buffers) (e : E
     → e ≡ ends op (state (s .image) map (s .heads)) b → e .answer ≡ 0 → GoesOn op s t e (next op e)
 answered-another op s t b e map f fit (another-length o) q h =
     absurd (one-to-three (unread op (s .image) map (s .heads) b o .number) .0 (sym (ap (λ (y : Ends). y .answer) q) ∙ h))
-answered-another op s t b e map f fit (to-format {words} {slots} {nodes}) q h = format-goes-on words slots nodes s t map b f fit q h
+answered-another op s t b e map f fit (to-format {words} {slots} {nodes} {table}) q h = format-goes-on words table slots nodes s t map b f fit q h
 
 called-goes-on : (op : Operation) (s : State) (t : Table) (b : Buffers) (e : Ends) → Follows s t → Fits op s → (c : Called op s b e)
     → GoesOn op s t e (afterCall c)
@@ -366,10 +376,10 @@ chain = record {
   answered = λ op s b e fit q h. rw q (answered op s b (sym (answer-ends op s b) ∙ sym (ap (λ (x : Ends). x .answer) q) ∙ h) fit);
   refused = λ op s b e q h. rw q (refused op s b (λ z. h (ap (λ (x : Ends). x .answer) q ∙ answer-ends op s b ∙ z)));
   other-map = λ op image pool heads b e o q. rw q (unread op image pool heads b o);
-  starts = λ words slots nodes s b e fit q h.
-      let op = format words slots nodes in
+  starts = λ words table slots nodes s b e fit q h.
+      let op = format words table slots nodes in
       let h' : perform op s .answer ≡ 0 = sym (answer-ends op s b) ∙ sym (ap (λ (x : Ends). x .answer) q) ∙ h in
-      rw (q, told op s b fit .step) (started (formatted words slots nodes s (fit .image) h'));
+      rw (q, told op s b fit .step) (started (formatted words table slots nodes s (fit .image) h'));
   starts-on = λ words s b e fit q h.
       let op = recover words in
       let h' : perform op s .answer ≡ 0 = sym (answer-ends op s b) ∙ sym (ap (λ (x : Ends). x .answer) q) ∙ h in

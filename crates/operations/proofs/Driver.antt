@@ -158,7 +158,7 @@ module _ {op : Operation} {s : State} {t : Table} {b : Buffers} {e : Ends} {k : 
       }
 
 follows : {s : State} {t : Table} → Driven s t → Follows s t
-follows (formats words slots nodes s b e fit q h) = chain .starts words slots nodes s b e fit q h
+follows (formats words table slots nodes s b e fit q h) = chain .starts words table slots nodes s b e fit q h
 follows (finds v r) = started (found v (recovers-recovered r))
 follows (calls {s} {t} d op b e fit c) = chain .goes-on op s t b e (follows d) fit c .follows
 follows (loses-power d op b e fit call k c r w) = whole-follows (follows d) fit call c r w

@@ -16,7 +16,7 @@ use Rattle.operations.proofs.ScriptWords.{words-of}
 
 -- nothing is handed back where there is no script and no value
 none-handed : (op : Operation) (s : State) → countIn op (leaving s) ≡ 0
-none-handed (format map slots nodes) s = refl
+none-handed (format map table slots nodes) s = refl
 none-handed (recover map) s = refl
 none-handed (openReel map script reel) s = sym (words-of [])
 none-handed (claim map script h reel f) s = sym (words-of [])
@@ -42,11 +42,16 @@ module _ (op : Operation) (s : State) (b : Buffers) where
   unfolding ends perform
   refused-with n e z = rw (e, ne-eqb n 0 z)
 
-  -- a refusal that leaves the state as it was hands back nothing; the scratch map is cleared or not
+  -- a refusal hands back nothing; the scratch map is cleared or not
+  pub refused-any : (n : ℕ) → refusal (refusals op s) ≡ n → n ≢ 0
+      → ends op s b ≡ ended n 0 (leaves op s n) (buffers (scratchAfter (clears op n) (b .scratch)) (b .script) (b .list))
+  unfolding listed
+  refused-any n e z = refused-with n e z ∙ no-script op _ b refl ∙ rw (none-handed op (leaves op s n)) refl
+
+  -- one that leaves the state as it was
   pub refused : (n : ℕ) → refusal (refusals op s) ≡ n → n ≢ 0 → leaves op s n ≡ s
       → ends op s b ≡ ended n 0 s (buffers (scratchAfter (clears op n) (b .scratch)) (b .script) (b .list))
-  unfolding listed
-  refused n e z l = refused-with n e z ∙ no-script op _ b refl ∙ rw (l, none-handed op s) refl
+  refused n e z l = refused-any n e z ∙ ap (λ s'. ended n 0 s' (buffers (scratchAfter (clears op n) (b .scratch)) (b .script) (b .list))) l
 
   pub done : refusal (refusals op s) ≡ 0 → ends op s b ≡ found op (record { answer = 0; work = granted op s; cleared = clears op 0; places-left = leftBy op s }) b
   unfolding ends perform

@@ -20,13 +20,13 @@ pub data OfHead (h : ℕ) : Operation → Type 0 where
   commits : {script : ℕ} → OfHead h (commit script h)
   abandons : {script : ℕ} → OfHead h (abandon script h)
 
--- none of their tests holds, so the fourth, 11, does not
+-- none of their tests holds, so the fifth, 11, does not
 passed-11 : {h : ℕ} {op : Operation} → OfHead h op → (s : State) → refusal (refusals op s) ≡ 0 → h < headCount
 unfolding refusals
-passed-11 {h} (claims {map} {script} {reel} {f}) s e = passes (refusals (claim map script h reel f) s) (omega arith) e .1 .1 .1 .0
-passed-11 {h} (fills {script}) s e = passes (refusals (fill script h) s) (omega arith) e .1 .1 .1 .0
-passed-11 {h} (commits {script}) s e = passes (refusals (commit script h) s) (omega arith) e .1 .1 .1 .0
-passed-11 {h} (abandons {script}) s e = passes (refusals (abandon script h) s) (omega arith) e .1 .1 .1 .0
+passed-11 {h} (claims {map} {script} {reel} {f}) s e = passes (refusals (claim map script h reel f) s) (omega arith) e .1 .1 .1 .1 .0
+passed-11 {h} (fills {script}) s e = passes (refusals (fill script h) s) (omega arith) e .1 .1 .1 .1 .0
+passed-11 {h} (commits {script}) s e = passes (refusals (commit script h) s) (omega arith) e .1 .1 .1 .1 .0
+passed-11 {h} (abandons {script}) s e = passes (refusals (abandon script h) s) (omega arith) e .1 .1 .1 .1 .0
 
 pub ends-answer : (op : Operation) (s : State) (b : Buffers) → ends op s b .answer ≡ refusal (refusals op s)
 unfolding ends found

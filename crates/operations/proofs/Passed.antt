@@ -1,22 +1,25 @@
--- The checks that come first, passed or not: 1, 2 and 3 as every operation but Format makes them.
+-- The checks that come first, passed or not: 1, 2, 3 and 4 for the table, as every operation but Format makes them.
 use mathlib.Core.Path.{_≡_, refl, sym, _∙_, ap}
-use mathlib.Core.Bool.{true, false, and-false}
+use mathlib.Core.Bool.{true, false}
 use mathlib.Core.Logic.{inl, inr, _≢_}
 use mathlib.Core.Option.{Option, none, some}
-use mathlib.Core.List.{List}
+use mathlib.Core.List.{List, _∷_}
 use Prim.Native.Nat.{ℕ, _≤_}
 use native.Mathlib.Omega.{arith}
+use native.Mathlib.Decide.{ℕ-discrete}
 use lib.ListN.{length}
+use lib.Dec.{eqb}
 use borrow.Author.Tests.{ne-eqb, le-ltb}
 use Rattle.tree.specs.Memory.{reads}
 use Rattle.tree.specs.Test.{Test, _or_, holds}
 use Rattle.tree.specs.declared.layout.Geometry.{Geometry}
 use Rattle.tree.specs.Layout.{Sized, badImage, geometryOf, badEdition}
+use Rattle.tree.specs.Fingerprint.{badOwn}
 use Rattle.tree.proofs.Cases.{test}
-use Rattle.book.specs.Refusals.{Refusal, refusal}
-use Rattle.book.specs.State.{State, Operation, format, recover, openReel, claim, fill, commit, abandon, remove, retire, query, scratchAfter}
-use Rattle.book.specs.Checks.{checked, refusals}
-use Rattle.book.specs.Perform.{leaves, borrowsScratch, clears}
+use Rattle.book.specs.Refusals.{Refusal, _gives_, refusal}
+use Rattle.book.specs.State.{State, Operation, scratchAfter}
+use Rattle.book.specs.Checks.{firstThree, checked, refusals}
+use Rattle.book.specs.Perform.{leaves, pastChecks, clears}
 use Rattle.book.proofs.Refusals.{Denies, denies}
 use Rattle.book.proofs.Inside.{sized}
 use Rattle.operations.specs.declared.checks.Buffer.{Buffer}
@@ -27,8 +30,8 @@ use Rattle.operations.specs.declared.answer.Refusal as enums
 use Rattle.operations.specs.declared.answer.Refusal.the-variants as enum
 use Rattle.operations.specs.Answers.{numberOf}
 use Rattle.operations.specs.Checked.{mapBad, scriptBad, firstChecks}
-use Rattle.operations.specs.Ends.{Buffers, ended, ends}
-use Rattle.operations.proofs.Endings.{refused}
+use Rattle.operations.specs.Ends.{Buffers, buffers, ended, ends}
+use Rattle.operations.proofs.Endings.{refused-any}
 
 passed-refused : {X : Type 0} {g : Geometry} {why : enums.Refusal} → Passed g ≡ Refused why → X
 passed-refused q = let z : _≡_ {A = ℕ} 0 1 = cc in absurd (omega arith)
@@ -55,6 +58,7 @@ number-some enum.HeadNumber = omega arith
 number-some enum.HeadState = omega arith
 number-some enum.Busy = omega arith
 number-some enum.ListShort = omega arith
+number-some enum.GivenTable = omega arith
 
 -- the checks go by what a test computes
 pub same-checks : (image : List ℕ) (bad bad' : Test) (rest : List Refusal) → holds bad ≡ holds bad'
@@ -76,12 +80,13 @@ module _ (image : List ℕ) (map scratch script : Buffer) where
   abbrev pub buffersBad : Test
   buffersBad = mapBad (shapeOf image) map or mapBad (shapeOf image) scratch or scriptBad script
 
-  -- what the verdict says of an operation's tests, which begin with the three
+  -- what the verdict says of an operation's tests, which begin with the four
   pub record PassedAll (g : Geometry) : Type 0 where
     pub geometry : g ≡ shapeOf image
     pub image-fine : holds (badImage (length image) (shapeOf image)) ≡ false
     pub edition-fine : holds (badEdition (reads image)) ≡ false
     pub buffers-fine : holds buffersBad ≡ false
+    pub table-fine : holds (badOwn (reads image)) ≡ false
 
   pub passed : {g : Geometry} → Passed g ≡ firstChecks image map scratch script → PassedAll g
   unfolding firstChecks
@@ -91,19 +96,22 @@ module _ (image : List ℕ) (map scratch script : Buffer) where
       | inl b ↦ passed-refused (rw (a, b) at q)
       | inr b ↦ elim (test (holds buffersBad)) [
         | inl c ↦ passed-refused (rw (a, b, c) at q)
-        | inr c ↦ record { geometry = passed-same (rw (a, b, c) at q); image-fine = a; edition-fine = b; buffers-fine = c }
+        | inr c ↦ elim (test (holds (badOwn (reads image)))) [
+          | inl d ↦ passed-refused (rw (a, b, c, d) at q)
+          | inr d ↦ record { geometry = passed-same (rw (a, b, c, d) at q); image-fine = a; edition-fine = b; buffers-fine = c; table-fine = d }
+        ]
       ]
     ]
   ]
 
   pub past-checks : {g : Geometry} → PassedAll g → (rest : List Refusal) → refusal (checked image buffersBad rest) ≡ refusal rest
   unfolding refusal
-  past-checks p rest = rw (p .image-fine, p .edition-fine, p .buffers-fine) refl
+  past-checks p rest = rw (p .image-fine, p .edition-fine, p .buffers-fine, p .table-fine) refl
 
-  -- refused: with one of the three numbers, which is the operation's
+  -- refused: with one of the four numbers, which is the operation's
   pub record RefusedFirst (why : enums.Refusal) : Type 0 where
     pub number : (rest : List Refusal) → refusal (checked image buffersBad rest) ≡ numberOf why
-    pub most : numberOf why ≤ 3
+    pub most : numberOf why ≤ 4
 
   pub refused-first : {why : enums.Refusal} → Refused why ≡ firstChecks image map scratch script → RefusedFirst why
   unfolding firstChecks refusal
@@ -113,7 +121,10 @@ module _ (image : List ℕ) (map scratch script : Buffer) where
       | inl b ↦ rw (refused-same (rw (a, b) at q)) (record { number = λ rest. rw (a, b) refl; most = omega arith })
       | inr b ↦ elim (test (holds buffersBad)) [
         | inl c ↦ rw (refused-same (rw (a, b, c) at q)) (record { number = λ rest. rw (a, b, c) refl; most = omega arith })
-        | inr c ↦ passed-refused (sym (rw (a, b, c) at q))
+        | inr c ↦ elim (test (holds (badOwn (reads image)))) [
+          | inl d ↦ rw (refused-same (rw (a, b, c, d) at q)) (record { number = λ rest. rw (a, b, c, d) refl; most = omega arith })
+          | inr d ↦ passed-refused (sym (rw (a, b, c, d) at q))
+        ]
       ]
     ]
   ]
@@ -128,7 +139,7 @@ byLength (some words) = Words (length words)
 abbrev pub checksOn : List ℕ → (map scratch script : Option (List ℕ)) → Verdict
 checksOn im map scratch script = firstChecks im (byLength map) (byLength scratch) (byLength script)
 
--- with the geometry that was handed on: none of the three holds, and the image and what is borrowed have their lengths
+-- with the geometry that was handed on: none of the four holds, and the image and what is borrowed have their lengths
 pub record Checked (im : List ℕ) (map scratch script : Option (List ℕ)) (g : Geometry) : Type 0 where
   pub all : PassedAll im (byLength map) (byLength scratch) (byLength script) g
   pub geometry : g ≡ geometryOf (reads im)
@@ -182,46 +193,44 @@ module _ (image : List ℕ) (map scratch script : Buffer) (g : Geometry) (is : g
   unfolding firstChecks
   buffer-bad a b c = rw (← is, a, b, c) refl
 
-  pub none-bad : holds (badImage (length image) g) ≡ false → holds (badEdition (reads image)) ≡ false
-      → holds (mapBad g map or mapBad g scratch or scriptBad script) ≡ false → Passed g ≡ firstChecks image map scratch script
+  pub table-bad : holds (badImage (length image) g) ≡ false → holds (badEdition (reads image)) ≡ false
+      → holds (mapBad g map or mapBad g scratch or scriptBad script) ≡ false → holds (badOwn (reads image)) ≡ true
+      → Refused enum.Malformed ≡ firstChecks image map scratch script
   unfolding firstChecks
-  none-bad a b c = rw (← is, a, b, c) refl
+  table-bad a b c d = rw (← is, a, b, c, d) refl
 
--- ---- an operation that ends with one of the three
+  pub none-bad : holds (badImage (length image) g) ≡ false → holds (badEdition (reads image)) ≡ false
+      → holds (mapBad g map or mapBad g scratch or scriptBad script) ≡ false → holds (badOwn (reads image)) ≡ false
+      → Passed g ≡ firstChecks image map scratch script
+  unfolding firstChecks
+  none-bad a b c d = rw (← is, a, b, c, d) refl
 
--- none of the three is a refusal that changes something: neither the state nor the scratch map
-early-leaves : (op : Operation) (s : State) (n : ℕ) → n ≤ 3 → leaves op s n ≡ s
-unfolding leaves
-early-leaves (recover map) s n h = rw (ne-eqb n 4 (λ q. omega arith)) refl
-early-leaves (format map slots nodes) s n h = refl
-early-leaves (openReel map script reel) s n h = refl
-early-leaves (claim map script head reel f) s n h = refl
-early-leaves (fill script head) s n h = refl
-early-leaves (commit script head) s n h = refl
-early-leaves (abandon script head) s n h = refl
-early-leaves (remove script reel f) s n h = refl
-early-leaves (retire map scratch script reel) s n h = refl
-early-leaves (query q) s n h = refl
-
-early-keeps : (op : Operation) (n : ℕ) → n ≢ 0 → n ≤ 3 → clears op n ≡ false
-unfolding clears
-early-keeps (query q) n z h = rw (ne-eqb n 0 z, le-ltb 3 n h) (and-false (borrowsScratch q))
-early-keeps (retire map scratch script reel) n z h = rw (ne-eqb n 0 z, le-ltb 3 n h) refl
-early-keeps (recover map) n z h = refl
-early-keeps (format map slots nodes) n z h = refl
-early-keeps (openReel map script reel) n z h = refl
-early-keeps (claim map script head reel f) n z h = refl
-early-keeps (fill script head) n z h = refl
-early-keeps (commit script head) n z h = refl
-early-keeps (abandon script head) n z h = refl
-early-keeps (remove script reel f) n z h = refl
+-- ---- an operation that ends with one of the four
 
 -- as the code ends there: v is the checks' verdict, and it refuses
 pub ended-early : (op : Operation) (s : State) (b : Buffers) (map scratch script : Buffer) (rest : List Refusal) {v : Verdict} {why : enums.Refusal}
     → refusal (refusals op s) ≡ refusal (checked (s .image) (buffersBad (s .image) map scratch script) rest)
-    → v ≡ firstChecks (s .image) map scratch script → v ≡ Refused why → ended (numberOf why) 0 s b ≡ ends op s b
-unfolding scratchAfter
+    → v ≡ firstChecks (s .image) map scratch script → v ≡ Refused why
+    → ended (numberOf why) 0 (leaves op s (numberOf why)) (buffers (scratchAfter (clears op (numberOf why)) (b .scratch)) (b .script) (b .list))
+    ≡ ends op s b
 ended-early op s b map scratch script rest {why = why} same is told =
     let r = refused-first (s .image) map scratch script (sym told ∙ is) in
-    sym (refused op s b (numberOf why) (same ∙ r .number rest) (number-some why) (early-leaves op s (numberOf why) (r .most))
-    ∙ rw (early-keeps op (numberOf why) (number-some why) (r .most)) refl)
+    sym (refused-any op s b (numberOf why) (same ∙ r .number rest) (number-some why))
+
+-- an end that is none of 1, 2 and 3 is 4 then
+pub past-is-4 : (n : ℕ) → n ≢ 0 → n ≤ 4 → pastChecks n ≡ eqb n 4
+past-is-4 n z h = elim (ℕ-discrete n 4) [
+  | yes q ↦ rw q refl
+  | no q ↦ rw (ne-eqb n 0 z, ne-eqb n 4 q, le-ltb 3 n (omega arith)) refl
+]
+
+-- what comes after 3 may be put otherwise
+pub past-three : (image : List ℕ) (bad bad' : Test) (rest rest' : List Refusal) → holds bad ≡ holds bad' → refusal rest ≡ refusal rest'
+    → refusal (firstThree image bad rest) ≡ refusal (firstThree image bad' rest')
+unfolding refusal
+past-three image bad bad' rest rest' e same = rw (e, same) refl
+
+-- a number by one test or by two in turn
+pub in-turn : (t u : Test) (n : ℕ) (rest : List Refusal) → refusal ((t or u gives n) ∷ rest) ≡ refusal ((t gives n) ∷ (u gives n) ∷ rest)
+unfolding refusal
+in-turn t u n rest = elim (test (holds t)) [ inl e ↦ rw e refl | inr e ↦ rw e refl ]

@@ -1,11 +1,12 @@
 -- An operation's tests past the first checks, and how it ends by them: one form for all that leave the state as it was where they refuse.
-use mathlib.Core.Path.{_≡_, refl, sym, _∙_}
-use mathlib.Core.Bool.{Bool, true, cond}
+use mathlib.Core.Path.{_≡_, refl, sym, _∙_, ap}
+use mathlib.Core.Bool.{Bool, true, cond, _&&_, and-true}
 use mathlib.Core.Option.{Option}
 use mathlib.Core.List.{List, _∷_}
 use Prim.Native.Nat.{ℕ, _≤_, _<_}
 use native.Mathlib.Omega.{arith}
 use lib.ListN.{length}
+use lib.Dec.{eqb}
 use borrow.Author.Tests.{lt-ltb, ne-eqb, le-leb, lt-leb}
 use Rattle.tree.specs.Memory.{reads}
 use Rattle.tree.specs.Test.{le}
@@ -25,14 +26,14 @@ use Rattle.operations.specs.declared.answer.Refusal as enums
 use Rattle.operations.specs.Answers.{numberOf}
 use Rattle.operations.specs.Ends.{Buffers, buffers, ended, found, ends}
 use Rattle.operations.proofs.Endings.{refused, done}
-use Rattle.operations.proofs.Passed.{buffersBad, byLength, checksOn, Checked, tests-left, ended-early}
+use Rattle.operations.proofs.Passed.{number-some, buffersBad, refused-first, byLength, checksOn, Checked, tests-left, ended-early, past-is-4}
 
--- 1 to 3 for what is borrowed, then `rest`; `cleared` says whether the scratch map is all 0 once the three are past
+-- 1 to 4 for what is borrowed and the table, then `rest`; `cleared` says whether the scratch map is all 0 once 3 is past
 pub record Tested (op : Operation) (s : State) (map scratch script : Option (List ℕ)) (cleared : Bool) (rest : Geometry → List Refusal) : Type 0 where
   pub tests : refusal (refusals op s)
       ≡ refusal (checked (s .image) (buffersBad (s .image) (byLength map) (byLength scratch) (byLength script)) (rest (geometryOf (reads (s .image)))))
   pub leaves-all : (n : ℕ) → leaves op s n ≡ s
-  pub clears-past : (n : ℕ) → pastChecks n ≡ true → clears op n ≡ cleared
+  pub clears-past : (n : ℕ) → clears op n ≡ cleared && pastChecks n
 
 -- the buffers as they are left where nothing is written
 abbrev pub leftAs : Bool → Buffers → Buffers
@@ -40,9 +41,17 @@ leftAs cleared b = buffers (cond cleared (clearMap (length (b .scratch))) (b .sc
 
 module _ {op : Operation} {s : State} {map scratch script : Option (List ℕ)} {cleared : Bool} {rest : Geometry → List Refusal}
     (o : Tested op s map scratch script cleared rest) (b : Buffers) where
-  -- 1, 2 or 3
-  pub check-bad : {v : Verdict} {why : enums.Refusal} → v ≡ checksOn (s .image) map scratch script → v ≡ Refused why → ended (numberOf why) 0 s b ≡ ends op s b
-  check-bad = ended-early op s b (byLength map) (byLength scratch) (byLength script) _ (o .tests)
+  -- 1, 2, 3, or 4 for the table, which clears a scratch map
+  pub check-bad : {v : Verdict} {why : enums.Refusal} → v ≡ checksOn (s .image) map scratch script → v ≡ Refused why
+      → ended (numberOf why) 0 s (leftAs (cleared && eqb (numberOf why) 4) b) ≡ ends op s b
+  unfolding scratchAfter
+  check-bad {why = why} is told =
+      let n = numberOf why in
+      let most = refused-first (s .image) (byLength map) (byLength scratch) (byLength script) (sym told ∙ is) .most in
+      let past : clears op n ≡ cleared && eqb n 4 = o .clears-past n ∙ ap (λ c. cleared && c) (past-is-4 n (number-some why) most) in
+      let left : ended n 0 (leaves op s n) (buffers (scratchAfter (clears op n) (b .scratch)) (b .script) (b .list))
+      ≡ ended n 0 s (leftAs (cleared && eqb n 4) b) = rw (o .leaves-all n, past) refl in
+      sym left ∙ ended-early op s b (byLength map) (byLength scratch) (byLength script) _ (o .tests) is told
 
   module _ {g : Geometry} (p : Checked (s .image) map scratch script g) where
     later : refusal (refusals op s) ≡ refusal (rest g)
@@ -52,10 +61,10 @@ module _ {op : Operation} {s : State} {map scratch script : Option (List ℕ)} {
     unfolding scratchAfter
     refused-past n e l =
         let past : pastChecks n ≡ true = rw (ne-eqb n 0 (λ q. omega arith), lt-ltb 3 n l) refl in
-        sym (refused op s b n (later ∙ e) (λ q. omega arith) (o .leaves-all n) ∙ rw (o .clears-past n past) refl)
+        sym (refused op s b n (later ∙ e) (λ q. omega arith) (o .leaves-all n) ∙ rw (o .clears-past n, past, and-true cleared) refl)
 
     pub done-past : refusal (rest g) ≡ 0 → ends op s b ≡ found op (record { answer = 0; work = granted op s; cleared = cleared; places-left = leftBy op s }) b
-    done-past e = done op s b (later ∙ e) ∙ rw (o .clears-past 0 refl) refl
+    done-past e = done op s b (later ∙ e) ∙ rw (o .clears-past 0, and-true cleared) refl
 
 -- ---- an operation on a reel
 

@@ -10,6 +10,7 @@ use lib.ListN.{length, take}
 use lib.Dec.{eqb}
 use Rattle.tree.specs.Memory.{reads, segmented, decode, Fit}
 use Rattle.tree.specs.Layout.{mapWords, geometryOf}
+use Rattle.tree.specs.Fingerprint.{isGiven}
 use Rattle.book.specs.State.{State, Operation, format, recover, openReel, claim, fill, commit, abandon, remove, retire, query, Query, has, list, arguments}
 use Rattle.book.specs.Perform.{perform}
 use Rattle.book.specs.CarryOut.{carry, carried}
@@ -31,7 +32,7 @@ queryCounted (has reel f) = number-alone
 queryCounted (list scratch room reel) = frames
 
 abbrev pub counted : Operation → Counted
-counted (format words slots nodes) = nothing
+counted (format words table slots nodes) = nothing
 counted (recover words) = nothing
 counted (openReel words script reel) = script-words
 counted (claim words script h reel f) = script-words
@@ -92,7 +93,7 @@ pub record Refused (op : Operation) (s : State) (b : Buffers) (e : Ends) : Type 
 
 -- the operation is lent a map of another length than the geometry's
 pub data OtherMap (image : List ℕ) : Operation → Type 0 where
-  by-format : {words slots nodes : ℕ} → words ≢ mapWords (record { slots = slots; nodes = nodes }) → OtherMap image (format words slots nodes)
+  by-format : {words slots nodes : ℕ} {table : List ℕ} → words ≢ mapWords (record { slots = slots; nodes = nodes }) → OtherMap image (format words table slots nodes)
   by-recover : {words : ℕ} → words ≢ mapWords (geometryOf (reads image)) → OtherMap image (recover words)
   by-open : {words script reel : ℕ} → words ≢ mapWords (geometryOf (reads image)) → OtherMap image (openReel words script reel)
   by-claim : {words script h reel f : ℕ} → words ≢ mapWords (geometryOf (reads image)) → OtherMap image (claim words script h reel f)
@@ -115,7 +116,7 @@ pub record Fits (op : Operation) (s : State) : Type 0 where
 -- a buffer that is not the book's map: one of another length, or whatever a format is lent, whose N is its own
 pub data OtherBuffer (image : List ℕ) : Operation → Type 0 where
   another-length : {op : Operation} → OtherMap image op → OtherBuffer image op
-  to-format : {words slots nodes : ℕ} → OtherBuffer image (format words slots nodes)
+  to-format : {words slots nodes : ℕ} {table : List ℕ} → OtherBuffer image (format words table slots nodes)
 
 -- a call on the book's image and heads: with its map, or with another buffer. What the contract then says
 pub data Called (op : Operation) (s : State) (b : Buffers) (e : Ends) : Type 0 where
@@ -139,8 +140,8 @@ pub record Chain : Type 0 where
   pub refused : (op : Operation) (s : State) (b : Buffers) (e : Ends) → e ≡ ends op s b → e .answer ≢ 0 → Refused op s b e
   pub other-map : (op : Operation) (image pool heads : List ℕ) (b : Buffers) (e : Ends) → OtherMap image op
       → e ≡ ends op (state image pool heads) b → Unread op image heads b e
-  pub starts : (words slots nodes : ℕ) (s : State) (b : Buffers) (e : Ends) → Fits (format words slots nodes) s
-      → e ≡ ends (format words slots nodes) s b → e .answer ≡ 0 → Follows (next (format words slots nodes) e) (emptyTable slots nodes)
+  pub starts : (words : ℕ) (table : List ℕ) (slots nodes : ℕ) (s : State) (b : Buffers) (e : Ends) → Fits (format words table slots nodes) s
+      → e ≡ ends (format words table slots nodes) s b → e .answer ≡ 0 → Follows (next (format words table slots nodes) e) (emptyTable (isGiven table) slots nodes)
   pub starts-on : (words : ℕ) (s : State) (b : Buffers) (e : Ends) → Fits (recover words) s
       → e ≡ ends (recover words) s b → e .answer ≡ 0 → Follows (next (recover words) e) (tableOf (s .image))
   pub goes-on : (op : Operation) (s : State) (t : Table) (b : Buffers) (e : Ends) → Follows s t → Fits op s → (c : Called op s b e)

@@ -10,6 +10,7 @@ use lib.ListN.{length}
 use lib.Dec.{eqb}
 use Rattle.tree.specs.Memory.{reads, Entry, decode, CrashImage, passed, Fit}
 use Rattle.tree.specs.Layout.{mapWords, geometryOf}
+use Rattle.tree.specs.Fingerprint.{isGiven}
 use Rattle.book.specs.State.{State, Operation, format, recover, arguments}
 use Rattle.book.specs.Table.{Table, emptyTable, allIdle}
 use Rattle.book.specs.Agrees.{Shows, Agrees}
@@ -70,8 +71,8 @@ pub data Whole (es : List Entry) (k : ℕ) (before after : Table) (s' : State) :
 -- whatever a driver that keeps to the contracts can come to, and the plain table for it
 pub data Driven : State → Table → Type 0 where
   -- a format that is answered, over any memory, any map and any heads
-  formats : (words slots nodes : ℕ) (s : State) (b : Buffers) (e : Ends) → Fits (format words slots nodes) s
-      → e ≡ ends (format words slots nodes) s b → e .answer ≡ 0 → Driven (next (format words slots nodes) e) (emptyTable slots nodes)
+  formats : (words : ℕ) (table : List ℕ) (slots nodes : ℕ) (s : State) (b : Buffers) (e : Ends) → Fits (format words table slots nodes) s
+      → e ≡ ends (format words table slots nodes) s b → e .answer ≡ 0 → Driven (next (format words table slots nodes) e) (emptyTable (isGiven table) slots nodes)
   -- an image of either edition that shows a table, and recover called until it answers 0
   finds : {m : List ℕ} {s : State} {t : Table} → Shows m t → Recovers m s → Driven s (allIdle t)
   -- any operation, answered or refused; the words that it handed out are carried out

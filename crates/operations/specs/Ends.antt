@@ -39,7 +39,7 @@ ended answer count after b = endedLeft answer count 0 after b
 -- the count handed back: Has's yes or no, List's frames, else the script's words
 abbrev pub countIn : Operation → Work → ℕ
 countIn (query q) w = w .handed .value
-countIn (format map slots nodes) w = 0
+countIn (format map table slots nodes) w = 0
 countIn (recover map) w = 0
 countIn (openReel map script reel) w = 2 * length (segmented (w .script))
 countIn (claim map script h reel f) w = 2 * length (segmented (w .script))

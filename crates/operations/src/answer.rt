@@ -17,6 +17,7 @@ pub enum Refusal {
     HeadState,
     Busy,
     ListShort,
+    GivenTable,
 }
 
 // Done, with the count that is handed back (the script's words, Has's yes or no, List's frames), or refused.

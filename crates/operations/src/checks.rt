@@ -1,9 +1,16 @@
-// The checks that come first: 1 for the image, 2 for its edition, 3 for the other buffers.
+// The checks that come first: 1 for the image, 2 for its edition, 3 for the other buffers, 4 for a table of its own that is bad.
 ghost use mathlib.Core.Path.{_≡_};
+ghost use mathlib.Core.Bool.{cond};
 ghost use Prim.Native.Nat.{_≤_};
+ghost use lib.ListN.{length};
+ghost use lib.Dec.{eqb};
 ghost use Rattle.tree.specs.Test.{holds};
+ghost use Rattle.tree.specs.Pool.{clearMap};
+ghost use Rattle.operations.specs.Answers.{numberOf};
 ghost use Rattle.operations.specs.Checked.{mapBad, scriptBad, firstChecks};
 use crate::answer::Refusal;
+use fingerprints::own_table::bad_own;
+use pool::pool_map::clear_map;
 use tree::layout::Geometry;
 use tree::layout::bad_edition;
 use tree::layout::bad_image;
@@ -43,7 +50,7 @@ pub enum Verdict {
     Refused(Refusal),
 }
 
-// 1, 2 and 3, in this sequence.
+// 1, 2, 3 and 4, in this sequence.
 pub fn checks(image: &[u64], map: Buffer, scratch: Buffer, script: Buffer) -> Verdict
     ensures { λ r. ⌜ r ≡ firstChecks (now (image .entry)) map scratch script ⌝ }
 {
@@ -58,5 +65,20 @@ pub fn checks(image: &[u64], map: Buffer, scratch: Buffer, script: Buffer) -> Ve
     if buffer_bad {
         return Verdict::Refused(Refusal::Buffer);
     }
+    if bad_own(image) {
+        return Verdict::Refused(Refusal::Malformed);
+    }
     Verdict::Passed(g)
+}
+
+// What a refusal of the checks leaves of a map that a 4 clears: the scratch map of List and Retire, Recover's pool map.
+pub fn clear_on_4(map: &mut [u64], why: Refusal)
+    ensures { λ _. ⌜
+        now (map .exit)
+        ≡ cond (eqb (numberOf why) 4) (clearMap (length (now (map .entry)))) (now (map .entry))
+        ⌝ }
+{
+    if let Refusal::Malformed = why {
+        clear_map(map);
+    }
 }

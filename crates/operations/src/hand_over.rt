@@ -30,6 +30,7 @@ pub fn number(why: Refusal) -> u64
         Refusal::HeadState => 12,
         Refusal::Busy => 13,
         Refusal::ListShort => 14,
+        Refusal::GivenTable => 16,
     }
 }
 

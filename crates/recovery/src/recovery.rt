@@ -80,7 +80,8 @@ fn mend(image: &mut [u64], pool: &[u64], g: Geometry)
     }
 }
 
-// Is the image sound? Then the map marks exactly the nodes reached, else it is all 0. The image is only read.
+// Is the image sound, by its own rule? Then the map marks exactly the nodes reached, else it is all 0. The image is only read.
+// Its own table, where it has one, is tested before.
 pub fn check_image(image: &[u64], pool: &mut [u64], g: Geometry) -> bool
     requires { ⌜ Sized (now image) g × (length (now pool) ≡ mapWords g) ⌝ }
     ensures { λ r. ⌜

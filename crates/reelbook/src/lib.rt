@@ -30,22 +30,24 @@ use reels::retire;
 pub use book::HEAD_WORDS;
 pub use tree::persistent::count_stores;
 
-// Makes the image anew, with so many reel slots and nodes.
+// Makes the image anew, with so many reel slots and nodes, and with a table of its own where one is given: 256 bytes, each
+// once. One of length 0 is none.
 #[no_mangle]
 pub extern "C" fn reelbook_format(
     image: &mut [u64],
     map: &mut [u64],
     heads: &mut [u64; HEAD_WORDS],
+    table: &[u8],
     slots: u64,
     nodes: u64,
 ) -> u64
     ensures { λ r. ⌜
         ended r 0 (state (now (image .exit)) (now (map .exit)) (now (heads .exit))) noBuffers
-        ≡ ends (format (length (now (map .entry))) slots nodes)
+        ≡ ends (format (length (now (map .entry))) (now (table .entry)) slots nodes)
         (state (now (image .entry)) (now (map .entry)) (now (heads .entry))) noBuffers
         ⌝ }
 {
-    hand_over_fresh(format::format(image, map, slots, nodes), heads)
+    hand_over_fresh(format::format(image, map, table, slots, nodes), heads)
 }
 
 // After power-up: checks the image, sets its locate words, builds the map, makes the heads idle.

@@ -55,7 +55,7 @@ module _ (im pool ws scratch frames : List ℕ) (reel : ℕ) where
 
   pub on-list : OnReel op start none (some scratch) none true reel listRest
   unfolding refusals leaves clears
-  on-list = record { tested = record { tests = same-checks im _ _ _ (sym (or-false _)); leaves-all = λ n. refl; clears-past = λ n e. e } }
+  on-list = record { tested = record { tests = same-checks im _ _ _ (sym (or-false _)); leaves-all = λ n. refl; clears-past = λ n. refl } }
 
   module _ {g : Geometry} {slot : ℕ} (p : SlotRead im none (some scratch) none reel g slot) (inside : slot < g .slots) where
     all-listed : isSoundTree g (reads im) slot ≡ true → ltb (length frames) (length (listing g (reads im) slot)) ≡ false

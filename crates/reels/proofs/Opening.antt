@@ -44,7 +44,7 @@ module _ (im pool script heads : List ℕ) (reel : ℕ) where
 
   pub on-open : Tested op start (some pool) none (some script) false laterTests
   unfolding refusals leaves clears
-  on-open = record { tests = same-checks im _ _ _ refl; leaves-all = λ n. refl; clears-past = λ n e. refl }
+  on-open = record { tests = same-checks im _ _ _ refl; leaves-all = λ n. refl; clears-past = λ n. refl }
 
   module _ (g : Geometry) (p : OpenChecked im pool script g) where
     ends-with : (n : ℕ) → refusal (laterTests g) ≡ n → 3 < n → ended n 0 start borrowed ≡ ends op start borrowed

@@ -44,7 +44,7 @@ module _ (im pool ws scratch script : List ℕ) (reel : ℕ) where
 
   pub on-retire : OnReel op start (some pool) (some scratch) (some script) true reel retireRest
   unfolding refusals leaves clears
-  on-retire = record { tested = record { tests = same-checks im _ _ _ refl; leaves-all = λ n. refl; clears-past = λ n e. e } }
+  on-retire = record { tested = record { tests = same-checks im _ _ _ refl; leaves-all = λ n. refl; clears-past = λ n. refl } }
 
   module _ {g : Geometry} {slot : ℕ} (p : SlotRead im (some pool) (some scratch) (some script) reel g slot) (inside : slot < g .slots)
       (heads : List Head) (read : headsIn ws ≡ heads) where

@@ -12,6 +12,7 @@ use operations::answer::Refusal;
 use operations::checks::Buffer;
 use operations::checks::Verdict;
 use operations::checks::checks;
+use operations::checks::clear_on_4;
 use pool::pool_map::clear_map;
 use walks::trees::Listing;
 use walks::trees::list_tree;
@@ -33,7 +34,10 @@ pub fn list(image: &[u64], scratch: &mut [u64], list: &mut [u64], reel: u64) -> 
         Buffer::Absent,
     ) {
         Verdict::Passed(g) => g,
-        Verdict::Refused(why) => return Answer::Refused(why),
+        Verdict::Refused(why) => {
+            clear_on_4(scratch, why);
+            return Answer::Refused(why);
+        }
     };
     let slot = slot_of(image, g, reel);
     if g.slots <= slot {

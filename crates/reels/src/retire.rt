@@ -15,6 +15,7 @@ use operations::answer::Refusal;
 use operations::checks::Buffer;
 use operations::checks::Verdict;
 use operations::checks::checks;
+use operations::checks::clear_on_4;
 use operations::heads::is_busy;
 use pool::pool_map::clear_map;
 use tree::layout::root_at;
@@ -47,7 +48,10 @@ pub fn retire(
         Buffer::Words(script.len()),
     ) {
         Verdict::Passed(g) => g,
-        Verdict::Refused(why) => return Answer::Refused(why),
+        Verdict::Refused(why) => {
+            clear_on_4(scratch, why);
+            return Answer::Refused(why);
+        }
     };
     let slot = slot_of(image, g, reel);
     if g.slots <= slot {

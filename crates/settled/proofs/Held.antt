@@ -22,7 +22,7 @@ use Rattle.tree.specs.Pool.{used, mark}
 use Rattle.tree.proofs.Cases.{not-false, true-not-false}
 use Rattle.tree.proofs.Tests.{says, said}
 use Rattle.tree.proofs.Laws.{pool-laws}
-use Rattle.nodes.proofs.NodeCode.{fingerprint-small}
+use Rattle.fingerprints.proofs.Folds.{fingerprint-small}
 use Rattle.settled.specs.Settled.{Met, holdsAt}
 
 module _ (g : Geometry) (m : Memory) (n : ℕ) where

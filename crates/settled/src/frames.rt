@@ -7,19 +7,20 @@ ghost use Rattle.memory.specs.Search.{first};
 ghost use Rattle.tree.specs.Layout.{Sized};
 ghost use Rattle.tree.specs.Lists.{every};
 ghost use Rattle.tree.specs.Path.{levels};
-ghost use Rattle.tree.specs.Fingerprint.{theTable, fingerprint, ruleOf};
+ghost use Rattle.tree.specs.Fingerprint.{fingerprint, ruleOf};
 ghost use Rattle.tree.specs.Node.{frame};
 ghost use Rattle.tree.specs.Pool.{mark};
 ghost use Rattle.tree.specs.Slots.{Filled};
 ghost use Rattle.tree.specs.Subtree.{tree};
 ghost use Rattle.tree.specs.Check.{isSoundTree, inPlace};
+ghost use Rattle.fingerprints.specs.Tables.{tableIn};
 ghost use Rattle.settled.specs.Settled.{Formed, Known, KnownGroup, Met};
 ghost use Rattle.settled.specs.Settled.{isAbsent, absentBelow, holdsAt, settledAt, settledNode, settledTree, settledGroup};
+use fingerprints::fingerprint::fold;
+use fingerprints::fingerprint::table_in;
 use memory::words::byte_of;
 use memory::words::is_set;
 use memory::words::without_bit;
-use nodes::fingerprint::fold;
-use nodes::fingerprint::table;
 use paths::descent::Seen;
 use paths::descent::Step;
 use paths::descent::Trail;
@@ -109,7 +110,7 @@ fn settled_at(
         Sized (now image) g
         × Known g (reads (now image)) t
         × (p < 64)
-        × (now table ≡ theTable)
+        × (now table ≡ tableIn (reads (now image)))
         × Met g (reads (now image)) (t .node) (λ q. q < p) (now met)
         ⌝ }
     ensures { λ r. ⌜
@@ -139,7 +140,7 @@ fn settled_at(
 
 // Is every frame held in a node settled?
 fn settled_node(image: &[u64], table: &[u8], g: Geometry, t: Subtree) -> bool
-    requires { ⌜ Sized (now image) g × Known g (reads (now image)) t × (now table ≡ theTable) ⌝ }
+    requires { ⌜ Sized (now image) g × Known g (reads (now image)) t × (now table ≡ tableIn (reads (now image))) ⌝ }
     ensures { λ r. ⌜ r ≡ settledNode g (reads (now (image .entry))) (t .left) (levels - t .left) (t .node) (t .suffix) ⌝ }
 {
     // The set bits of the places not yet tested, and a bit for each fingerprint of the others.
@@ -157,7 +158,7 @@ fn settled_node(image: &[u64], table: &[u8], g: Geometry, t: Subtree) -> bool
 
 // Is every frame held in a node and in all below it, levels left, settled?
 fn settled_tree(image: &[u64], table: &[u8], g: Geometry, t: Subtree) -> bool
-    requires { ⌜ Sized (now image) g × Known g (reads (now image)) t × (t .suffix < t .unit) × (now table ≡ theTable) ⌝ }
+    requires { ⌜ Sized (now image) g × Known g (reads (now image)) t × (t .suffix < t .unit) × (now table ≡ tableIn (reads (now image))) ⌝ }
     ensures { λ r. ⌜ r ≡ settledTree g (reads (now (image .entry))) (t .left) (levels - t .left) (t .node) (t .suffix) ⌝ }
 {
     if !settled_node(image, table, g, t) {
@@ -182,7 +183,7 @@ fn settled_group(image: &[u64], table: &[u8], g: Geometry, t: Subtree, count: us
         Sized (now image) g
         × KnownGroup g (reads (now image)) t count
         × (t .suffix < t .unit)
-        × (now table ≡ theTable)
+        × (now table ≡ tableIn (reads (now image)))
         ⌝ }
     ensures { λ r. ⌜
         r ≡ settledGroup g (reads (now (image .entry))) (t .left) (levels - t .left) (t .node) count (t .unit) (t .suffix)
@@ -216,7 +217,7 @@ pub fn frames_in_place(image: &[u64], g: Geometry, slot: usize) -> bool
         ⌝ }
 {
     let root = root_of(image, g, slot) as usize;
-    let table = table();
+    let table = table_in(image);
     let whole = Subtree {
         left: 32,
         node: root - 1,

@@ -1,6 +1,6 @@
 -- A crash with two claims in one tree: a history comes to such a book, and a crash in its commit may keep or lose the frame.
 use mathlib.Core.Path.{_≡_, refl}
-use mathlib.Core.List.{List, _∷_, flatMap}
+use mathlib.Core.List.{List, [], _∷_, flatMap}
 use Prim.Native.Nat.{ℕ, _^_, _≤_}
 use native.Mathlib.Omega.{arith}
 use Rattle.tree.specs.MemoryComputed.{field, withField, bit, isSet, withBit, byte, withByte, marked, first}
@@ -8,7 +8,7 @@ use Rattle.tree.specs.MemoryComputed.{stores, segmented, apply}
 use Rattle.tree.specs.Layout.{badImage, geometryOf}
 use Rattle.tree.specs.Lists.{upTo, range}
 use Rattle.tree.specs.Path.{child, fanout}
-use Rattle.tree.specs.Fingerprint.{fingerprint, folded, tableEntry, ruleFor, ruleOf}
+use Rattle.tree.specs.Fingerprint.{fingerprint, folded, tableEntry, ruleFor, hasOwn, ruleOf, badOwn, isGiven, badGiven}
 use Rattle.tree.specs.Node.{formed, wellFormed, sizeAllowed}
 use Rattle.tree.specs.Slots.{filled, slotOf, emptySlot}
 use Rattle.tree.specs.Lookup.{firstSpot, path, pathFrom, clearAt, clearSpot, matches, foundAt, lookup, find, isFreeRun, freeRun}
@@ -39,8 +39,8 @@ keeps-words : (k : ℕ) → k ≤ 2 ^ 64 → InWords (flatMap (keeps 7) (upTo k)
 unfolding keeps
 keeps-words k l = each-flatMap (λ op. Words (arguments op)) (keeps 7) (upTo k) (λ f x. omega (arith, upTo-members k .0 x))
 
-format-answers : perform (format 1 1 3) (zeros 1 3) .answer ≡ 0
-unfolding perform refusals badImage refusal
+format-answers : perform (format 1 [] 1 3) (zeros 1 3) .answer ≡ 0
+unfolding perform refusals badImage refusal badGiven isGiven
 format-answers = refl
 
 history : (t : Table) × Follows twoInTree t
@@ -62,7 +62,7 @@ record Computed : Type 0 where
   present : perform (query (has 7 64)) (done (commit 50 0) twoInTree) .work .handed .value ≡ 1
 
 computed : Computed
-unfolding twoInTree run formatted keeps withFrames flatMap upTo range perform granted leaves clears refusals badImage refusal geometryOf formatStores openScript roomScript claimScript fillScript apply segmented stores first marked isSet withBit byte withByte field withField bit slotOf emptySlot filled freeRun isFreeRun mark markAll headAt stateOf wordsOf withHead anyHead pathFrom path wellFormed formed sizeAllowed clearSpot clearAt firstSpot roomOn fullRoom lastOf find lookup foundAt matches fingerprint folded tableEntry ruleFor ruleOf child fanout
+unfolding twoInTree run formatted keeps withFrames flatMap upTo range perform granted leaves clears refusals badImage refusal geometryOf formatStores openScript roomScript claimScript fillScript apply segmented stores first marked isSet withBit byte withByte field withField bit slotOf emptySlot filled freeRun isFreeRun mark markAll headAt stateOf wordsOf withHead anyHead pathFrom path wellFormed formed sizeAllowed clearSpot clearAt firstSpot roomOn fullRoom lastOf find lookup foundAt matches fingerprint folded tableEntry ruleFor hasOwn ruleOf badOwn isGiven badGiven child fanout
 computed = record { head-0 = refl; head-1 = refl; third = refl; answered = refl; absent = refl; present = refl }
 
 tells : Tells twoInTree 0 7 64

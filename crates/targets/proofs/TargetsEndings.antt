@@ -60,7 +60,7 @@ module _ (s : State) (script : List ℕ) (h : ℕ) (y : HeadState) (read : headA
   pub on-fill : OnTarget (fill (length script) h) s script h (not (isClaimed y)) (targetOf y) (fillSegs (reads (s .image)) (targetOf y)) (Filled (targetOf y))
   unfolding refusals granted leaves clears
   on-fill = rw (← read) (record {
-    tested = record { tests = same-checks (s .image) _ _ _ refl; leaves-all = λ n. refl; clears-past = λ n e. refl };
+    tested = record { tests = same-checks (s .image) _ _ _ refl; leaves-all = λ n. refl; clears-past = λ n. refl };
     work = refl;
     hands = λ w. refl;
     none-left = refl;
@@ -69,7 +69,7 @@ module _ (s : State) (script : List ℕ) (h : ℕ) (y : HeadState) (read : headA
   pub on-commit : OnTarget (commit (length script) h) s script h (not (isFilled y)) (targetOf y) (commitSegs (reads (s .image)) (targetOf y)) Idle
   unfolding refusals granted leaves clears
   on-commit = rw (← read) (record {
-    tested = record { tests = same-checks (s .image) _ _ _ refl; leaves-all = λ n. refl; clears-past = λ n e. refl };
+    tested = record { tests = same-checks (s .image) _ _ _ refl; leaves-all = λ n. refl; clears-past = λ n. refl };
     work = refl;
     hands = λ w. refl;
     none-left = refl;
@@ -78,7 +78,7 @@ module _ (s : State) (script : List ℕ) (h : ℕ) (y : HeadState) (read : headA
   pub on-abandon : OnTarget (abandon (length script) h) s script h (isIdle y) (targetOf y) (abandonSegs (reads (s .image)) (targetOf y)) Idle
   unfolding refusals granted leaves clears
   on-abandon = rw (← read) (record {
-    tested = record { tests = same-checks (s .image) _ _ _ refl; leaves-all = λ n. refl; clears-past = λ n e. refl };
+    tested = record { tests = same-checks (s .image) _ _ _ refl; leaves-all = λ n. refl; clears-past = λ n. refl };
     work = refl;
     hands = λ w. refl;
     none-left = refl;

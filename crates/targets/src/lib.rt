@@ -15,7 +15,7 @@ ghost use Rattle.operations.specs.Ends.{buffers, state as kept, ended, ends};
 use book::HEADS;
 use book::HeadState;
 use book::Target;
-use nodes::fingerprint::fingerprint_word;
+use fingerprints::fingerprint::fingerprint_word;
 use operations::answer::HeadAnswer;
 use operations::answer::Refusal;
 use operations::checks::Buffer;

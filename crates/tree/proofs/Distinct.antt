@@ -15,12 +15,12 @@ use Rattle.tree.proofs.Lists.{within, together, in-range, kept}
 module _ {A : Type 0} (key : A → ℕ) where
   -- ---- the test
 
-  has-key : {xs : List A} {y : A} → List·Memᴰ y xs → hasKey key (key y) xs ≡ true
+  pub has-key : {xs : List A} {y : A} → List·Memᴰ y xs → hasKey key (key y) xs ≡ true
   unfolding hasKey
   has-key {y = y} (List·Memᴰ·head {x} {xs} q) = or-left (hasKey key (key y) xs) (eq-eqb (key x) (key y) (ap key (sym q)))
   has-key {y = y} (List·Memᴰ·tail {x} {xs} z) = or-right (eqb (key x) (key y)) (has-key z)
 
-  key-has : (k : ℕ) (xs : List A) → hasKey key k xs ≡ true → (y : A) × List·Memᴰ y xs × (key y ≡ k)
+  pub key-has : (k : ℕ) (xs : List A) → hasKey key k xs ≡ true → (y : A) × List·Memᴰ y xs × (key y ≡ k)
   unfolding hasKey
   key-has k [] h = absurd (true-not-false h refl)
   key-has k (x ∷ xs) h = go (or-true (eqb (key x) k) (hasKey key k xs) h) (λ t. key-has k xs t)

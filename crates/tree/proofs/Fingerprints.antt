@@ -1,29 +1,47 @@
 -- Fingerprints over a table in which each byte occurs once.
 use mathlib.Core.Path.{_≡_, refl, sym, _∙_, ap, ap₂}
-use mathlib.Core.Logic.{_≢_}
-use mathlib.Core.Bool.{true}
+use mathlib.Core.Logic.{inl, inr, _≢_}
+use mathlib.Core.Bool.{true, false}
 use Prim.Native.Nat.{ℕ, zero, suc, _+_, _*_, _/_, _%_, _^_, _<_}
 use native.Mathlib.Omega.{arith}
 use native.Mathlib.Decide.{ℕ-discrete}
 use native.Mathlib.Nat.{pow-suc}
 use mathlib.Core.List.{map}
-use lib.ListN.{getD, length}
+use lib.ListN.{getD, length, length-map}
 use lib.Bits.{bitXor, differ, xor-step, xor-comm, xor-lt}
 use Rattle.memory.specs.Words.{Memory, byte}
 use Rattle.memory.proofs.Laws.{byte-laws}
-use Rattle.tree.specs.Fingerprint.{folded, fingerprint, tableEntry, theTable, ruleFor, ruleOf, OnceEach}
+use Rattle.tree.specs.Layout.{editionAt, tableAt}
+use Rattle.tree.specs.Fingerprint.{folded, fingerprint, tableEntry, theTable, ruleFor, entryIn, ownRule, hasOwn, unpacked, storedTable, ruleOf, OnceEach}
 use Rattle.tree.specs.Test.{eq, _and_, holds}
 use Rattle.tree.specs.Lists.{range, upTo, every}
 use Rattle.tree.specs.Laws.{FingerprintLaws}
+use Rattle.tree.proofs.Cases.{test}
 use Rattle.tree.proofs.Tests.{says}
 use Rattle.tree.proofs.Lists.{upTo-members, every-at}
+use Rattle.tree.proofs.Pigeon.{length-upTo}
+
+-- entries that are bytes
+abbrev pub Bytes : (ℕ → ℕ) → Type 0
+Bytes table = (i : ℕ) → i < 256 → table i < 256
+
+-- a fold over them is a byte
+pub bytes-lt : {table : ℕ → ℕ} → Bytes table → (k f : ℕ) → folded table k f < 256
+unfolding folded
+bytes-lt t zero f = omega arith
+bytes-lt {table} t (suc k) f =
+    let h : ℕ = folded table k f in
+    t (bitXor h _) (xor-lt 8 h _ (bytes-lt t k f) (byte-laws .byte-fits f _))
+
+-- and goes by them alone
+pub same-table : {table table' : ℕ → ℕ} → Bytes table → ((i : ℕ) → i < 256 → table i ≡ table' i) → (k f : ℕ) → folded table k f ≡ folded table' k f
+unfolding folded
+same-table t e zero f = refl
+same-table {table} t e (suc k) f =
+    rw (← same-table t e k f) (e _ (xor-lt 8 (folded table k f) _ (bytes-lt t k f) (byte-laws .byte-fits f _)))
 
 pub folded-lt : {table : ℕ → ℕ} → OnceEach table → (k f : ℕ) → folded table k f < 256
-unfolding folded
-folded-lt t zero f = omega arith
-folded-lt {table} t (suc k) f =
-    let h : ℕ = folded table k f in
-    t .entries (bitXor h _) (xor-lt 8 h _ (folded-lt t k f) (byte-laws .byte-fits f _))
+folded-lt t k f = bytes-lt (t .entries) k f
 
 entry-lt : (i : ℕ) → tableEntry i < 256
 unfolding tableEntry
@@ -49,20 +67,43 @@ table-once = record {
     both : (i : ℕ) → i < 256 → (placeOf (tableEntry i) ≡ i) × (tableEntry (placeOf i) ≡ i)
     both i h = says (eq (placeOf (tableEntry i)) i and eq (tableEntry (placeOf i)) i) (every-at _ inverses (upTo-members 256 .1 h))
 
--- the rule as a list of 256 entries, which the code's table is
-range-at : (from n i : ℕ) → i < n → getD (map tableEntry (range from n)) i 0 ≡ tableEntry (from + i)
-unfolding range
-range-at from zero i h = absurd (omega arith)
-range-at from (suc n) zero h = let q : from ≡ from + 0 = omega arith in ap tableEntry q
-range-at from (suc n) (suc i) h = let q : suc from + i ≡ from + suc i = omega arith in range-at (suc from) n i (omega arith) ∙ ap tableEntry q
+-- ---- tables as lists of 256 entries
 
+-- a list made of a function's values in turn
+range-at : (f : ℕ → ℕ) (from n i : ℕ) → i < n → getD (map f (range from n)) i 0 ≡ f (from + i)
+unfolding range
+range-at f from zero i h = absurd (omega arith)
+range-at f from (suc n) zero h = let q : from ≡ from + 0 = omega arith in ap f q
+range-at f from (suc n) (suc i) h = let q : suc from + i ≡ from + suc i = omega arith in range-at f (suc from) n i (omega arith) ∙ ap f q
+
+pub made-at : (f : ℕ → ℕ) (n i : ℕ) → i < n → getD (map f (upTo n)) i 0 ≡ f i
+unfolding upTo
+made-at f n i h = let q : 0 + i ≡ i = omega arith in range-at f 0 n i h ∙ ap f q
+
+pub made-length : (f : ℕ → ℕ) (n : ℕ) → length (map f (upTo n)) ≡ n
+made-length f n = length-map (upTo n) f ∙ length-upTo n
+
+-- the paper's, which the code's table is
 pub table-at : (i : ℕ) → i < 256 → getD theTable i 0 ≡ tableEntry i
-unfolding theTable upTo
-table-at i h = let q : 0 + i ≡ i = omega arith in range-at 0 256 i h ∙ ap tableEntry q
+unfolding theTable
+table-at = made-at tableEntry 256
 
 pub table-length : length theTable ≡ 256
-unfolding theTable upTo range
-table-length = refl
+unfolding theTable
+table-length = made-length tableEntry 256
+
+-- and one in words
+module _ (m : Memory) (from : ℕ) where
+  pub unpacked-at : (i : ℕ) → i < 256 → getD (unpacked m from) i 0 ≡ byte (m (from + i / 8)) (i % 8)
+  unfolding unpacked
+  unpacked-at = made-at (λ i. byte (m (from + i / 8)) (i % 8)) 256
+
+  pub unpacked-length : length (unpacked m from) ≡ 256
+  unfolding unpacked
+  unpacked-length = made-length (λ i. byte (m (from + i / 8)) (i % 8)) 256
+
+  pub unpacked-bytes : Bytes (entryIn (unpacked m from))
+  unpacked-bytes i h = rw (unpacked-at i h) (byte-laws .byte-fits (m (from + i / 8)) (i % 8))
 
 -- ---- the bytes that it goes by
 
@@ -114,9 +155,22 @@ folded-by-each {table} t (suc k) j f f' l h e =
           folded-by-each t k j f f' (omega arith) (λ i o n. h i (omega arith) n) (xor-once 8 (byte f k) a a' small small' r)
     ]
 
+-- ---- the rule of an image
+
+pub own-rule : (m : Memory) → hasOwn m ≡ true → ruleOf m ≡ ownRule (storedTable m)
+unfolding ruleOf
+own-rule m e = rw e refl
+
+pub our-rule : (m : Memory) → hasOwn m ≡ false → ruleOf m ≡ ruleFor (m editionAt)
+unfolding ruleOf
+our-rule m e = rw e refl
+
 rule-lt : (m : Memory) (f : ℕ) → fingerprint (ruleOf m) f < 256
-unfolding fingerprint ruleFor ruleOf
-rule-lt m f = folded-lt table-once _ f
+unfolding fingerprint ruleFor ownRule
+rule-lt m f = elim (test (hasOwn m)) [
+  | inl e ↦ rw (own-rule m e) (bytes-lt (unpacked-bytes m tableAt) 8 f)
+  | inr e ↦ rw (our-rule m e) (folded-lt table-once _ f)
+]
 
 pub fingerprint-laws : FingerprintLaws
 fingerprint-laws = record { table-once = table-once; fits = λ t k f. folded-lt t k f; alike = folded-alike; by-each = λ t. folded-by-each t; rule-fits = rule-lt }

@@ -13,6 +13,7 @@ use Rattle.tree.proofs.Retire.{retired}
 use Rattle.tree.proofs.SetBit.{committed, removed}
 pub use Rattle.tree.proofs.Slots.{slot-laws}
 pub use Rattle.tree.proofs.Fingerprints.{fingerprint-laws}
+pub use Rattle.tree.proofs.OwnTables.{table-laws, rule-laws}
 pub use Rattle.tree.proofs.Paths.{path-laws}
 pub use Rattle.tree.proofs.Spots.{spot-laws}
 pub use Rattle.tree.proofs.Lookup.{lookup-says, lookup-rule}

@@ -21,8 +21,9 @@ pub mod Link
 pub mod Retire
 pub mod SetBit
 pub mod Decide
-pub mod Fingerprints
 pub mod Pigeon
+pub mod Fingerprints
+pub mod OwnTables
 pub mod Ones
 pub mod PlacesLeft
 pub mod Level

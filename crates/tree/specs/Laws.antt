@@ -4,18 +4,19 @@ use mathlib.Core.Path.{_≡_}
 use mathlib.Core.Bool.{Bool, true, false, not, cond}
 use mathlib.Core.Logic.{_⊎_, _↔_, _≢_}
 use mathlib.Core.Option.{none, some}
-use mathlib.Core.List.{List, _∷_, _++_, List·Memᴰ}
+use mathlib.Core.List.{List, [], _∷_, _++_, List·Memᴰ}
 use Prim.Native.Nat.{ℕ, suc, _+_, _/_, _%_, _^_, _≤_, _<_}
 use lib.ListN.{length, getElem?}
 use lib.Dec.{ltb}
 use Rattle.memory.specs.Words.{Memory, byte, marked}
 use Rattle.memory.specs.Search.{first}
 use Rattle.memory.specs.Apply.{isSome}
+use Rattle.tree.specs.Test.{holds}
 use Rattle.tree.specs.Lists.{Distinct}
 use Rattle.tree.specs.declared.layout.Geometry.{Geometry}
-use Rattle.tree.specs.Layout.{reelAt, rootAt, nextAt, locateAt, setAt, levelAt, sizeAt}
+use Rattle.tree.specs.Layout.{tableAt, reelAt, rootAt, nextAt, locateAt, setAt, levelAt, sizeAt}
 use Rattle.tree.specs.Path.{fanout, child, wayOf, bitsTo}
-use Rattle.tree.specs.Fingerprint.{Rule, folded, fingerprint, tableEntry, ruleOf, OnceEach}
+use Rattle.tree.specs.Fingerprint.{Rule, folded, fingerprint, tableEntry, theTable, ruleFor, entryIn, ownRule, hasOwn, packed, storedTable, ruleOf, hasEvery, badOwn, badGiven, OnceEach, GoodTable, LacksByte, BadOwn}
 use Rattle.tree.specs.Node.{childOf, wellFormed, held, frame}
 use Rattle.tree.specs.Slots.{Filled, filledSlots, slotOf, emptySlot}
 use Rattle.tree.specs.Reach.{Reaches, Holds, FrameOf}
@@ -85,6 +86,36 @@ pub record FingerprintLaws : Type 0 where
   -- by the rule of any image it is a byte
   pub rule-fits : (m : Memory) (f : ℕ) → fingerprint (ruleOf m) f < 256
 
+-- ---- a mill's own table
+
+pub record TableLaws : Type 0 where
+  -- 256 entries lack no byte exactly if each byte occurs once among them
+  pub lacks-none : (table : List ℕ) → length table ≡ 256 → (hasEvery table ≡ true) ↔ OnceEach (entryIn table)
+  -- so what may be given is no table, or one of 256 entries in which each byte occurs once
+  pub given : (table : List ℕ) → (holds (badGiven table) ≡ false) ↔ ((table ≡ []) ⊎ GoodTable table)
+  -- a table packed into words 8 to 39 is read back, and its words are below 2^64
+  pub read-back : {table : List ℕ} → GoodTable table → (m : Memory) → ((j : ℕ) → j < 32 → m (tableAt + j) ≡ packed table j)
+      → storedTable m ≡ table
+  pub word-fits : {table : List ℕ} → GoodTable table → (j : ℕ) → j < 32 → packed table j < 2 ^ 64
+  -- the paper's is such a table; given as an own one it makes the same fingerprints
+  pub ours : GoodTable theTable
+  pub ours-alike : (f : ℕ) → fingerprint (ownRule theTable) f ≡ fingerprint (ruleFor 2) f
+  -- the test for a bad own table says what it is, byte by byte
+  pub bad : (m : Memory) → (holds (badOwn m) ≡ true) ↔ BadOwn m
+  pub lacks : (table : List ℕ) → length table ≡ 256 → (hasEvery table ≡ false) ↔ LacksByte (entryIn table)
+  -- in the table by which an image is read, its own or the paper's, every byte occurs once, unless it is bad
+  pub image-once : (m : Memory) → holds (badOwn m) ≡ false → OnceEach (ruleOf m .table)
+
+-- the rule by which an image is read, by its words: nothing else of the image goes in
+pub record RuleLaws (m : Memory) : Type 0 where
+  -- edition 1 has no table of its own, whatever words 3 to 63 have
+  pub edition-1 : m 0 ≡ 1 → (hasOwn m ≡ false) × (ruleOf m ≡ ruleFor 1)
+  -- edition 2 goes by the paper's where word 3 is 0, whatever the others have
+  pub no-table : m 0 ≡ 2 → m 3 ≡ 0 → (hasOwn m ≡ false) × (ruleOf m ≡ ruleFor 2)
+  -- and by the bytes of words 8 to 39 where it is 1
+  pub own-table : m 0 ≡ 2 → m 3 ≡ 1
+      → (hasOwn m ≡ true) × (ruleOf m .bytes ≡ 8) × ((i : ℕ) → i < 256 → ruleOf m .table i ≡ byte (m (8 + i / 8)) (i % 8))
+
 -- ---- the path of a frame
 
 -- a malformed node that one of the frame's ways reaches
@@ -140,8 +171,8 @@ pub record Match (r : Rule) (g : Geometry) (m : Memory) (f : ℕ) (ns : List ℕ
 pub record LookupSays (r : Rule) (g : Geometry) (m : Memory) : Type 0 where
   pub yes : (f : ℕ) (ns : List ℕ) → (isSome (lookup r g m f ns) ≡ true) ↔ Match r g m f ns
 
--- the lookup's rule, whatever the table and the number of bytes: on a sound image it finds a frame exactly where it is held,
--- so that its answer is that of comparing all
+-- the lookup's rule, for every table and number of bytes, so for each table in which every byte occurs once: on a sound image it
+-- finds a frame exactly where it is held, so that its answer is that of comparing all
 pub record LookupRule (r : Rule) (g : Geometry) (m : Memory) (s : ℕ) (sound : Sound r g m) (filled : Filled g m s) : Type 0 where
   pub at : (f n p : ℕ) → (find r g m s f ≡ some (spot n p)) ↔ ((w : List ℕ) × Holds g m s w n p f)
   pub yes : (f : ℕ) → (isSome (find r g m s f) ≡ true) ↔ FrameOf g m s f

@@ -38,6 +38,14 @@ slotsAt = 1
 abbrev pub nodesAt : ℕ
 nodesAt = 2
 
+-- in edition 2 word 3 is 1 where the image has a table of its own, and 0 where it has none
+abbrev pub ownAt : ℕ
+ownAt = 3
+
+-- the first of the words that have that table, 8 to 39
+abbrev pub tableAt : ℕ
+tableAt = 8
+
 -- refusal 2: the edition is neither 1 nor 2
 abbrev pub badEdition : Memory → Test
 badEdition m = ne (m editionAt) 1 and ne (m editionAt) 2

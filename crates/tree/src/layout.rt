@@ -4,7 +4,7 @@ ghost use Prim.Native.Nat.{_+_, _≤_, _<_};
 ghost use lib.ListN.{length};
 ghost use Rattle.memory.specs.Words.{reads};
 ghost use Rattle.tree.specs.Test.{holds};
-ghost use Rattle.tree.specs.Layout.{Sized, imageWords, mapWords, badImage, badEdition, editionAt, geometryOf};
+ghost use Rattle.tree.specs.Layout.{Sized, imageWords, mapWords, badImage, badEdition, editionAt, ownAt, geometryOf};
 ghost use Rattle.tree.specs.Layout.{reelAt, rootAt, nodeAt, nextAt, frameAt};
 
 // How many reel slots and nodes an image has: the paper's R and N.
@@ -75,6 +75,12 @@ pub fn bad_edition(image: &[u64]) -> bool
     (edition != 1) & (edition != 2)
 }
 
+// Where an image's own table stands, eight entries to a word.
+pub const TABLE_AT: usize = 8;
+
+// The word that says whether an image of edition 2 has one.
+pub const OWN_AT: usize = 3;
+
 // The words of a node by their offset; its first word is next. A place's fingerprint is a byte of word FINGERPRINTS + p / 8,
 // its frame is word FRAMES + p.
 pub const LOCATE: usize = 1;
@@ -119,6 +125,14 @@ pub fn edition(image: &[u64]) -> u64
     ensures { λ r. ⌜ r ≡ reads (now (image .entry)) editionAt ⌝ }
 {
     image[0]
+}
+
+// In edition 2: 1 where the image has its own table, 0 where it has none.
+pub fn own_word(image: &[u64]) -> u64
+    requires { ⌜ 64 ≤ length (now image) ⌝ }
+    ensures { λ r. ⌜ r ≡ reads (now (image .entry)) ownAt ⌝ }
+{
+    image[OWN_AT]
 }
 
 // A slot's reel number.

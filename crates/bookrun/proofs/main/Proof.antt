@@ -20,6 +20,7 @@ main-spec =
     μ-loop
     (λ c. search needs)
     (λ c. search needs)
+    (λ c. search needs)
     (λ c κs. search needs)
     (λ c. (search needs, search needs, search needs, search needs))
     (λ c κs. search needs)

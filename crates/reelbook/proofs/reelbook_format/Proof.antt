@@ -8,10 +8,10 @@ use Rattle.reelbook.proofs.reelbook_format.Tie as tie
 returns : tie.Need-returns
 returns c =
     let done = c .before .before .before .before .before .before in
-    let a = done .before .before .before .before .before .args in
+    let a = done .before .before .before .before .before .before .args in
     let over = c .hand-over-fresh .ensures in
     rw (over .0, over .1)
-    (format-counts (state (a .image .now) (a .map .now) (a .heads .now)) noBuffers _ _ _ _ (length (a .map .now)) (a .slots) (a .nodes) (done .format .ensures (a .heads .now)))
+    (format-counts (state (a .image .now) (a .map .now) (a .heads .now)) noBuffers _ _ _ _ (length (a .map .now)) (a .table .now) (a .slots) (a .nodes) (done .format .ensures (a .heads .now)))
 
 pub reelbook-format-spec : {M : Type 1} → statement M
 reelbook-format-spec =

@@ -6,7 +6,7 @@ use borrow.Author.Needs.{needs}
 use Rattle.tree.specs.Memory.{stores, apply}
 use Rattle.tree.specs.Lists.{range, upTo}
 use Rattle.tree.specs.Layout.{rootAt}
-use Rattle.images.proofs.Formatting.{zeros, zeroed-none, zeroed-more}
+use Rattle.images.proofs.Formatting.{zeros, put-none, put-more}
 use Rattle.images.proofs.format.clear_roots.Statement.{statement}
 use Rattle.images.proofs.format.clear_roots.Tie as tie
 
@@ -30,13 +30,13 @@ clear-roots-spec =
     (tie.spec
     Inv-loop
     μ-loop
-    (λ c. (search needs, refl, zeroed-none rootAt _ 0))
+    (λ c. (search needs, refl, put-none rootAt (λ i. 0) _ 0))
     (λ c κs. search needs)
     (λ c. search needs)
     (λ c. search needs)
     (λ c. search needs)
     (λ c. search needs)
     (λ c. let l = c .before .before .before .loop in
-    (search needs, length-set (l .image) _ 0 ∙ l .inv .1, zeroed-more rootAt _ (l .image) 0 (l .s) _ _ (l .inv .2) refl (omega (arith, c .root-at .ensures))))
+    (search needs, length-set (l .image) _ 0 ∙ l .inv .1, put-more rootAt (λ i. 0) _ (l .image) 0 (l .s) _ _ 0 (l .inv .2) refl (omega (arith, c .root-at .ensures)) refl))
     (λ c. search needs)
     returns)

@@ -5,7 +5,7 @@ use lib.ListN.{length, length-set}
 use borrow.Author.Needs.{needs}
 use Rattle.tree.specs.Memory.{stores, apply}
 use Rattle.tree.specs.Lists.{range}
-use Rattle.images.proofs.Formatting.{zeros, zeroed-none, zeroed-more, header-first}
+use Rattle.images.proofs.Formatting.{zeros, put-none, put-more, header-first}
 use Rattle.images.proofs.format.put_header.Statement.{statement}
 use Rattle.images.proofs.format.put_header.Tie as tie
 
@@ -24,7 +24,7 @@ put-header-spec =
     (λ c. search needs)
     (λ c. simp length-set (omega arith))
     (λ c. simp length-set (omega arith))
-    (λ c. (search needs, search needs, refl, zeroed-none (λ j. j) _ 3))
+    (λ c. (search needs, search needs, refl, put-none (λ j. j) (λ i. 0) _ 3))
     (λ c. search needs)
     (λ c. let e = simp length-set at (c .before .loop .inv .2) in omega arith)
     (λ c. search needs)
@@ -33,7 +33,7 @@ put-header-spec =
       search needs,
       search needs,
       length-set (l .image) (l .i) 0 ∙ l .inv .2,
-      zeroed-more (λ j. j) _ (l .image) 3 (l .i - 3) _ (l .i) (l .inv .3) (omega arith) (omega arith),
+      put-more (λ j. j) (λ i. 0) _ (l .image) 3 (l .i - 3) _ (l .i) 0 (l .inv .3) (omega arith) (omega arith) refl,
     ))
     (λ c. simp length-set at (c .before .loop .inv .2))
     (λ c. let l = c .before .loop in

@@ -16,9 +16,10 @@ fine c =
 
 returns : tie.Need-returns
 returns c heads =
-    let told = c .before .before .before in
+    let told = c .before .before .before .before .before .before .before in
     let a = told .before .before .before .before .args in
-    recover-early (a .image .now) (a .pool .now) heads (told .checks .ensures) (c .before .why .given .1)
+    recover-early (a .image .now) (a .pool .now) heads (told .checks .ensures) (c .before .before .before .before .before .why .given .1) _
+    (c .before .before .clear-on-4 .ensures)
 
 returns-2 : tie.Need-returns-2
 returns-2 c heads =
@@ -40,6 +41,8 @@ recover-spec =
     (tie.spec
     (λ c κs. search needs)
     (λ c. search needs)
+    (λ c. search needs)
+    (λ c κs. search needs)
     (λ c. search needs)
     (λ c. search needs)
     returns

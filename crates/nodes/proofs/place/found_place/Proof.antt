@@ -5,7 +5,7 @@ use borrow.Author.Needs.{needs}
 use borrow.Author.Tests.{not-true}
 use Rattle.memory.specs.Words.{reads as readsWords}
 use Rattle.memory.proofs.Laws.{lowest-in, lowest-set, lowest-taken}
-use Rattle.nodes.proofs.NodeCode.{fingerprint-small}
+use Rattle.tree.proofs.Fingerprints.{fingerprint-laws}
 use Rattle.nodes.proofs.Places.{Seeking, seek-none, seek-all, seek-found, seek-on, seek-end}
 use Rattle.nodes.proofs.place.found_place.Statement.{statement}
 use Rattle.nodes.proofs.place.found_place.Tie as tie
@@ -50,10 +50,10 @@ found-place-spec =
     (tie.spec
     Inv-loop
     μ-loop
-    (λ c κs. (search needs, search needs, fingerprint-small _ _ (c .before .pre .2)))
+    (λ c κs. (search needs, search needs, rw (c .before .pre .2) (fingerprint-laws .rule-fits _ _)))
     (λ c. seek-none _ _ _ _ _ (c .before .before .before .pre .2) (c .before .has-print .ensures (not-true _ (c .if1 .taken))))
     (λ c κs. search needs)
-    (λ c κs. (search needs, search needs, fingerprint-small _ _ (c .before .before .before .before .pre .2)))
+    (λ c κs. (search needs, search needs, rw (c .before .before .before .before .pre .2) (fingerprint-laws .rule-fits _ _)))
     (λ c. seek-all _ _ _ _ _ _ (c .candidates .ok) (c .before .before .before .before .before .pre .2) (c .candidates .ensures))
     (λ c. search (needs, low c))
     (λ c. search (needs, low c))

@@ -1,11 +1,13 @@
 use mathlib.Core.Path.{_≡_, sym, _∙_}
 use mathlib.Core.Bool.{false}
 use Prim.Native.Nat.{_≤_}
+use native.Mathlib.Omega.{arith}
 use lib.ListN.{length}
 use Rattle.tree.specs.Memory.{reads as readsWords}
-use Rattle.tree.specs.Test.{holds}
+use Rattle.tree.specs.Test.{_or_, holds}
 use Rattle.tree.specs.Layout.{badImage, badEdition}
-use Rattle.operations.proofs.Passed.{sized-image, image-bad, edition-bad, buffer-bad, none-bad}
+use Rattle.operations.specs.Checked.{mapBad, scriptBad}
+use Rattle.operations.proofs.Passed.{sized-image, image-bad, edition-bad, buffer-bad, table-bad, none-bad}
 use borrow.Author.Needs.{needs}
 use Rattle.operations.proofs.checks.checks.Statement.{statement}
 use Rattle.operations.proofs.checks.checks.Tie as tie
@@ -48,15 +50,37 @@ returns-3 c =
     (image-fine (past .before .before)) (edition-fine past)
     (rw (← maps .map-bad .ensures, ← c .before .before .map-bad2 .ensures, ← c .before .script-bad .ensures) (c .if3 .taken))
 
+-- past the third
+buffers-fine : (c : tie.Else3)
+    → let read = c .before .before .before .before .before .before .before .before in
+    let a = read .before .before .args in
+    holds (mapBad (read .geometry-in .result) (a .map) or mapBad (read .geometry-in .result) (a .scratch) or scriptBad (a .script)) ≡ false
+buffers-fine c = rw (← c .before .before .before .map-bad .ensures, ← c .before .before .map-bad2 .ensures, ← c .before .script-bad .ensures) (c .if3 .left)
+
+bad-own-requires : tie.Need-bad-own-requires
+bad-own-requires c κs =
+    let past = c .before .before .before .before .before .before in
+    let read = past .before .before in
+    let s = sized-image (read .before .before .args .image .now) (read .geometry-in .result) (image-fine past) in
+    omega (arith, s .words)
+
 returns-4 : tie.Need-returns-4
 returns-4 c =
-    let maps = c .before .before .before in
-    let past = maps .before in
+    let third = c .before .before in
+    let past = third .before .before .before .before in
+    let read = past .before .before .before .before in
+    let a = read .before .before .args in
+    table-bad (a .image .now) (a .map) (a .scratch) (a .script) (read .geometry-in .result) (read .geometry-in .ensures)
+    (image-fine (past .before .before)) (edition-fine past) (buffers-fine third) (sym (c .before .bad-own .ensures) ∙ c .if4 .taken)
+
+returns-5 : tie.Need-returns-5
+returns-5 c =
+    let third = c .before .before in
+    let past = third .before .before .before .before in
     let read = past .before .before .before .before in
     let a = read .before .before .args in
     none-bad (a .image .now) (a .map) (a .scratch) (a .script) (read .geometry-in .result) (read .geometry-in .ensures)
-    (image-fine (past .before .before)) (edition-fine past)
-    (rw (← maps .map-bad .ensures, ← c .before .before .map-bad2 .ensures, ← c .before .script-bad .ensures) (c .if3 .left))
+    (image-fine (past .before .before)) (edition-fine past) (buffers-fine third) (sym (c .before .bad-own .ensures) ∙ c .if4 .left)
 
 pub checks-spec : {M : Type 1} → statement M
 checks-spec =
@@ -71,4 +95,6 @@ checks-spec =
     (λ c κs. nodes-few (c .before .before .before))
     (λ c κs. search needs)
     returns-3
-    returns-4)
+    bad-own-requires
+    returns-4
+    returns-5)

@@ -32,9 +32,11 @@ slot-read c = record { checked = fine (c .before); slot-is = c .slot-of .ensures
 
 returns : tie.Need-returns
 returns c pool ws =
-    let told = c .before .before .before in
+    let told = c .before .before .before .before .before .before .before in
     let a = told .before .before .before .before .args in
-    check-bad (on-list (a .image .now) pool ws (a .scratch .now) (a .list .now) (a .reel) .tested) (buffers (a .scratch .now) [] (a .list .now)) (told .checks .ensures) (c .before .why .given .1)
+    rw (c .before .before .clear-on-4 .ensures)
+    (check-bad (on-list (a .image .now) pool ws (a .scratch .now) (a .list .now) (a .reel) .tested) (buffers (a .scratch .now) [] (a .list .now))
+    (told .checks .ensures) (c .before .before .before .before .before .why .given .1))
 
 returns-2 : tie.Need-returns-2
 returns-2 c pool ws =
@@ -72,6 +74,8 @@ list-spec =
     (tie.spec
     (λ c κs. search needs)
     (λ c. search needs)
+    (λ c. search needs)
+    (λ c κs. search needs)
     (λ c. search needs)
     returns
     (λ c κs. fine c .sized)

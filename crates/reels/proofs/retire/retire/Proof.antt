@@ -33,9 +33,11 @@ small c = let limit = fine (c .before .before .before) .sized .slots-limit in le
 
 returns : tie.Need-returns
 returns c ws e =
-    let told = c .before .before .before in
+    let told = c .before .before .before .before .before .before .before in
     let a = told .before .before .before .before .before .args in
-    check-bad (on-retire (a .image .now) (a .pool .now) ws (a .scratch .now) (a .script .now) (a .reel) .tested) (buffers (a .scratch .now) (a .script .now) []) (told .checks .ensures) (c .before .why .given .1)
+    rw (c .before .before .clear-on-4 .ensures)
+    (check-bad (on-retire (a .image .now) (a .pool .now) ws (a .scratch .now) (a .script .now) (a .reel) .tested) (buffers (a .scratch .now) (a .script .now) [])
+    (told .checks .ensures) (c .before .before .before .before .before .why .given .1))
 
 returns-2 : tie.Need-returns-2
 returns-2 c ws e =
@@ -95,6 +97,8 @@ retire-spec =
     (tie.spec
     (λ c κs. search needs)
     (λ c. search needs)
+    (λ c. search needs)
+    (λ c κs. search needs)
     (λ c. search needs)
     returns
     (λ c κs. fine c .sized)

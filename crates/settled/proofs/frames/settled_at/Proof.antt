@@ -9,7 +9,7 @@ use Rattle.tree.specs.Path.{levels, bitsTo}
 use Rattle.tree.specs.Fingerprint.{fingerprint, ruleOf}
 use Rattle.tree.specs.Node.{frame}
 use Rattle.tree.specs.Pool.{mark}
-use Rattle.nodes.proofs.NodeCode.{fingerprint-small}
+use Rattle.fingerprints.proofs.Folds.{fingerprint-small}
 use Rattle.settled.proofs.Held.{met-lone}
 use Rattle.settled.proofs.SettledSteps.{known-facts, Place, off-path, wrong-print, held-before, first-here}
 use Rattle.settled.proofs.frames.settled_at.Statement.{statement}

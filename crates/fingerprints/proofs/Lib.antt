@@ -1,0 +1,4 @@
+pub mod Folds
+pub mod Filled
+pub mod Flags
+pub mod Packing

@@ -34,7 +34,9 @@ pub fn put_locate(script: &mut [u64], g: Geometry, t: Spot, locate: u64)
 // A scale-up, in 4 words: the size doubled.
 pub fn put_scale_up(script: &mut [u64], g: Geometry, node: usize, size: u64)
     requires { ⌜ (4 ≤ length (now script)) × (g .slots ≤ 4096) × (node < 65536) × (size < 64) ⌝ }
-    ensures { λ _. ⌜ now (script .exit) ≡ written (segmented (((sizeAt g node, 2 * size) ∷ []) ∷ [])) (now (script .entry)) ⌝ }
+    ensures { λ _. ⌜
+        now (script .exit) ≡ written (segmented (((sizeAt g node, 2 * size) ∷ []) ∷ [])) (now (script .entry))
+        ⌝ }
 {
     let at = (node_at(g, node) + SIZE) as u64;
     put_fenced(script, at, 2 * size);

@@ -158,7 +158,12 @@ fn settled_node(image: &[u64], table: &[u8], g: Geometry, t: Subtree) -> bool
 
 // Is every frame held in a node and in all below it, levels left, settled?
 fn settled_tree(image: &[u64], table: &[u8], g: Geometry, t: Subtree) -> bool
-    requires { ⌜ Sized (now image) g × Known g (reads (now image)) t × (t .suffix < t .unit) × (now table ≡ tableIn (reads (now image))) ⌝ }
+    requires { ⌜
+        Sized (now image) g
+        × Known g (reads (now image)) t
+        × (t .suffix < t .unit)
+        × (now table ≡ tableIn (reads (now image)))
+        ⌝ }
     ensures { λ r. ⌜ r ≡ settledTree g (reads (now (image .entry))) (t .left) (levels - t .left) (t .node) (t .suffix) ⌝ }
 {
     if !settled_node(image, table, g, t) {

@@ -25,6 +25,7 @@ Programs and the library; rt, of the Rattle kit, is needed for all:
   make uninstall      take the same files out again
   make bench          times beside other stores; QUICK=1 the book alone; BEFORE= an earlier build; EDITION=1 on such images
   make bench-operations  each operation by itself, in the cache, without and with an own table; BEFORE= too
+  make bench-convert  Convert beside a plain copy and beside Recover
   make bench-docs     the tables and the plot of the last whole run go to docs/
   make clean          remove build/; what is proved, in target/, stays
 
@@ -32,7 +33,7 @@ Tests:
   make test           the whole gate: every proof from nothing, then all of these
   make check-header   the header in C and C++, its constants against the library
   make check-archive  no writable data in the library; its stack use; two books in two threads
-  make check-stores   Recover's stores, one by one
+  make check-stores   Recover's and Convert's stores, one by one
   make check-branches  no branch on a bit of a frame where paths are walked, instruction by instruction
   make check-bookrun  bookrun on Case A, on input in pieces, and where a write or a read fails
   make check-tool     the tool's commands, errors and power failures

@@ -6,8 +6,9 @@
 # A store whose package is missing is left out: apt-get install libpmemobj-dev liblmdb-dev libsqlite3-dev.
 # make bench-operations: each operation by itself, in the cache, without and with an own table; LIBRARY, RUN, BEFORE and
 # BEFORE_INCLUDE as above.
+# make bench-convert: Convert beside a plain copy and beside Recover; LIBRARY and RUN as above.
 # make bench-docs: the tables and the plot of the last whole run go to docs/.
-.PHONY: bench bench-operations bench-docs
+.PHONY: bench bench-operations bench-convert bench-docs
 
 MEMORY ?= /dev/shm
 DISK ?= build
@@ -53,6 +54,11 @@ bench-operations: $(LIBRARY)
 	@$(CC) $(WARNINGS) $(CFLAGS) -Iinclude -Itests -Wl,-z,now -o build/operations bench/operations.c $(PLACES:%=build/now-%.o) \
 	    $(if $(BEFORE),-DHAVE_BEFORE $(PLACES:%=build/before-%.o)) $(LIBRARY)
 	@$(RUN) build/operations
+
+bench-convert: $(LIBRARY)
+	@mkdir -p build
+	@$(CC) $(WARNINGS) $(CFLAGS) -Iinclude -Itests -o build/convert bench/convert.c tests/converted.c tests/book.c $(LIBRARY)
+	@$(RUN) build/convert
 
 bench-docs:
 	python3 bench/publish.py build/bench.tsv docs/BENCHMARKS.md docs/benchmarks.svg

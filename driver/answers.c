@@ -31,6 +31,8 @@ const char *answer_words(uint64_t answer) {
         return "in use by another process";
     case BOOK_EXISTS:
         return "exists already; --force overwrites it";
+    case BOOK_KEPT:
+        return "exists already, and is not overwritten";
     case BOOK_REPLACED:
         return "replaced by another process, again and again";
     case BOOK_WRONG_MAP:

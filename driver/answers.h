@@ -5,13 +5,14 @@
 #include "reelbook.h"
 
 enum {
-    BOOK_SYSTEM = REELBOOK_BAD_TABLE + 1, /* the system refused: errno says why */
+    BOOK_SYSTEM = REELBOOK_HAS_OWN_TABLE + 1, /* the system refused: errno says why */
     BOOK_NOT_REGULAR,
     BOOK_NOT_A_BOOK,
     BOOK_OTHER_VERSION,
     BOOK_WRONG_LENGTH,
     BOOK_LOCKED,
     BOOK_EXISTS,
+    BOOK_KEPT,      /* the same where there is no --force */
     BOOK_REPLACED,  /* another file took its name before it was locked */
     BOOK_WRONG_MAP, /* from here on: a book that is not sound */
     BOOK_TABLE_MARK,

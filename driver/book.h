@@ -42,6 +42,10 @@ uint64_t book_close(struct book *b);
 void book_unsettle(struct book *b);
 uint64_t book_settle(struct book *b);
 
+/* Makes a book, which has as many slots and nodes, one of the other edition with the reels and frames of the old one, whose image
+ * is only read. */
+uint64_t book_convert(const struct book *old, struct book *b);
+
 /* Is a private copy sound, and the saved map its map? It stays as it was: `mended` is how many locate words a recovery would. */
 uint64_t book_check(struct book *b);
 

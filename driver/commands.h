@@ -23,6 +23,7 @@ int run_remove(const struct arguments *a);
 int run_retire(const struct arguments *a);
 int run_recover(const struct arguments *a);
 int run_load(const struct arguments *a);
+int run_convert(const struct arguments *a);
 
 int run_has(const struct arguments *a);
 int run_list(const struct arguments *a);

@@ -1,5 +1,5 @@
 /* load: a book made from a dump. */
-#define _XOPEN_SOURCE 700 /* for realpath */
+#define _POSIX_C_SOURCE 200809L
 #include <ctype.h>
 #include <errno.h>
 #include <inttypes.h>
@@ -10,8 +10,8 @@
 
 #include "commands.h"
 #include "frames.h"
+#include "new_book.h"
 #include "own_table.h"
-#include "unfinished.h"
 
 /* The dump, line by line. */
 struct text {
@@ -22,6 +22,7 @@ struct text {
 };
 
 struct load {
+    const struct arguments *arguments;
     struct text text;
     struct book book;
     uint8_t table[REELBOOK_TABLE_BYTES]; /* its own, if one is given */
@@ -141,7 +142,9 @@ static int load_lines(struct load *l) {
 }
 
 /* Nobody knows the book before it is whole, so one barrier at the end is enough. */
-static int fill(struct load *l, const struct arguments *a, const char *path) {
+static int fill(void *context, const char *path) {
+    struct load *l = (struct load *)context;
+    const struct arguments *a = l->arguments;
     uint64_t answer = book_open(&l->book, path, BOOK_WRITE, NULL, a->until);
     if (answer != REELBOOK_DONE)
         return refuse(answer, a->operands[0]);
@@ -153,31 +156,6 @@ static int fill(struct load *l, const struct arguments *a, const char *path) {
         status = refuse(answer, a->operands[0]);
     progress_end(&l->progress, l->frames);
     return finish(&l->book, a, status);
-}
-
-/* Made under a name of its own beside the file, which it takes when it is whole. */
-static int make(struct load *l, const struct arguments *a, uint64_t reels, uint64_t nodes) {
-    int force = a->values[OPTION_FORCE] != NULL, status = STATUS_SYSTEM;
-    char *followed = realpath(a->operands[0], NULL);
-    const char *target = followed ? followed : a->operands[0];
-    char *temporary = unfinished_name(target);
-    uint64_t answer = BOOK_SYSTEM;
-    if (temporary) {
-        unfinished_file(temporary);
-        answer = book_format(temporary, reels, nodes, a->values[OPTION_TABLE] ? l->table : NULL, 0, a->until);
-    }
-    if (answer == REELBOOK_DONE)
-        status = fill(l, a, temporary);
-    if (answer == REELBOOK_DONE && status == STATUS_DONE)
-        answer = file_take_name(temporary, target, force, a->until);
-    if (answer != REELBOOK_DONE)
-        status = refuse(answer, a->operands[0]);
-    if (status != STATUS_DONE)
-        unfinished_remove();
-    unfinished_file(NULL);
-    free(temporary);
-    free(followed);
-    return status;
 }
 
 static int load_from(struct load *l, const struct arguments *a) {
@@ -193,7 +171,14 @@ static int load_from(struct load *l, const struct arguments *a) {
     nodes = a->values[OPTION_NODES] ? a->numbers[OPTION_NODES] : nodes;
     if (room_out_of_range(reels, nodes))
         return STATUS_USAGE;
-    status = make(l, a, reels, nodes);
+    const struct new_book n = {.path = a->operands[0],
+                               .slots = reels,
+                               .nodes = nodes,
+                               .table = a->values[OPTION_TABLE] ? l->table : NULL,
+                               .force = a->values[OPTION_FORCE] != NULL,
+                               .taken = BOOK_EXISTS,
+                               .until = a->until};
+    status = new_book_make(&n, fill, l);
     if (status == STATUS_DONE)
         printf("%" PRIu64 " reel%s, %" PRIu64 " frame%s loaded\n", l->reels, l->reels == 1 ? "" : "s", l->frames,
                l->frames == 1 ? "" : "s");
@@ -201,7 +186,7 @@ static int load_from(struct load *l, const struct arguments *a) {
 }
 
 int run_load(const struct arguments *a) {
-    struct load l = {.text = {.in = stdin, .name = "standard input"}};
+    struct load l = {.arguments = a, .text = {.in = stdin, .name = "standard input"}};
     int from_file = a->count > 1 && strcmp(a->operands[1], "-") != 0;
     if (!from_file && a->values[OPTION_TABLE] && strcmp(a->values[OPTION_TABLE], "-") == 0) {
         say("--table: - only where the dump is in a file");

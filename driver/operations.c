@@ -99,6 +99,15 @@ uint64_t book_recover(struct book *b) {
     return own_table_answer(b->image, answer);
 }
 
+/* What is converted is lasting before recovery starts on it. */
+uint64_t book_convert(const struct book *old, struct book *b) {
+    uint64_t answer = reelbook_convert(old->image, old->file.image_words, IMAGE, SCRATCH);
+    if (answer != REELBOOK_DONE)
+        return own_table_answer(old->image, answer);
+    b->failed = medium_barrier_over(&b->medium, b->file.image_at, b->file.image_words) != 0;
+    return b->failed ? BOOK_SYSTEM : book_recover(b);
+}
+
 /* Only where they differ: every other page of the private copy stays the file's. */
 static void put_back(const struct book *b, const uint64_t *before) {
     for (uint64_t node = 0; node < b->file.nodes; node++)

@@ -86,9 +86,9 @@ static const struct command commands[] = {
      .operands = "FILE [--by-reel] [--json | --csv]",
      .about = "Counts reels, frames, nodes and places, and tells the book's edition and table.",
      .more = "In edition 1 the fingerprints in a book are of the four low bytes of each frame, in edition 2 of all eight. Every\n"
-             "command reads both and leaves a book in its edition; format and load make books of edition 2. Versions before 3.1\n"
-             "make books of edition 1, and refuse those of edition 2. The table is the library's, or the book's own if it was\n"
-             "made with --table.",
+             "command reads both and leaves a book in its edition; format and load make books of edition 2, convert makes one\n"
+             "of the other edition. Versions before 3.1 make books of edition 1, and refuse those of edition 2. The table is\n"
+             "the library's, or the book's own if it was made with --table.",
      .least = 1,
      .most = 1,
      .options = BIT(OPTION_BY_REEL) | FORMS,
@@ -116,6 +116,17 @@ static const struct command commands[] = {
                 BIT(OPTION_RATE),
      .steady = "a book that is loaded has no name before it is whole",
      .run = run_load},
+    {.name = "convert",
+     .operands = "FILE NEW [--json | --csv]",
+     .about = "Makes a book NEW of the other edition, 2 of 1 or 1 of 2, with the same reels and frames.",
+     .more = "FILE is only read, however it was closed, and every reel has the same list in both. NEW must not be there yet. It\n"
+             "takes its name when it is whole: after a refusal, an interrupt or a power failure there is none. A book with a\n"
+             "table of its own is refused, since edition 1 has none: dump and load make one without it, which is converted then.",
+     .least = 2,
+     .most = 2,
+     .options = FORMS,
+     .steady = "a book that is converted has no name before it is whole",
+     .run = run_convert},
     {.name = "table",
      .operands = "FILE [-o OUT]",
      .about = "Writes a book's own table, 256 bytes, on standard output or to OUT, from which format and load take it.",

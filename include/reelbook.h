@@ -27,9 +27,9 @@
 /* The version of this header, and of the library beside which it is installed. With another major number the interface is
  * another: a program has to be compiled anew, and the shared object has another name. */
 #define REELBOOK_VERSION_MAJOR 4
-#define REELBOOK_VERSION_MINOR 0
+#define REELBOOK_VERSION_MINOR 1
 #define REELBOOK_VERSION_PATCH 0
-#define REELBOOK_VERSION "4.0.0"
+#define REELBOOK_VERSION "4.1.0"
 
 #ifdef __cplusplus
 extern "C" {
@@ -38,21 +38,22 @@ extern "C" {
 /* Answers; reelbook_answer_text has each in words. There is no 15. */
 enum {
     REELBOOK_DONE = 0,
-    REELBOOK_BAD_IMAGE = 1,    /* the image's length, its number of slots or its number of nodes is wrong */
-    REELBOOK_BAD_EDITION = 2,  /* the image's edition is neither 1 nor 2 */
-    REELBOOK_BAD_BUFFER = 3,   /* map or scratch map is not of the map's length, or the script is too short */
-    REELBOOK_MALFORMED = 4,    /* the tree or the image's own table is malformed, or a head's node or place is outside */
-    REELBOOK_NO_REEL = 5,      /* no such reel */
-    REELBOOK_ALREADY_OPEN = 6, /* the reel is open already */
-    REELBOOK_NO_SLOT = 7,      /* no empty reel slot */
-    REELBOOK_NO_RUN = 8,       /* not enough adjacent free nodes */
-    REELBOOK_FRAME_HELD = 9,   /* the reel holds the frame already */
-    REELBOOK_NOT_HELD = 10,    /* the reel does not hold the frame */
-    REELBOOK_BAD_HEAD = 11,    /* no such head */
-    REELBOOK_WRONG_STATE = 12, /* the head is in another state than the operation needs */
-    REELBOOK_BUSY = 13,        /* another head has this frame or is at this node (Claim); a claim is open in this reel (else) */
-    REELBOOK_LIST_SHORT = 14,  /* the list has too little room */
-    REELBOOK_BAD_TABLE = 16    /* the given table is not 256 bytes long, or lacks some byte */
+    REELBOOK_BAD_IMAGE = 1,     /* the image's length, its number of slots or of nodes, or the copy's length is wrong */
+    REELBOOK_BAD_EDITION = 2,   /* the image's edition is neither 1 nor 2 */
+    REELBOOK_BAD_BUFFER = 3,    /* map or scratch map is not of the map's length, or the script is too short */
+    REELBOOK_MALFORMED = 4,     /* the tree or the image's own table is malformed, or a head's node or place is outside */
+    REELBOOK_NO_REEL = 5,       /* no such reel */
+    REELBOOK_ALREADY_OPEN = 6,  /* the reel is open already */
+    REELBOOK_NO_SLOT = 7,       /* no empty reel slot */
+    REELBOOK_NO_RUN = 8,        /* not enough adjacent free nodes */
+    REELBOOK_FRAME_HELD = 9,    /* the reel holds the frame already */
+    REELBOOK_NOT_HELD = 10,     /* the reel does not hold the frame */
+    REELBOOK_BAD_HEAD = 11,     /* no such head */
+    REELBOOK_WRONG_STATE = 12,  /* the head is in another state than the operation needs */
+    REELBOOK_BUSY = 13,         /* another head has this frame or is at this node (Claim); a claim is open in this reel (else) */
+    REELBOOK_LIST_SHORT = 14,   /* the list has too little room */
+    REELBOOK_BAD_TABLE = 16,    /* the given table is not 256 bytes long, or lacks some byte */
+    REELBOOK_HAS_OWN_TABLE = 17 /* the image has its own table, which can't go to edition 1 */
 };
 
 /* Scripts. No operation writes more words than the minimum that it asks for. */
@@ -62,8 +63,9 @@ enum {
 /* The image: word 0 is the edition, 1 the number of slots, 2 that of nodes. A frame's fingerprint folds its four low bytes in
  * edition 1, all eight in edition 2: from h = 0 on, for each byte, lowest first, h becomes entry h ^ byte of a table. Every
  * function reads both editions, each by its rule. reelbook_format writes REELBOOK_EDITION, also over an image of edition 1; no
- * other operation changes a word of the header. Libraries before 3.1 write edition 1 and refuse 2. Do not compare an image's
- * edition with REELBOOK_EDITION, which changes: refusal 2 tells whether it is known. */
+ * other operation changes a word of the header, and reelbook_convert makes a second image, of the other edition. Libraries before
+ * 3.1 write edition 1 and refuse 2. Do not compare an image's edition with REELBOOK_EDITION, which changes: refusal 2 tells
+ * whether it is known. */
 #define REELBOOK_EDITION_1 1
 #define REELBOOK_EDITION_2 2
 #define REELBOOK_EDITION REELBOOK_EDITION_2
@@ -128,6 +130,7 @@ static inline const char *reelbook_answer_text(uint64_t answer) {
     case REELBOOK_BUSY: return "an open claim is in the way";
     case REELBOOK_LIST_SHORT: return "the list has too little room";
     case REELBOOK_BAD_TABLE: return "the given table is not 256 bytes with each byte once";
+    case REELBOOK_HAS_OWN_TABLE: return "an own table can't go to edition 1";
     default: return "unknown answer";
     }
 }
@@ -206,6 +209,17 @@ uint64_t reelbook_list(const uint64_t *image, size_t image_words, uint64_t *scra
 uint64_t reelbook_retire(const uint64_t *image, size_t image_words, uint64_t *map, size_t map_words,
                          const uint64_t heads[REELBOOK_HEADS_WORDS], uint64_t *scratch, size_t scratch_words, uint64_t *script,
                          size_t script_words, uint64_t reel, uint64_t *used);
+
+/* Makes the book in the other edition, 2 of 1 or 1 of 2, in a second image: the copy. Slots, nodes and places stay where they
+ * are, and every reel has the same list. Refusals 1, for the copy too unless it is as long as the image, 2, 3, 4 if the image is
+ * not sound, as reelbook_recover, 17 if it is of edition 2 and has its own table. The image is only read, and goes on as it is.
+ * After a refusal the copy is as it was; else each of its words is written, whatever it held: locate words are the set words, so
+ * that no claim is open in it, and empty slots, nodes that no reel reaches, frames and fingerprints of places not held, and words
+ * that are not read are 0. The copy is used only once the caller has passed a barrier over all of it, and work on it starts with
+ * reelbook_recover. A power failure before that costs the copy, and open claims as always: convert again. The scratch map is all
+ * 0 after any end but 1, 2 or 3. Libraries before 4.1 do not have this function. */
+uint64_t reelbook_convert(const uint64_t *image, size_t image_words, uint64_t *copy, size_t copy_words, uint64_t *scratch,
+                          size_t scratch_words);
 
 /* Makes a script's stores on an image, barriers skipped: not for an image that must outlast a power failure meanwhile. Refusals
  * 1; 3 if the script is odd in length or an entry is neither a barrier nor a store inside the image, with nothing written. Reads

@@ -32,6 +32,14 @@ uint64_t *junk(size_t words) {
     return memory;
 }
 
+uint64_t drawn(void) {
+    static uint64_t state = 88172645463325252u;
+    state ^= state << 13;
+    state ^= state >> 7;
+    state ^= state << 17;
+    return state;
+}
+
 static void format(struct book *b, const uint8_t *table, size_t table_bytes, uint64_t slots, uint64_t nodes) {
     memset(b, JUNK, sizeof *b);
     b->image_words = reelbook_image_words(slots, nodes);
@@ -180,6 +188,28 @@ void book_add(struct book *b, uint64_t reel, uint64_t first, uint64_t step, unsi
         equal(book_fill(b, 1), REELBOOK_DONE, "fill");
         equal(book_commit(b, 1), REELBOOK_DONE, "commit");
     }
+}
+
+void book_make_deep(struct book *b, unsigned rule) {
+    uint64_t node = 0, next = 1, level, child;
+    book_format_as(b, rule, 1, DEEP_NODES);
+    equal(book_open(b, 7), REELBOOK_DONE, "open");
+    for (level = 0; level <= LAST_LEVEL; level++) {
+        uint64_t children = level == LAST_LEVEL ? 0 : level < 3 ? 2 : 4;
+        for (child = 0; child < children; child++) {
+            memset(&b->image[node_index(b, next + child, 0)], 0, REELBOOK_NODE_WORDS * sizeof *b->image);
+            b->image[node_index(b, next + child, REELBOOK_NODE_LEVEL)] = level + 1;
+            b->image[node_index(b, next + child, REELBOOK_NODE_SIZE)] = 64;
+        }
+        b->image[node_index(b, node, REELBOOK_NODE_NEXT)] = children ? next + 1 : 0;
+        b->image[node_index(b, node, REELBOOK_NODE_SIZE)] = 64;
+        b->image[node_index(b, node, REELBOOK_NODE_LOCATE)] = b->image[node_index(b, node, REELBOOK_NODE_SET)] = 1;
+        b->image[node_index(b, node, REELBOOK_NODE_FINGERPRINTS)] = fingerprint(rule, level << 59);
+        b->image[node_index(b, node, REELBOOK_NODE_FRAMES)] = level << 59;
+        node = next;
+        next += children;
+    }
+    equal(book_recover(b), REELBOOK_DONE, "recover of the deep tree");
 }
 
 uint64_t slot_word(const struct book *b, uint64_t slot, uint64_t word) {

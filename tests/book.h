@@ -24,6 +24,9 @@ void equal(uint64_t found, uint64_t expected, const char *what);
 uint64_t *zeroed(size_t words);
 uint64_t *junk(size_t words);
 
+/* Xorshift: the same numbers in each run. */
+uint64_t drawn(void);
+
 /* Without a table. */
 void book_format(struct book *b, uint64_t slots, uint64_t nodes);
 void book_free(struct book *b);
@@ -36,6 +39,12 @@ void own_table(uint8_t table[REELBOOK_TABLE_BYTES]);
 
 /* Formatted with a table or without; then of this edition: an image without frames has no fingerprint by which they differ. */
 void book_format_as(struct book *b, unsigned rule, uint64_t slots, uint64_t nodes);
+
+/* A sound tree of reel 7 with one path down to the last level: node 0, then the first of each group of children. Level k has
+ * frame k * 2^59 in place 0; all of these agree in bits 0 to 58, which are 0, so that they go to the first child each time. Four
+ * nodes are left. */
+enum { LAST_LEVEL = 31, DEEP_NODES = 1 + 3 * 2 + 28 * 4 + 4 };
+void book_make_deep(struct book *b, unsigned rule);
 
 /* The header's words that tell the rule, and a table where it needs one. */
 void book_go_by(struct book *b, unsigned rule);

@@ -15,7 +15,7 @@
 
 #include <ucontext.h>
 
-enum { REEL = 7, LAST_LEVEL = 31, NODES = 1 + 3 * 2 + 28 * 4 };
+enum { REEL = 7, NODES = 1 + 3 * 2 + 28 * 4 };
 
 /* Frames in which every bit is 0 and 1, and every two bits are 00, 01, 10 and 11. */
 enum { BITS = 64, FRAMES = 14 };

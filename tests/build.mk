@@ -1,9 +1,10 @@
-# make check-header: include/reelbook.h as C and as C++, refused on other platforms, and its constants against the library.
+# make check-header: include/reelbook.h as C and as C++, refused on other platforms, and its constants against the library; what
+# Convert writes and refuses.
 # make check-archive: nothing writable in the library; the stack that each function needs; two books in two threads.
-# make check-stores: Recover's stores to the image, one by one.
+# make check-stores: Recover's stores to the image and Convert's to the copy, one by one.
 # make check-branches: the instructions of Has, Remove, Claim, Fill and Recover, one by one, which no bit of a frame decides.
 # make check-bookrun: the bench program on Case A, on input in pieces, and where a write or a read fails.
-# make fuzz: the library against the model in CASES cases of calls and a history for every 50 of them: a minute on two cores.
+# make fuzz: the library against the model in CASES cases of calls and a history for every 50 of them: a minute or two.
 # SEED=random takes new cases; SEED=number repeats one.
 # make faults: deliberate faults, each of which the fuzzing has to find.
 .PHONY: check-header check-archive check-stores check-branches check-bookrun fuzz faults
@@ -25,11 +26,13 @@ check-header: build/header-c build/header-c++
 	build/header-c
 	build/header-c++
 
-build/header-c: tests/header.c tests/book.c tests/book.h include/reelbook.h $(LIBRARY)
-	$(HEADER_AS_C) -o $@ tests/header.c tests/book.c -x none $(LIBRARY)
+HEADER_TESTS = $(patsubst %,tests/%.c,header convert converted lent book)
 
-build/header-c++: tests/header.c tests/book.c tests/book.h include/reelbook.h $(LIBRARY)
-	$(HEADER_AS_CXX) -o $@ tests/header.c tests/book.c -x none $(LIBRARY)
+build/header-c: $(HEADER_TESTS) $(wildcard tests/*.h) include/reelbook.h $(LIBRARY)
+	$(HEADER_AS_C) -o $@ $(HEADER_TESTS) -x none $(LIBRARY)
+
+build/header-c++: $(HEADER_TESTS) $(wildcard tests/*.h) include/reelbook.h $(LIBRARY)
+	$(HEADER_AS_CXX) -o $@ $(HEADER_TESTS) -x none $(LIBRARY)
 
 check-archive: build/stack build/threads
 	CC='$(CC)' sh tests/archive.sh $(LIBRARY)
@@ -46,8 +49,10 @@ build/threads: tests/threads.c include/reelbook.h $(LIBRARY)
 check-stores: build/stores
 	build/stores
 
-build/stores: tests/stores.c tests/traps.h tests/book.c tests/book.h include/reelbook.h $(LIBRARY)
-	$(CC) $(WARNINGS) $(CFLAGS) -Iinclude -o $@ tests/stores.c tests/book.c $(LIBRARY)
+STORES_TESTS = $(patsubst %,tests/%.c,stores watch converted lent book)
+
+build/stores: $(STORES_TESTS) $(wildcard tests/*.h) include/reelbook.h $(LIBRARY)
+	$(CC) $(WARNINGS) $(CFLAGS) -Iinclude -o $@ $(STORES_TESTS) $(LIBRARY)
 
 check-branches: build/branches
 	build/branches

@@ -1,5 +1,6 @@
 /* include/reelbook.h against the library: every constant by what the library does. Valid as C99 and as C++11. */
 #include "book.h"
+#include "convert.h"
 
 #include <stdio.h>
 #include <stdlib.h>
@@ -426,7 +427,7 @@ static void check_editions(void) {
 static void check_version(void) {
     char version[64];
     equal(REELBOOK_VERSION_MAJOR, 4, "REELBOOK_VERSION_MAJOR");
-    equal(REELBOOK_VERSION_MINOR, 0, "REELBOOK_VERSION_MINOR");
+    equal(REELBOOK_VERSION_MINOR, 1, "REELBOOK_VERSION_MINOR");
     equal(REELBOOK_VERSION_PATCH, 0, "REELBOOK_VERSION_PATCH");
     snprintf(version, sizeof version, "%d.%d.%d", REELBOOK_VERSION_MAJOR, REELBOOK_VERSION_MINOR, REELBOOK_VERSION_PATCH);
     same_text(REELBOOK_VERSION, version, "REELBOOK_VERSION");
@@ -439,9 +440,10 @@ static void check_texts(void) {
         "a buffer has the wrong length", "the tree or the image's own table is malformed", "no such reel",
         "the reel is open already", "no empty reel slot", "not enough adjacent free nodes", "held already", "not held",
         "no such head", "the head is in another state", "an open claim is in the way", "the list has too little room",
-        "unknown answer", "the given table is not 256 bytes with each byte once", "unknown answer"};
+        "unknown answer", "the given table is not 256 bytes with each byte once", "an own table can't go to edition 1",
+        "unknown answer"};
     uint64_t answer;
-    equal(sizeof texts / sizeof texts[0], REELBOOK_BAD_TABLE + 2, "a text for each answer, and one for any other");
+    equal(sizeof texts / sizeof texts[0], REELBOOK_HAS_OWN_TABLE + 2, "a text for each answer, and one for any other");
     for (answer = 0; answer < sizeof texts / sizeof texts[0]; answer++) {
         same_text(reelbook_answer_text(answer), texts[answer], "reelbook_answer_text");
     }
@@ -467,6 +469,7 @@ int main(void) {
     check_refusals_of_images();
     check_editions();
     check_bad_tables();
+    check_conversions();
     printf("header: %u checks, %u failures\n", checks, failures);
     return failures != 0;
 }

@@ -78,7 +78,9 @@ try_shared_object() {
     same 'the soname' "$(readelf -dW "$object" | sed -n 's/.*(SONAME).*\[\(.*\)\]/\1/p')" "$soname"
     same 'libraries needed' "$(readelf -dW "$object" | sed -n 's/.*(NEEDED).*\[\(.*\)\]/\1/p')" libc.so.6
     exported=$(nm -D --defined-only "$object" | awk '$2 != "A" { print $3 }' | sort)
-    same 'functions exported' "$exported" "$(echo "$declared" | sed "s/\$/@@REELBOOK_${version%%.*}/")"
+    since=@@REELBOOK_${version%%.*}
+    same 'functions exported, each with the version that has it first' "$exported" \
+        "$(echo "$declared" | sed -e "s/^reelbook_convert\$/&$since.1/" -e t -e "s/\$/$since/")"
     # What the dynamic linker fills in and then makes read-only is not the library's.
     same 'writable sections' "$(readelf -SW "$object" | sed 's/^ *\[ *[0-9]*\]//' |
         awk '$7 ~ /W/ && $1 !~ /^\.(dynamic|got|got\.plt)$/ && $5 !~ /^0*$/ { print $1 }')" ''
@@ -133,8 +135,18 @@ the same frame twice: held already (9)' "$cc"
 by the best of 100 others: 168
 format: done; word 3 is 1
 with a value twice: the given table is not 256 bytes with each byte once (16)" "$cc"
+    prints convert.c "edition 2, reel 7: 12 5 4294967301
+edition 1, reel 7: 12 5 4294967301
+edition 2, reel 7: 12 5 4294967301 900
+with a table of its own: an own table can't go to edition 1 (17)" "$cc"
     prints book.cpp 'reel 7: 12 5 900; places left: 13
 frame 5: held already (9)' "$cxx"
+    # What a program needs of the library: a 4.0 would do for the first one.
+    needed='s/.*Name: \(REELBOOK_[0-9.]*\) .*/\1/p'
+    same 'versions that first.c needs' "$(readelf -VW "$work/first-shared" | sed -n "$needed")" "REELBOOK_${version%%.*}"
+    same 'versions that convert.c needs' "$(readelf -VW "$work/convert-shared" | sed -n "$needed" | sort)" \
+        "REELBOOK_${version%%.*}
+REELBOOK_${version%%.*}.1"
     cp examples/book.py "$work"
     same 'examples/book.py' "$(cd "$work" && with_shared python3 book.py)" 'reel 7: 12 5 18446744073709551615 places left: 13
 with its own table: 12
@@ -145,8 +157,8 @@ power lost, stores lost: frame 13 is held after entry 8 of 8'
         program "${page%%:*}" 1 | cmp - "examples/${page##*:}" || fail "the program in ${page%%:*} is not examples/${page##*:}"
     done
     same 'programs in the pages' "$(grep -c '^```c$' README.md docs/DRIVER.md)" 'README.md:1
-docs/DRIVER.md:3'
-    for part in 2:heads.c 3:table.c; do
+docs/DRIVER.md:4'
+    for part in 2:heads.c 3:table.c 4:convert.c; do
         case $(cat "examples/${part##*:}") in
         *"
 $(program docs/DRIVER.md "${part%%:*}")
@@ -175,7 +187,7 @@ try_pages() {
     same 'functions in the synopsis' "$(sed -n 's/^uint64_t \(reelbook_[a-z]*\)(.*/\1/p' "$work/synopsis.c" | sort)" "$declared"
     # shellcheck disable=SC2046
     $cc $(pkg-config --cflags reelbook) -fsyntax-only "$work/synopsis.c" || fail "the synopsis is not the header's"
-    same 'answers in the page' "$(grep -c '^[0-9]*	.*REELBOOK_' "$prefix/share/man/man3/reelbook.3")" 16
+    same 'answers in the page' "$(grep -c '^[0-9]*	.*REELBOOK_' "$prefix/share/man/man3/reelbook.3")" 17
     same 'commands in the page' "$(sed -n 's/^\.SS //p' "$prefix/share/man/man1/reelbook.1")" \
         "$("$prefix/bin/reelbook" --help | sed -n 's/^  reelbook \([a-z]*\) FILE.*/\1/p')"
 }

@@ -1,7 +1,7 @@
 /* How many bytes of stack each function needs, arguments and return address included: it is called on a stack of its own that is
- * painted before, and what has another colour afterwards was used. The trees are as deep as there can be, since Recover, List and
- * Retire go down them by calls. stack RULE prints a line for each function, on images that go by this rule: 1 or 2, an edition,
- * or own, an own table. */
+ * painted before, and what has another colour afterwards was used. The trees are as deep as there can be, since Recover, List,
+ * Retire and Convert go down them by calls. stack RULE prints a line for each function, on images that go by this rule: 1 or 2,
+ * an edition, or own, an own table. */
 #define _XOPEN_SOURCE 600 /* for ucontext.h */
 #include <stdio.h>
 #include <stdlib.h>
@@ -10,12 +10,13 @@
 
 #include "book.h"
 
-enum { STACK_WORDS = 8192, COLOUR = 0x5c, LAST_LEVEL = 31, NODES = 1 + 3 * 2 + 28 * 4 + 4 };
+enum { STACK_WORDS = 8192, COLOUR = 0x5c };
 
 static uint64_t stack[STACK_WORDS];
 static ucontext_t outside, inside;
 static struct book deep, wide, *b = &deep;
 static const void *top;
+static uint64_t *copy;
 static unsigned rule;
 static uint64_t answer;
 static uint8_t table[REELBOOK_TABLE_BYTES];
@@ -39,30 +40,6 @@ static size_t stack_of(void (*call)(void)) {
     return (size_t)((const char *)top - (const char *)&stack[lowest]);
 }
 
-/* A sound tree with one path down to the last level: node 0, then the first of each group of children. Level k has frame
- * k * 2^59 in place 0; all of these agree in bits 0 to 58, which are 0, so that they go to the first child each time. */
-static void make_deep(void) {
-    uint64_t node = 0, next = 1, level, child;
-    book_format_as(b, rule, 1, NODES);
-    equal(book_open(b, 7), REELBOOK_DONE, "open");
-    for (level = 0; level <= LAST_LEVEL; level++) {
-        uint64_t children = level == LAST_LEVEL ? 0 : level < 3 ? 2 : 4;
-        for (child = 0; child < children; child++) {
-            memset(&b->image[node_index(b, next + child, 0)], 0, REELBOOK_NODE_WORDS * sizeof *b->image);
-            b->image[node_index(b, next + child, REELBOOK_NODE_LEVEL)] = level + 1;
-            b->image[node_index(b, next + child, REELBOOK_NODE_SIZE)] = 64;
-        }
-        b->image[node_index(b, node, REELBOOK_NODE_NEXT)] = children ? next + 1 : 0;
-        b->image[node_index(b, node, REELBOOK_NODE_SIZE)] = 64;
-        b->image[node_index(b, node, REELBOOK_NODE_LOCATE)] = b->image[node_index(b, node, REELBOOK_NODE_SET)] = 1;
-        b->image[node_index(b, node, REELBOOK_NODE_FINGERPRINTS)] = fingerprint(rule, level << 59);
-        b->image[node_index(b, node, REELBOOK_NODE_FRAMES)] = level << 59;
-        node = next;
-        next += children;
-    }
-    equal(book_recover(b), REELBOOK_DONE, "recover of the deep tree");
-}
-
 /* The slices that a call is lent. */
 #define IMAGE b->image, b->image_words
 #define MAP b->map, b->map_words
@@ -76,7 +53,7 @@ static void make_deep(void) {
         answer = reelbook_##name(__VA_ARGS__); \
     }
 
-CALL(format, IMAGE, MAP, b->heads, table, table_bytes, 1, NODES)
+CALL(format, IMAGE, MAP, b->heads, table, table_bytes, 1, DEEP_NODES)
 CALL(recover, IMAGE, MAP, b->heads)
 CALL(open, IMAGE, MAP, SCRIPT, 7, &b->used)
 CALL(claim, IMAGE, MAP, b->heads, SCRIPT, 0, 7, 8 * 256, &b->used, &b->left)
@@ -87,6 +64,7 @@ CALL(remove, IMAGE, b->heads, SCRIPT, 7, UINT64_C(31) << 59, &b->used)
 CALL(has, IMAGE, 7, UINT64_C(31) << 59, &b->count)
 CALL(list, IMAGE, SCRATCH, b->list, LIST_WORDS, 7, &b->count)
 CALL(retire, IMAGE, MAP, b->heads, SCRATCH, SCRIPT, 7, &b->used)
+CALL(convert, IMAGE, copy, b->image_words, SCRATCH)
 CALL(apply, IMAGE, b->script, (size_t)b->used)
 
 /* Calls, in a sequence in which each is answered; its script is carried out. */
@@ -107,7 +85,7 @@ static void line(const char *name, size_t bytes) {
 static void measure_claim(void) {
     size_t in_deep = measured(call_claim, 1), in_wide;
     b = &wide;
-    book_format_as(b, rule, 1, NODES);
+    book_format_as(b, rule, 1, DEEP_NODES);
     equal(book_open(b, 7), REELBOOK_DONE, "open");
     book_add(b, 7, 0, 8, 256);
     in_wide = measured(call_claim, 1);
@@ -117,17 +95,28 @@ static void measure_claim(void) {
     line("claim", in_deep > in_wide ? in_deep : in_wide);
 }
 
+/* An own table is refused last, when all of the image has been walked through. */
+static void measure_convert(void) {
+    size_t bytes;
+    copy = junk(b->image_words);
+    bytes = stack_of(call_convert);
+    equal(answer, rule == OWN_TABLE ? REELBOOK_HAS_OWN_TABLE : REELBOOK_DONE, "the answer of a measured conversion");
+    line("convert", bytes);
+    free(copy);
+}
+
 int main(int count, char **words) {
     const char *word = count == 2 ? words[1] : "";
     rule = strcmp(word, "own") == 0 ? OWN_TABLE : strcmp(word, "1") == 0 ? EDITION_1 : EDITION_2;
     own_table(table);
     table_bytes = rule == OWN_TABLE ? sizeof table : 0;
-    make_deep();
+    book_make_deep(b, rule);
     line("recover", measured(call_recover, 0));
     line("has", measured(call_has, 0));
     equal(b->count, 1, "the deepest frame is held");
     line("list", measured(call_list, 0));
     equal(b->count, LAST_LEVEL + 1, "a frame at each level");
+    measure_convert();
     measure_claim();
     line("abandon", measured(call_abandon, 1));
     measured(call_claim, 1);

@@ -1,100 +1,27 @@
 /* Recover's stores to the image, one by one, since no contract sees the middle of it: one to each locate word that differs, and
- * none to any other word, not even of the value that it has. The image is lent write-protected: a store faults, and is let
- * through alone by the trap flag. It is made twice, first on the complement of the image and then on the image, and noted at
- * every byte that has changed in one of the two: whatever it stores there, and however many bytes at once. Not seen is a byte,
- * other than the first, of an instruction that reads the image too and puts back what it read.
- * Linux on x86-64. */
+ * none to any other word, not even of the value that it has. And Convert's stores to the copy: some to each of its words, none
+ * where it refuses, and none to the image, which is read-only, or outside what it is lent: a power failure in it finds the image
+ * as it was. Linux on x86-64. */
 #define _GNU_SOURCE
 #include <stdio.h>
 
 #if defined __linux__ && defined __x86_64__
 
 #include "book.h"
-#include "traps.h"
+#include "converted.h"
+#include "lent.h"
+#include "watch.h"
 
-#include <sys/mman.h>
-#include <ucontext.h>
-#include <unistd.h>
+#include <stdlib.h>
+#include <string.h>
 
-enum { SLOTS = 3, NODES = 40, ROUNDS = 200 /* for each rule */, WORD = sizeof(uint64_t) };
+enum { SLOTS = 3, NODES = 40, ROUNDS = 200 /* for each rule */ };
 
 static struct book b;
-static unsigned *noted; /* stores to each word of the image */
-static uint64_t in_part; /* stores to some bytes of a word and not to others */
 
-/* The store under way: registers and image before it, the bytes that it reaches, and whether it is made on the complement. */
-static gregset_t registers;
-static uint64_t *before;
-static unsigned char *reached;
-static int on_complement;
-
-static void protect(int protection) {
-    if (mprotect(b.image, b.image_words * WORD, protection) != 0) {
-        perror("stores: mprotect");
-        _exit(2);
-    }
-}
-
-/* The store is about to be made: its first byte is known. */
-static void on_fault(int number, siginfo_t *info, void *context) {
-    ucontext_t *machine = (ucontext_t *)context;
-    size_t at = (size_t)((char *)info->si_addr - (char *)b.image), word;
-    if (at / WORD >= b.image_words) {
-        signal(number, SIG_DFL); /* not the image: the fault comes again and ends the program */
-        return;
-    }
-    protect(PROT_READ | PROT_WRITE);
-    reached[at] = 1;
-    for (word = 0; word < b.image_words; word++) {
-        before[word] = b.image[word];
-        b.image[word] = ~before[word];
-    }
-    on_complement = 1;
-    memcpy(registers, machine->uc_mcontext.gregs, sizeof registers);
-    machine->uc_mcontext.gregs[REG_EFL] |= TRAP_FLAG;
-}
-
-/* Notes the words that the store has reached. */
-static void note_words(void) {
-    size_t word, byte;
-    unsigned bytes;
-    for (word = 0; word < b.image_words; word++) {
-        bytes = 0;
-        for (byte = WORD * word; byte < WORD * (word + 1); byte++) {
-            bytes += reached[byte];
-            reached[byte] = 0;
-        }
-        noted[word] += bytes != 0;
-        in_part += bytes != 0 && bytes != WORD;
-    }
-}
-
-/* The store is made, on the complement or on the image. */
-static void on_step(int number, siginfo_t *info, void *context) {
-    ucontext_t *machine = (ucontext_t *)context;
-    const unsigned char *old = (const unsigned char *)before, *now = (const unsigned char *)b.image;
-    size_t byte;
-    (void)number;
-    (void)info;
-    for (byte = 0; byte < WORD * b.image_words; byte++) {
-        reached[byte] |= now[byte] != (on_complement ? (unsigned char)~old[byte] : old[byte]);
-    }
-    if (on_complement) {
-        on_complement = 0;
-        memcpy(b.image, before, b.image_words * WORD);
-        memcpy(machine->uc_mcontext.gregs, registers, sizeof registers);
-        machine->uc_mcontext.gregs[REG_EFL] |= TRAP_FLAG;
-        return;
-    }
-    note_words();
-    protect(PROT_READ);
-    machine->uc_mcontext.gregs[REG_EFL] &= ~(greg_t)TRAP_FLAG;
-}
-
-/* Three reels, with branch-outs, in memory that can be protected. */
+/* Three reels, with branch-outs, in memory that can be watched. */
 static void make_book(unsigned rule) {
-    size_t bytes;
-    void *mapped;
+    uint64_t *image;
     book_format_as(&b, rule, SLOTS, NODES);
     book_open(&b, 7);
     book_add(&b, 7, 0, 1, 150);
@@ -102,24 +29,10 @@ static void make_book(unsigned rule) {
     book_add(&b, 8, 0, 8, 270);
     book_open(&b, 9);
     book_add(&b, 9, 5, 1, 20);
-    bytes = b.image_words * sizeof *b.image;
-    mapped = mmap(NULL, bytes, PROT_READ | PROT_WRITE, MAP_PRIVATE | MAP_ANONYMOUS, -1, 0);
-    if (mapped == MAP_FAILED) {
-        perror("stores: mmap");
-        exit(2);
-    }
-    memcpy(mapped, b.image, bytes);
+    image = watchable(b.image_words);
+    memcpy(image, b.image, b.image_words * sizeof *image);
     free(b.image);
-    b.image = (uint64_t *)mapped;
-}
-
-/* Xorshift: the same numbers in each run. */
-static uint64_t drawn(void) {
-    static uint64_t state = 88172645463325252u;
-    state ^= state << 13;
-    state ^= state >> 7;
-    state ^= state << 17;
-    return state;
+    b.image = image;
 }
 
 static int used(uint64_t node) {
@@ -143,16 +56,14 @@ static void draw_locate(unsigned *expected) {
 
 static void recover_noting(uint64_t answer, const unsigned *expected, const char *what) {
     size_t word, wrong = 0;
-    in_part = 0;
-    memset(noted, 0, b.image_words * sizeof *noted);
-    protect(PROT_READ);
+    watch(b.image, b.image_words);
     equal(book_recover(&b), answer, what);
-    protect(PROT_READ | PROT_WRITE);
+    unwatch();
     for (word = 0; word < b.image_words; word++) {
-        wrong += noted[word] != expected[word];
+        wrong += noted(word) != expected[word];
     }
     equal(wrong, 0, "words not stored to as often as due");
-    equal(in_part, 0, "stores to a part of a word");
+    equal(noted_in_part(), 0, "stores to a part of a word");
 }
 
 /* A word that is one more than it should be, and makes the image malformed: no store at all. */
@@ -179,14 +90,11 @@ static size_t table_word(void) {
     return (size_t)(word == REELBOOK_TABLE_WORDS ? REELBOOK_OWN_AT : REELBOOK_TABLE_AT + word);
 }
 
-static void check_rule(unsigned rule) {
+static void check_recover(unsigned rule) {
     unsigned *expected;
     uint64_t *map;
     int round;
     make_book(rule);
-    noted = (unsigned *)zeroed(b.image_words);
-    before = zeroed(b.image_words);
-    reached = (unsigned char *)zeroed(b.image_words);
     expected = (unsigned *)zeroed(b.image_words);
     map = zeroed(b.map_words);
     memcpy(map, b.map, b.map_words * sizeof *map);
@@ -197,22 +105,65 @@ static void check_rule(unsigned rule) {
         check_refused(rule == OWN_TABLE && round % 2 == 0 ? table_word() : level_word(), expected);
         memcpy(b.map, map, b.map_words * sizeof *map); /* cleared by the refusal */
     }
-    munmap(b.image, b.image_words * sizeof *b.image);
+    watchable_free(b.image, b.image_words);
     b.image = NULL;
     book_free(&b);
-    free(noted);
-    free(before);
-    free(reached);
     free(expected);
     free(map);
 }
 
+/* How many words of the copy have had a store, whole or in part. */
+static size_t stored_to(size_t words) {
+    size_t word, count = 0;
+    for (word = 0; word < words; word++) {
+        count += noted(word) != 0;
+    }
+    return count;
+}
+
+/* The image, which no store may reach, and the scratch map are between pages that may not be touched. */
+static void convert_noting(const struct book *from, uint64_t answer, const char *what) {
+    struct lent image, scratch;
+    uint64_t *copy = watchable(from->image_words);
+    lend(&image, from->image_words);
+    memcpy(image.words, from->image, from->image_words * sizeof *copy);
+    lent_read_only(&image);
+    lend(&scratch, from->map_words);
+    memset(copy, JUNK, from->image_words * sizeof *copy);
+    watch(copy, from->image_words);
+    equal(reelbook_convert(image.words, image.count, copy, from->image_words, scratch.words, scratch.count), answer, what);
+    unwatch();
+    equal(stored_to(from->image_words), answer == REELBOOK_DONE ? from->image_words : 0, "words of the copy stored to");
+    if (answer == REELBOOK_DONE) {
+        equal(differs(copy, from->image, from->image_words), 0, "words of the copy that are wrong");
+    }
+    lent_back(&image);
+    lent_back(&scratch);
+    watchable_free(copy, from->image_words);
+}
+
+static void check_convert(unsigned rule) {
+    struct book stale;
+    make_stale(&stale, rule);
+    convert_noting(&stale, rule == OWN_TABLE ? REELBOOK_HAS_OWN_TABLE : REELBOOK_DONE, "convert");
+    stale.image[node_index(&stale, 0, REELBOOK_NODE_FINGERPRINTS)] ^= 1;
+    convert_noting(&stale, REELBOOK_MALFORMED, "convert of an image that is not sound");
+    stale.image[REELBOOK_EDITION_AT] = 0;
+    convert_noting(&stale, REELBOOK_BAD_EDITION, "convert of no edition");
+    stale.map_words++;
+    stale.image[REELBOOK_EDITION_AT] = REELBOOK_EDITION_2;
+    convert_noting(&stale, REELBOOK_BAD_BUFFER, "convert with a scratch map one word long");
+    stale.image[REELBOOK_NODES_AT]++;
+    convert_noting(&stale, REELBOOK_BAD_IMAGE, "convert with a wrong number of nodes");
+    book_free(&stale);
+}
+
 int main(void) {
-    handle(SIGSEGV, on_fault);
-    handle(SIGTRAP, on_step);
-    check_rule(EDITION_1);
-    check_rule(EDITION_2);
-    check_rule(OWN_TABLE);
+    unsigned rule;
+    for (rule = EDITION_1; rule <= OWN_TABLE; rule++) {
+        check_recover(rule);
+        check_convert(rule);
+    }
     printf("stores: %u checks, %u failures\n", checks, failures);
     return failures != 0;
 }
@@ -220,7 +171,7 @@ int main(void) {
 #else
 
 int main(void) {
-    puts("skipped: Recover's stores one by one, because they are watched by a way of Linux on x86-64");
+    puts("skipped: Recover's and Convert's stores one by one, because they are watched by a way of Linux on x86-64");
     return 0;
 }
 

@@ -11,8 +11,8 @@ enum { THREADS = 2, ROUNDS = 10, REELS = 8, NODES = 512, FRAMES = 30000 };
 enum { IMAGE_WORDS = REELBOOK_HEADER_WORDS + REELBOOK_SLOT_WORDS * REELS + REELBOOK_NODE_WORDS * NODES, MAP_WORDS = NODES / 64 };
 
 struct book {
-    uint64_t image[IMAGE_WORDS], map[MAP_WORDS], scratch[MAP_WORDS], heads[REELBOOK_HEADS_WORDS], list[64 * NODES];
-    uint64_t script[REELBOOK_SCRIPT_WORDS], used, left, count;
+    uint64_t image[IMAGE_WORDS], copy[IMAGE_WORDS], map[MAP_WORDS], scratch[MAP_WORDS], heads[REELBOOK_HEADS_WORDS];
+    uint64_t list[64 * NODES], script[REELBOOK_SCRIPT_WORDS], used, left, count;
     uint64_t seed, refused; /* and how many calls were */
     uint8_t table[REELBOOK_TABLE_BYTES];
 };
@@ -53,6 +53,7 @@ static void *work(void *book) {
         change(b, random);
     }
     b->refused += reelbook_recover(IMAGE, MAP, b->heads);
+    b->refused += reelbook_convert(IMAGE, b->copy, IMAGE_WORDS, SCRATCH) != REELBOOK_DONE; /* 17 for an own table */
     b->refused += reelbook_list(IMAGE, SCRATCH, b->list, 64 * NODES, 3, &b->count);
     carry_out(b, reelbook_retire(IMAGE, MAP, b->heads, SCRATCH, SCRIPT, 5, &b->used));
     return NULL;

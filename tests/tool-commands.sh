@@ -37,7 +37,7 @@ table    the library'\''s' stat book
     does "$sound" check book
 }
 
-names='format open add remove has list retire reels stat dump load table check recover draw'
+names='format open add remove has list retire reels stat dump load convert table check recover draw'
 
 try_help() {
     run --help
@@ -56,7 +56,7 @@ try_help() {
     done
     for number in 0 1 2 3 4; do holds grep -q "^  $number  " all; done
     holds test "$(grep -c '^  reelbook ' all)" = "$(echo $names help --version | wc -w)"
-    does 'reelbook 4.0.0' --version
+    does 'reelbook 4.1.0' --version
     misused 'a command is missing; reelbook --help tells them'
     misused 'burn: no such command; reelbook --help tells them' burn book
     misused 'burn: no such command; reelbook --help tells them' help burn

@@ -184,15 +184,7 @@ keep_old() {
     cp whole dump
     run load book dump --force
     expect 4 '' 'load: book: in use by another process'
-    "$tool" load book dump --force --wait </dev/null >waited 2>&1 3>&- &
-    waiter=$!
-    sleep 0.3
-    kill -0 "$waiter" || fail "a process that should wait has ended: $(cat waited)"
-    exec 3>&-
-    wait "$holder"
-    holder=
-    wait "$waiter"
-    holds test "$?$(cat waited)" = '01 reel, 1 frame loaded'
+    waits '01 reel, 1 frame loaded' load book dump --force
     does "$(cat whole)" dump book
     mv loads/old book
     only

@@ -136,6 +136,21 @@ hold_book() {
     done
 }
 
+# A command that waits for the book, which a process has in use, ends once that one has: with this exit status and output.
+waits() {
+    expected=$1
+    shift
+    "$tool" "$@" --wait </dev/null >waited 2>&1 3>&- &
+    waiter=$!
+    sleep 0.3
+    kill -0 "$waiter" || fail "a process that should wait has ended: $(cat waited)"
+    exec 3>&-
+    wait "$holder"
+    holder=
+    wait "$waiter"
+    holds test "$?$(cat waited)" = "$expected"
+}
+
 try_locks() {
     hold_book
     for name in 'has book 7 5' 'check book' 'open book 1' 'recover book' 'format book --reels 1 --nodes 1 --force'; do

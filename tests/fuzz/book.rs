@@ -8,7 +8,7 @@ use crate::subject::Subject;
 use std::collections::BTreeSet;
 
 /// Every operation but Format.
-pub const OPERATIONS: [Function; 10] = [Recover, Open, Claim, Fill, Commit, Abandon, Remove, Has, List, Retire];
+pub const OPERATIONS: [Function; 11] = [Recover, Open, Claim, Fill, Commit, Abandon, Remove, Has, List, Retire, Convert];
 
 /// What every word holds before it is written, so that no result is there already.
 pub const JUNK: u64 = 0x5a5a_5a5a_5a5a_5a5a;
@@ -33,6 +33,7 @@ impl Book {
         let junk = |words: u64| Buffer::of((0..words).map(|_| JUNK));
         let lent = Lent {
             image: junk(image_words(slots, nodes)),
+            copy: junk(image_words(slots, nodes)),
             map: junk(map_words(nodes)),
             heads: junk(HEADS * HEAD_WORDS as u64),
             script: junk(SCRIPT_WORDS as u64),

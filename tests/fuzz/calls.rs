@@ -4,7 +4,7 @@ use crate::damage::{descent, some_slot, Damage};
 use crate::lending::Lending;
 use crate::model::buffer::Buffer;
 use crate::model::call::{Call, Function, Lent};
-use crate::model::ending::BAD_TABLES;
+use crate::model::ending::{BAD_TABLES, COPY_LONG, COPY_SHORT};
 use crate::model::fault::Fault;
 use crate::model::image::*;
 use crate::model::left::Claimed;
@@ -14,6 +14,7 @@ use crate::model::script::{self, SCRIPT_WORDS};
 use crate::random::Random;
 use crate::report;
 use crate::subject::Subject;
+use crate::trip::Trip;
 use crate::{tables, trees};
 
 const CALLS: u64 = 16;
@@ -51,7 +52,7 @@ impl Case {
         let mut junk = |length: usize| Buffer::of((0..length).map(|_| random.word()));
         let (scratch, script, list) = (junk(map.len()), junk(SCRIPT_WORDS + 6), junk(200));
         let heads = Buffer::of([0; HEADS as usize * HEAD_WORDS]);
-        let mut lent = Lent { image, map, heads, script, scratch, list, table: None };
+        let mut lent = Lent { image, copy: Buffer::of([]), map, heads, script, scratch, list, table: None };
         let mut lending = Lending { random: &mut random, lent: &mut lent, slots, nodes };
         if lending.random.one_in(3) {
             lending.map();
@@ -78,11 +79,30 @@ impl Case {
             let head = Head::read(&self.found.heads, call.head);
             coverage.left(head.place, &Claimed::of(head.node, &self.found, found.count));
         }
+        if call.function == Function::Convert && found.answer == 0 {
+            self.converted(coverage)?;
+        }
         if kept {
             std::mem::swap(&mut self.lent, &mut self.found);
+            self.lent.copy.resize(0, || 0);
             if !matches!(call.function, Function::Has | Function::List) {
                 script::carry_out(&mut self.lent.image, &script::read(&self.lent.script[..found.count as usize]));
             }
+        }
+        Ok(())
+    }
+
+    /// After an answered conversion: there and back, now and then, and sometimes the case goes on with the copy.
+    fn converted(&mut self, coverage: &mut Coverage) -> Result<(), String> {
+        let Lent { image, copy, .. } = &mut self.found;
+        coverage.conversions.met(image);
+        if self.random.one_in(2) {
+            let reached = Image::read(image, Fault::None).and_then(|image| image.sound()).unwrap_or_default();
+            let mut trip = Trip { random: &mut self.random, subject: self.subject, compared: true };
+            trip.make(image, copy, reached.into_iter()).map_err(|text| format!("there and back: {}", text))?;
+        }
+        if self.random.one_in(3) {
+            std::mem::swap(image, copy);
         }
         Ok(())
     }
@@ -94,13 +114,19 @@ impl Case {
             let otherwise = operations::perform(call, &mut self.found.clone(), Fault::BadTableTaken);
             coverage.bad_table(call.function, otherwise.ending.answer);
         }
+        let is_lent = [COPY_SHORT, COPY_LONG].contains(&outcome.ending) || matches!(outcome.ending.answer, 2 | 3);
+        if call.function == Function::Convert && is_lent {
+            coverage.conversions.refused(call, &self.found, outcome.ending);
+        }
     }
 
     fn draw(&mut self) -> Call {
         use Function::*;
         // More of those with many ways to end, fewer of Recover, which takes the most time.
-        let often =
-            [Open, Claim, Claim, Claim, Claim, Claim, Fill, Commit, Abandon, Remove, Remove, Has, Has, List, Retire, Apply];
+        let often = [
+            Open, Claim, Claim, Claim, Claim, Claim, Fill, Commit, Abandon, Remove, Remove, Has, Has, List, Retire, Convert,
+            Apply,
+        ];
         let function = if self.random.one_in(3) { self.random.pick(&Function::ALL) } else { self.random.pick(&often) };
         let head = if self.random.one_in(12) { self.random.odd_word(&[HEADS]) } else { self.random.below(HEADS) };
         let slot = match self.random.below(12) {
@@ -157,11 +183,11 @@ impl Case {
         }
         let kept = odd > 4 && function != Function::Apply && (function != Function::Format || lending.random.one_in(8));
         lending.lent.table = if function == Function::Format { tables::given(lending.random) } else { None };
-        if function == Function::Apply {
-            lending.script();
-        }
-        if function == Function::List {
-            self.list(call);
+        match function {
+            Function::Apply => lending.script(),
+            Function::Convert => lending.copy(),
+            Function::List => self.list(call),
+            _ => (),
         }
         kept
     }

@@ -1,5 +1,6 @@
 //! The specification's own cases, with its numbers, so that library and model do not merely agree with each other.
 use crate::book::*;
+use crate::convert_cases::convert_cases;
 use crate::crash::Crash;
 use crate::model::buffer::Buffer;
 use crate::model::call::{Function, Function::*};
@@ -8,7 +9,7 @@ use crate::model::node::{FINGERPRINTS, LOCATE, SET, SIZE_AT};
 use crate::model::rule::*;
 use crate::model::script;
 use crate::subject::Subject;
-use crate::table_cases::*;
+use crate::table_cases::table_cases;
 
 /// A reel of frames that agree in their low bits: each node of one path is full, down to the level named; then some frames.
 fn below_full_path(subject: Subject, nodes: u64, full: impl Iterator<Item = u64>, frames: &[u64]) -> Vec<Claimed> {
@@ -288,10 +289,6 @@ pub fn check(name: &str, subject: Subject) -> bool {
         ("fingerprints of edition 2 on an own table", fingerprints_of_another(subject, SECOND, OWN)),
         ("format writes edition 2", format_writes_2(subject)),
         ("other editions", other_editions(subject)),
-        ("format stores a table", format_stores_a_table(subject)),
-        ("tables given to format", given_tables(subject)),
-        ("bad tables", bad_tables(subject)),
-        ("tables that are not read", unread_tables(subject)),
         ("a start on edition 1", start_on_edition_1(subject)),
         ("growth in a pool of one node", growth(subject, 1)),
         ("growth in a pool of three", growth(subject, 3)),
@@ -309,6 +306,7 @@ pub fn check(name: &str, subject: Subject) -> bool {
         ("case A on edition 2", case_a(subject, SECOND)),
         ("case A on an own table", case_a(subject, OWN)),
     ];
+    let results = [&results[..], &table_cases(subject), &convert_cases(subject)].concat();
     for (case, _) in results.iter().filter(|(_, right)| !right) {
         println!("{}: not as specified: {}", name, case);
     }

@@ -1,7 +1,8 @@
 //! What the fuzzing has reached: by each rule of the fingerprint, each way in which a function can end, each answer in a history,
 //! a crash of each function that stores; bad tables, and such as are not read; each way to start a history, and each format in
 //! one; each moment of a script for a crash, a crash of each function that stores with a claim of every head open, and with
-//! several in one tree; what claims leave of their nodes.
+//! several in one tree; what claims leave of their nodes. Conversions have a file of their own.
+use crate::conversions::Conversions;
 use crate::goals::*;
 use crate::model::call::{Call, Function, Function::*};
 use crate::model::ending::*;
@@ -41,6 +42,7 @@ impl Claims {
 
 #[derive(Default)]
 pub struct Coverage {
+    pub conversions: Conversions,
     /// By the image's rule too, where that counts.
     endings: BTreeMap<(Function, Ending, Option<Rule>), u64>,
     /// Of calls on images with a bad table: the answers, and where that is 4 for the table, those without it.
@@ -137,13 +139,7 @@ impl Coverage {
 
     /// A recovery of an image that was found, by what came before the one that ended.
     pub fn found_start(&mut self, rule: Rule, refused: bool, cut: bool, frames: bool) {
-        let attempts = match (refused, cut) {
-            (false, false) => PLAIN,
-            (true, false) => REFUSED,
-            (false, true) => CUT,
-            (true, true) => REFUSED_AND_CUT,
-        };
-        for start in [attempts, if frames { ON_FRAMES } else { ON_NO_FRAMES }] {
+        for start in [attempts(refused, cut), if frames { ON_FRAMES } else { ON_NO_FRAMES }] {
             *self.starts.entry((rule, start)).or_default() += 1;
         }
     }
@@ -220,7 +216,7 @@ impl Coverage {
         let mut counts: BTreeMap<(Function, u64), u64> = BTreeMap::new();
         answers.for_each(|(function, answer, count)| *counts.entry((function, answer)).or_default() += count);
         // 15 is the bench program's.
-        let all = || (0..=16).filter(|&answer| answer != 15);
+        let all = || (0..=17).filter(|&answer| answer != 15);
         println!("{:8}{:>8}{}", "", "calls", all().map(|answer| format!("{:>8}", answer)).collect::<String>());
         for function in Function::ALL {
             let count = |answer: u64| counts.get(&(function, answer)).copied().unwrap_or(0);
@@ -248,6 +244,7 @@ impl Coverage {
         let (together, branched) = (self.together.values().sum::<u64>(), self.branched.values().sum::<u64>());
         println!("{} crashes with several claims in one tree, {} of them in a branch-out of it", together, branched);
         println!("where before and after differ: {} mixtures before, {} after", self.undone, self.completed);
+        self.conversions.print();
     }
 
     /// What should have been reached by calls and was not, and what was and should not.
@@ -265,13 +262,14 @@ impl Coverage {
         lines.extend(missed(&all, &self.unread, |key| format!("{} answered on {}", key.0.name(), key.1)));
         let all: Vec<_> = SIZES.iter().flat_map(|&size| LEFTS.iter().map(move |&kind| (size, kind))).collect();
         lines.extend(missed(&all, &self.lefts, |key| format!("claim in a node of size {} that leaves {}", key.0, key.1)));
+        lines.extend(self.conversions.calls_missed());
         lines
     }
 
     /// The same for histories: answers, moments of scripts, crashes with all claims open.
     pub fn histories_missed(&self) -> Vec<String> {
-        let on_each = |f: Function, answer: u64| RULES.iter().map(move |&rule| (f, answer, rule));
-        let of_each = |f: Function| answers(f).iter().flat_map(move |&answer| on_each(f, answer));
+        let by_each = |f: Function, rule: Rule| answers_by(f, rule).map(move |answer| (f, answer, rule));
+        let of_each = |f: Function| RULES.iter().flat_map(move |&rule| by_each(f, rule));
         let all: Vec<_> = Function::ALL.iter().flat_map(|&f| of_each(f)).collect();
         let name = |key: &(Function, u64, Rule)| format!("{} {} in a history{}", key.0.name(), key.1, on(Some(key.2)));
         let mut lines = missed(&all, &self.answers, name);
@@ -304,11 +302,12 @@ impl Coverage {
         if self.deepest < LAST_LEVEL {
             lines.push(format!("never reached: level {} in a history", LAST_LEVEL));
         }
+        lines.extend(self.conversions.histories_missed());
         lines
     }
 }
 
-fn named(rule: Rule) -> &'static str {
+pub fn named(rule: Rule) -> &'static str {
     match rule {
         FIRST => "edition 1",
         OWN => "an own table",
@@ -320,7 +319,7 @@ fn on(rule: Option<Rule>) -> String {
     rule.map_or(String::new(), |rule| format!(" on {}", named(rule)))
 }
 
-fn missed<K: Ord>(all: &[K], reached: &BTreeMap<K, u64>, name: impl Fn(&K) -> String) -> Vec<String> {
+pub fn missed<K: Ord>(all: &[K], reached: &BTreeMap<K, u64>, name: impl Fn(&K) -> String) -> Vec<String> {
     let never = all.iter().filter(|&key| !reached.contains_key(key)).map(|key| format!("never reached: {}", name(key)));
     let unlisted = reached.keys().filter(|&key| !all.contains(key)).map(|key| format!("not in the list: {}", name(key)));
     never.chain(unlisted).collect()

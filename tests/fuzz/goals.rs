@@ -44,6 +44,7 @@ pub fn endings(function: Function) -> Vec<Ending> {
         Has => &[HEADER, PATH, &[NO_REEL, HAS_NO, HAS_OTHER, HAS_LOWER, HAS_YES]],
         List => &[HEADER, PATH, TREES, &[SCRATCH_LENGTH, NO_REEL, LIST_SHORT]],
         Retire => &[HEADER, PATH, TREES, &[MAP_LENGTH, SCRATCH_LENGTH, SCRIPT_LENGTH, NO_REEL, BUSY]],
+        Convert => &[HEADER, PATH, UNSOUND, &[COPY_SHORT, COPY_LONG, SCRATCH_LENGTH, OWN_TABLE, DONE]],
         Apply => &[LENGTHS, &[SCRIPT_ODD, BARRIER_VALUE, STORE_OUTSIDE, STORES_NONE, STORES_HEADER, STORES]],
     };
     let bad: &[Ending] = if matches!(function, Format | Apply) { &[] } else { &BAD_TABLES };
@@ -52,15 +53,19 @@ pub fn endings(function: Function) -> Vec<Ending> {
 
 const ANY: &[Option<Rule>] = &[None];
 const EACH: &[Option<Rule>] = &[Some(FIRST), Some(SECOND), Some(OWN)];
+const BUT_OWN: &[Option<Rule>] = &[Some(FIRST), Some(SECOND)];
+const OWN_ALONE: &[Option<Rule>] = &[Some(OWN)];
 const EACH_AND_NONE: &[Option<Rule>] = &[None, Some(FIRST), Some(SECOND), Some(OWN)];
 
-/// The rules by which images go on which a call is to end so: each where it reads them; also none where it writes and does not
-/// read them, or looks at them only later.
+/// The rules by which images go on which a call is to end so: each where it reads them, but that an own table is not converted;
+/// also none where it writes and does not read them, or looks at them only later.
 pub fn rules(function: Function, ending: Ending) -> &'static [Option<Rule>] {
     match (function, ending.answer) {
         (Format | Apply, 0) => EACH_AND_NONE,
         (Format | Apply, _) | (_, 1 | 2) => ANY,
         (_, 3) => EACH_AND_NONE,
+        (Convert, 0) => BUT_OWN,
+        (Convert, 17) => OWN_ALONE,
         _ if BAD_TABLES.contains(&ending) => ANY,
         _ => EACH,
     }
@@ -78,8 +83,15 @@ pub fn answers(function: Function) -> &'static [u64] {
         Has => &[0, 1, 5],
         List => &[0, 1, 3, 5, 14],
         Retire => &[0, 1, 3, 5, 13],
+        Convert => &[0, 1, 3, 17],
         Apply => &[],
     }
+}
+
+/// Those that come on a book that goes by this rule.
+pub fn answers_by(function: Function, rule: Rule) -> impl Iterator<Item = u64> {
+    let comes = move |answer: &u64| function != Convert || *answer != if rule.own { 0 } else { 17 };
+    answers(function).iter().copied().filter(comes)
 }
 
 /// The answers that a call on an image with a bad table gives, or would give if its table were taken.
@@ -99,16 +111,16 @@ pub const BAD_IN_2: &str = "edition 2 with word 3 of 0 and words 8 to 39 that ar
 pub const UNREAD: [&str; 4] = [GOOD_IN_1, BAD_IN_1, GOOD_IN_2, BAD_IN_2];
 
 /// Those that read the rule.
-pub const READING: [Function; 10] = [Recover, Open, Claim, Fill, Commit, Abandon, Remove, Has, List, Retire];
+pub const READING: [Function; 11] = [Recover, Open, Claim, Fill, Commit, Abandon, Remove, Has, List, Retire, Convert];
 
-/// The numbers of entries that a function's scripts have. Without a script: Recover, and refusals.
+/// The numbers of entries that a function's scripts have. Without a script: Recover, Convert, and refusals.
 pub fn scripts(function: Function) -> &'static [usize] {
     match function {
         Open => &[9, 0],
         Claim => &[2, 4, 15, 25, 0],
         Fill | Remove => &[4, 0],
         Commit | Abandon | Retire => &[2, 0],
-        Format | Recover | Has | List => &[0],
+        Format | Recover | Has | List | Convert => &[0],
         Apply => &[],
     }
 }
@@ -121,6 +133,16 @@ pub const PLAIN: &str = "an image, the first attempt ends";
 pub const REFUSED: &str = "an image, after a refused attempt";
 pub const CUT: &str = "an image, after a cut attempt";
 pub const REFUSED_AND_CUT: &str = "an image, after a refused and a cut attempt";
+
+/// The attempts at a recovery, by what came before the one that ended.
+pub fn attempts(refused: bool, cut: bool) -> &'static str {
+    match (refused, cut) {
+        (false, false) => PLAIN,
+        (true, false) => REFUSED,
+        (false, true) => CUT,
+        (true, true) => REFUSED_AND_CUT,
+    }
+}
 
 /// How a history starts. No format makes edition 1.
 pub fn starts() -> Vec<(Rule, &'static str)> {

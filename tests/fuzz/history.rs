@@ -28,6 +28,8 @@ pub struct History<'a> {
     pub plan: Plan,
     /// The header that the image is to have: as it was found, or as the last format has to write it.
     pub header: [u64; HEADER_WORDS as usize],
+    /// It is a copy, with which the history went on.
+    pub copied: bool,
 }
 
 pub fn case(seed: u64, subject: Subject, coverage: &mut Coverage) -> Result<(), String> {
@@ -44,6 +46,7 @@ pub fn case(seed: u64, subject: Subject, coverage: &mut Coverage) -> Result<(), 
 #[derive(Clone, Copy)]
 enum Which {
     Image,
+    Copy,
     Map,
     Script,
     Scratch,
@@ -80,13 +83,20 @@ impl History<'_> {
         let claims = claims.max(Claims::of(&self.table, call));
         // An answered Format runs on steady power.
         let steady = call.function == Function::Format && answer == 0;
+        let converted = call.function == Function::Convert && answer == 0;
         let branch = call.function == Function::Claim && entries.len() > 2;
         if steady || before.is_none() && !(branch && self.random.one_in(2)) {
             script::carry_out(&mut self.lent.image, &entries);
+            if converted && self.random.one_in(2) {
+                return self.go_on_with_copy();
+            }
             return if self.random.one_in(self.plan.crash) { self.check_book() } else { Ok(()) };
         }
         // A crash decided on only now is in a claim, which changes no reel and leaves the stores to its script.
         let (reels, image) = before.unwrap_or_else(|| (self.table.reels.clone(), self.lent.image.clone()));
+        if converted {
+            self.coverage.conversions.crash(self.rule(), claims);
+        }
         if call.function == Function::Recover {
             self.crash_in_recover(&image, &reels, claims)
         } else {
@@ -99,13 +109,18 @@ impl History<'_> {
         let own = self.lend(call);
         let due = self.due(call);
         let rule = self.rule();
+        let before = if call.function == Function::Convert { Some(self.lent.clone()) } else { None };
         let handed = self.subject.perform(call, &mut self.lent, self.random.word());
         let reply = self.table.perform(call, &Fed::of(&self.lent), handed.answer);
         self.coverage.answer(call.function, handed.answer, rule);
+        if self.copied && handed.answer == 0 {
+            self.coverage.conversions.on_copy(call.function, rule);
+        }
         if let Some(name) = self.lent.written_outside() {
             return Err(format!("there is written outside the {}", name));
         }
         self.compare(handed.answer, handed.count, &reply)?;
+        before.map_or(Ok(()), |before| self.check_convert(before, handed.answer))?;
         if call.function == Function::Claim {
             self.compare_claim(call, &handed, due)?;
         }
@@ -135,6 +150,7 @@ impl History<'_> {
     /// What a format that is answered has to write.
     pub fn format_header(&mut self, call: &Call) {
         self.header = header(call.slots, call.nodes, self.lent.table());
+        self.copied = false;
         if let Subject::Faulty(Fault::OwnForgotten) = self.subject {
             self.table.own = false;
         }
@@ -179,6 +195,7 @@ impl History<'_> {
     fn buffer(&mut self, which: Which) -> &mut Buffer {
         match which {
             Which::Image => &mut self.lent.image,
+            Which::Copy => &mut self.lent.copy,
             Which::Map => &mut self.lent.map,
             Which::Script => &mut self.lent.script,
             Which::Scratch => &mut self.lent.scratch,
@@ -194,10 +211,13 @@ impl History<'_> {
                 return self.other_geometry(call);
             }
         }
+        if call.function == Function::Convert {
+            self.lend_copy();
+        }
         // More often for the operations that are seldom.
         let bound = match call.function {
             Function::Claim | Function::Fill | Function::Commit => 100,
-            Function::Format | Function::Recover | Function::Has | Function::List => 16,
+            Function::Format | Function::Recover | Function::Has | Function::List | Function::Convert => 16,
             _ => 25,
         };
         let which = match self.random.below(bound) {
@@ -207,6 +227,7 @@ impl History<'_> {
             2 => Which::Scratch,
             3 => Which::Script,
             4..=9 if call.function == Function::List => Which::List,
+            4 if call.function == Function::Convert => Which::Copy,
             _ => return Vec::new(),
         };
         let buffer = self.buffer(which).clone();

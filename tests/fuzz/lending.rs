@@ -1,4 +1,5 @@
-//! Buffers of any content and length for one call: maps, head records, scripts, headers, tables.
+//! Buffers of any content and length for one call: maps, head records, scripts, second images, headers, tables.
+use crate::model::buffer::Buffer;
 use crate::model::call::{Call, Function, Lent};
 use crate::model::claim::node_used;
 use crate::model::fault::Fault;
@@ -111,6 +112,24 @@ impl Lending<'_> {
         let few = random.below(HEADER_WORDS + 2);
         let length = random.pick(&[right - 1, right - 1, right + 1, right + 80, right.saturating_sub(80), few, 0]);
         buffer.resize(length as usize, || random.word());
+    }
+
+    /// A second image and a scratch map of any contents. Now and then one has another length, or both.
+    pub fn copy(&mut self) {
+        let random = &mut *self.random;
+        let (right, few) = (self.lent.image.len() as u64, random.below(HEADER_WORDS + 2));
+        let others = [right.saturating_sub(1), right + 1, right + 1, right + NODE_WORDS, right.saturating_sub(NODE_WORDS), few];
+        let length = if random.one_in(6) { random.pick(&others) } else { right };
+        let kind = random.below(6);
+        let word = |index: usize| match kind {
+            0 => 0,
+            1 => self.lent.image.get(index).copied().unwrap_or(0),
+            _ => random.word(),
+        };
+        self.lent.copy = Buffer::of((0..length as usize).map(word));
+        let length = self.lent.scratch.len();
+        let length = if self.random.one_in(8) { self.random.pick(&[0, length + 1, length + 2]) } else { length };
+        self.lent.scratch = Buffer::of((0..length).map(|_| self.random.word()));
     }
 
     /// Another R or N: any, or such that the length would be right but for their ranges.

@@ -1,4 +1,4 @@
-//! The library's twelve functions, called as a C driver calls them.
+//! The library's thirteen functions, called as a C driver calls them.
 use crate::model::buffer::Buffer;
 use crate::model::call::{Call, Function, Lent};
 
@@ -33,6 +33,9 @@ extern "C" {
         image: Read, words: usize, map: Words, map_words: usize, heads: Read, scratch: Words, scratch_words: usize, script: Words,
         room: usize, reel: u64, used: Words,
     ) -> u64;
+    fn reelbook_convert(
+        image: Read, words: usize, copy: Words, copy_words: usize, scratch: Words, scratch_words: usize,
+    ) -> u64;
     fn reelbook_apply(image: Words, words: usize, script: Read, room: usize) -> u64;
 }
 
@@ -43,6 +46,7 @@ fn slice(buffer: &mut Buffer) -> (Words, usize) {
 /// The answer. What is handed back besides, where there is such, is written to `count` and `left`.
 pub fn perform(call: &Call, lent: &mut Lent, count: &mut u64, left: &mut u64) -> u64 {
     let (image, words) = slice(&mut lent.image);
+    let (copy, copy_words) = slice(&mut lent.copy);
     let (map, map_words) = slice(&mut lent.map);
     let (script, room) = slice(&mut lent.script);
     let (scratch, scratch_words) = slice(&mut lent.scratch);
@@ -67,6 +71,7 @@ pub fn perform(call: &Call, lent: &mut Lent, count: &mut u64, left: &mut u64) ->
             Function::Retire => {
                 reelbook_retire(image, words, map, map_words, heads, scratch, scratch_words, script, room, reel, count)
             }
+            Function::Convert => reelbook_convert(image, words, copy, copy_words, scratch, scratch_words),
             Function::Apply => reelbook_apply(image, words, script, room),
         }
     }

@@ -3,6 +3,8 @@
 mod book;
 mod calls;
 mod cases;
+mod conversions;
+mod convert_cases;
 mod coverage;
 mod crash;
 mod damage;
@@ -13,6 +15,7 @@ mod lending;
 mod library;
 #[path = "../model/mod.rs"]
 mod model;
+mod moving;
 mod plan;
 mod random;
 mod recovery;
@@ -24,6 +27,7 @@ mod subject;
 mod table_cases;
 mod tables;
 mod trees;
+mod trip;
 
 use std::process::exit;
 use std::time::{SystemTime, UNIX_EPOCH};

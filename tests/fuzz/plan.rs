@@ -35,13 +35,13 @@ pub struct Plan {
     frames: Frames,
 }
 
-const OTHERS: [Function; 25] = [
+const OTHERS: [Function; 27] = [
     Open, Open, Open, Open, Open, Open, Remove, Remove, Remove, Remove, Has, Has, List, List, Retire, Retire, Claim, Fill,
-    Commit, Abandon, Abandon, Abandon, Abandon, Recover, Format,
+    Commit, Abandon, Abandon, Abandon, Abandon, Recover, Format, Convert, Convert,
 ];
-const OTHERS_DEEP: [Function; 8] = [Open, Remove, Remove, Has, List, Abandon, Claim, Recover];
+const OTHERS_DEEP: [Function; 9] = [Open, Remove, Remove, Has, List, Abandon, Claim, Recover, Convert];
 
-const OTHERS_BESIDE: [Function; 8] = [Open, Open, Remove, Remove, Remove, Retire, Abandon, Recover];
+const OTHERS_BESIDE: [Function; 9] = [Open, Open, Remove, Remove, Remove, Retire, Abandon, Recover, Convert];
 
 const REELS: [u64; 7] = [u64::MAX, 0, 7, 8, 9, 10, 11];
 

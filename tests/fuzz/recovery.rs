@@ -28,12 +28,12 @@ fn unsound(ending: Ending) -> String {
 
 /// An image's reels with their frames, and the nodes reached.
 #[derive(PartialEq, Eq)]
-struct Contents {
-    reels: Reels,
-    nodes: BTreeSet<u64>,
+pub struct Contents {
+    pub reels: Reels,
+    pub nodes: BTreeSet<u64>,
 }
 
-fn contents(words: &[u64]) -> Result<Contents, String> {
+pub fn contents(words: &[u64]) -> Result<Contents, String> {
     let image = check_image(words, Fault::None).map_err(unsound)?;
     let nodes = image.sound().map_err(unsound)?.into_iter().collect();
     let mut reels = Reels::new();

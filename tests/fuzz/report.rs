@@ -11,7 +11,7 @@ pub fn describe(call: &Call) -> String {
     let name = call.function.name();
     match call.function {
         Format => format!("{} slots={} nodes={}", name, call.slots, call.nodes),
-        Recover | Apply => name,
+        Recover | Convert | Apply => name,
         Open | List | Retire => format!("{} reel={}", name, call.reel),
         Claim => format!("{} head={} reel={} frame={}", name, call.head, call.reel, call.frame),
         Fill | Commit | Abandon => format!("{} head={}", name, call.head),
@@ -52,7 +52,7 @@ pub fn difference(call: &Call, heads: &[u64], expected: (Handed, &Lent), found: 
             lines.push(format!("{}: words outside are written", name));
         }
         for index in (0..a.len()).filter(|&index| a[index] != b[index]).take(SHOWN) {
-            let part = if name == "image" { part(a, index) } else { String::new() };
+            let part = if matches!(name, "image" | "copy") { part(a, index) } else { String::new() };
             lines.push(format!("{}[{}]{}: expected {:#x}, found {:#x}", name, index, part, a[index], b[index]));
         }
     }

@@ -2,7 +2,7 @@
 //! see that the comparison looks there.
 use crate::model::call::{Call, Function, Function::*, Handed, Lent};
 use crate::model::image::*;
-use crate::model::node::{with_byte, LOCATE, NEXT, SET};
+use crate::model::node::{with_byte, FINGERPRINTS, FRAMES, LOCATE, NEXT, SET};
 use crate::model::rule::*;
 use crate::subject::Subject;
 
@@ -21,7 +21,7 @@ const fn after(function: Function, answer: u64, text: &'static str, change: Chan
 }
 
 /// Found by single calls, where every word is compared with the model's.
-pub static OF_CALLS: [Spoil; 46] = [
+pub static OF_CALLS: [Spoil; 61] = [
     after(Retire, 13, "retire answers 5 for 13", |_, _, handed| handed.answer = 5),
     after(List, 14, "list hands back a count with 14", |_, _, handed| handed.count = 1),
     after(Commit, 0, "commit hands back two words more", |_, _, handed| handed.count += 2),
@@ -68,10 +68,25 @@ pub static OF_CALLS: [Spoil; 46] = [
     after(Format, 0, "format writes to the table that it is given", |_, lent, _| write_to_table(lent)),
     after(Claim, 2, "claim hands back places left with 2", |_, _, handed| handed.left = 1),
     after(Fill, 0, "fill folds the other edition's bytes", |call, lent, _| fold_as_other_edition(call, lent)),
+    after(Convert, 17, "convert answers 4 for 17", |_, _, handed| handed.answer = 4),
+    after(Convert, 0, "convert stores to the image", |_, lent, _| last_word(lent)),
+    after(Convert, 1, "convert stores to the second image with 1", |_, lent, _| last_of_copy(lent)),
+    after(Convert, 2, "convert stores to the second image with 2", |_, lent, _| last_of_copy(lent)),
+    after(Convert, 3, "convert stores to the second image with 3", |_, lent, _| last_of_copy(lent)),
+    after(Convert, 4, "convert stores to the second image with 4", |_, lent, _| last_of_copy(lent)),
+    after(Convert, 17, "convert stores to the second image with 17", |_, lent, _| last_of_copy(lent)),
+    after(Convert, 0, "convert stores outside of the second image", |_, lent, _| lent.copy.write_behind()),
+    after(Convert, 0, "convert leaves a bit in the scratch map", |_, lent, _| lent.scratch[0] = 1),
+    after(Convert, 4, "convert leaves a bit in the scratch map with 4", |_, lent, _| lent.scratch[0] = 1),
+    after(Convert, 17, "convert leaves a bit in the scratch map with 17", |_, lent, _| lent.scratch[0] = 1),
+    after(Convert, 3, "convert clears the scratch map with 3", |_, lent, _| lent.scratch.fill(0)),
+    after(Convert, 0, "convert marks the last node in the map", |_, lent, _| mark_last(lent)),
+    after(Convert, 0, "convert makes the heads idle", |_, lent, _| lent.heads.fill(0)),
+    after(Convert, 0, "convert exchanges two frames", |_, lent, _| exchange_frames(lent)),
 ];
 
 /// Found by histories, held against the plain table alone.
-pub static OF_HISTORIES: [Spoil; 35] = [
+pub static OF_HISTORIES: [Spoil; 46] = [
     after(Commit, 0, "commit answers 12 and is done", |_, _, handed| *handed = Handed { answer: 12, count: 0, left: 0 }),
     after(Claim, 9, "claim hands back a count with 9", |_, _, handed| handed.count = 2),
     after(Claim, 0, "claim hands back a place left less", |_, _, handed| handed.left = handed.left.saturating_sub(1)),
@@ -107,6 +122,19 @@ pub static OF_HISTORIES: [Spoil; 35] = [
     after(Recover, 0, "recover of edition 1 loses a frame", |_, lent, _| lose_frame_of_edition_1(lent)),
     after(Has, 0, "has of edition 1 says no above 2^32", |call, lent, handed| handed.count &= !above_2_32(call, lent)),
     after(Fill, 0, "fill folds the other edition's bytes", |call, lent, _| fold_as_other_edition(call, lent)),
+    after(Convert, 17, "convert answers 0 for 17", |_, _, handed| handed.answer = 0),
+    after(Convert, 0, "convert stores to the image", |_, lent, _| last_word(lent)),
+    after(Convert, 1, "convert stores to the second image with 1", |_, lent, _| last_of_copy(lent)),
+    after(Convert, 0, "convert stores outside of the second image", |_, lent, _| lent.copy.write_behind()),
+    after(Convert, 0, "convert makes the heads idle", |_, lent, _| lent.heads.fill(0)),
+    after(Convert, 0, "convert loses a frame", |_, lent, _| change_copy(lent, |root, _| lose_lowest(root))),
+    after(Convert, 0, "convert loses a reel", |_, lent, _| lose_last_reel(lent)),
+    after(Convert, 0, "convert exchanges two frames", |_, lent, _| exchange_frames(lent)),
+    after(Convert, 0, "convert leaves a locate bit", |_, lent, _| change_copy(lent, |root, _| root[LOCATE as usize] |= 1 << 15)),
+    after(Convert, 0, "convert counts conversions in word 5", |_, lent, _| change_copy(lent, |root, old| root[5] = old[5] + 1)),
+    after(Convert, 0, "convert writes another fingerprint", |_, lent, _| {
+        change_copy(lent, |root, _| root[FINGERPRINTS as usize] ^= 1)
+    }),
 ];
 
 impl Spoil {
@@ -221,6 +249,48 @@ fn spare_bit(lent: &mut Lent) {
 fn last_word(lent: &mut Lent) {
     let last = lent.image.len() - 1;
     lent.image[last] ^= 1;
+}
+
+fn last_of_copy(lent: &mut Lent) {
+    if let Some(word) = lent.copy.last_mut() {
+        *word ^= 1;
+    }
+}
+
+/// The root of the first reel, as Convert has written it, beside what it was.
+fn change_copy(lent: &mut Lent, change: fn(&mut [u64], &[u64])) {
+    let mut roots = (0..lent.copy[1]).map(|slot| lent.copy[slot_index(slot) as usize + 1]);
+    if let Some(root) = roots.find(|&root| root != 0) {
+        let at = node_index(lent.copy[1], root - 1) as usize;
+        change(&mut lent.copy[at..], &lent.image[at..]);
+    }
+}
+
+/// The lowest frame of a node is no longer held.
+fn lose_lowest(node: &mut [u64]) {
+    for word in [LOCATE, SET] {
+        let places = &mut node[word as usize];
+        *places &= places.wrapping_sub(1);
+    }
+}
+
+/// Of the last filled slot.
+fn lose_last_reel(lent: &mut Lent) {
+    let roots = (0..lent.copy[1]).map(|slot| slot_index(slot) as usize + 1);
+    if let Some(root) = roots.rev().find(|&root| lent.copy[root] != 0) {
+        lent.copy[root - 1..=root].fill(0);
+    }
+}
+
+/// Those of places 0 and 1 of the first reel's root, with their fingerprints.
+fn exchange_frames(lent: &mut Lent) {
+    change_copy(lent, |root, _| {
+        if root[SET as usize] & 3 == 3 {
+            let prints = root[FINGERPRINTS as usize];
+            root[FINGERPRINTS as usize] = with_byte(with_byte(prints, 0, prints >> 8 & 255), 1, prints & 255);
+            root.swap(FRAMES as usize, FRAMES as usize + 1);
+        }
+    });
 }
 
 fn record(lent: &mut Lent, head: u64) -> &mut [u64] {

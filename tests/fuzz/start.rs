@@ -21,7 +21,7 @@ pub fn start(mut random: Random, subject: Subject, coverage: &mut Coverage) -> R
     let table = Table::formatted(plan.slots, plan.nodes, false);
     let formats = random.one_in(2);
     let header = header(plan.slots, plan.nodes, &[]);
-    let mut history = History { random, subject, coverage, lent, table, plan, header };
+    let mut history = History { random, subject, coverage, lent, table, plan, header, copied: false };
     let started = if formats { history.format_first() } else { history.recover_first() };
     started.map_err(|text| format!("start: {}", text))?;
     Ok(history)
@@ -33,6 +33,7 @@ fn memory(random: &mut Random, slots: u64, nodes: u64) -> Lent {
     let mut junk = |length: u64| Buffer::of((0..length).map(|_| if zeros { 0 } else { random.word() }));
     Lent {
         image: junk(image_words(slots, nodes)),
+        copy: Buffer::of([]),
         map: junk(map_words(nodes)),
         heads: junk(HEADS * HEAD_WORDS as u64),
         script: junk(SCRIPT_WORDS as u64),
@@ -86,17 +87,23 @@ impl History<'_> {
         if let Subject::Faulty(Fault::HeldForgotten) = self.subject {
             forget_frames(&mut self.table.reels);
         }
-        let refused = self.random.one_in(2);
+        let image = self.lent.image.clone();
+        let (refused, cut) = self.power_up()?;
+        self.coverage.found_start(rule, refused, cut && image != self.lent.image, self.table.holds_frames());
+        self.check_book()
+    }
+
+    /// A recovery of the image as it lies there, and whether one was refused before it, and one cut.
+    pub fn power_up(&mut self) -> Result<(bool, bool), String> {
+        let (refused, cut) = (self.random.one_in(2), self.random.one_in(2));
         if refused {
             self.recover_refused()?;
         }
         let (image, reels) = (self.lent.image.clone(), self.table.reels.clone());
         self.recover_once()?;
-        let cut = self.random.one_in(2) && image != self.lent.image;
         if cut {
             self.crash_in_recover(&image, &reels, Claims::NONE)?;
         }
-        self.coverage.found_start(rule, refused, cut, reels.values().any(|frames| !frames.is_empty()));
-        self.check_book()
+        Ok((refused, cut))
     }
 }

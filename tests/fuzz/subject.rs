@@ -17,8 +17,8 @@ impl Subject {
     pub fn perform(self, call: &Call, lent: &mut Lent, junk: u64) -> Handed {
         match self {
             Subject::Library => {
-                let counts = !matches!(call.function, Function::Format | Function::Recover | Function::Apply);
-                let mut count = if counts { junk } else { 0 };
+                let none = matches!(call.function, Function::Format | Function::Recover | Function::Convert | Function::Apply);
+                let mut count = if none { 0 } else { junk };
                 let mut left = if call.function == Function::Claim { !junk } else { 0 };
                 let answer = library::perform(call, lent, &mut count, &mut left);
                 Handed { answer, count, left }

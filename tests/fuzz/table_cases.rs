@@ -10,7 +10,7 @@ use crate::subject::Subject;
 
 /// Words 0 to 63 of a format in which entry i of the table is 255 - i, and of one over it without a table. One that equals ours
 /// is an own one too.
-pub fn format_stores_a_table(subject: Subject) -> bool {
+fn format_stores_a_table(subject: Subject) -> bool {
     let falling: Vec<u8> = (0..=255).rev().collect();
     let mut book = Book::with_table(subject, 1, 1, Some(&falling));
     let stored = book.lent.image[..64].to_vec();
@@ -24,7 +24,7 @@ pub fn format_stores_a_table(subject: Subject) -> bool {
 }
 
 /// Of 256 bytes and each of them, or none at all; refused after 1 and 3, with nothing written.
-pub fn given_tables(subject: Subject) -> bool {
+fn given_tables(subject: Subject) -> bool {
     let good = turned();
     let twice = [&good[..], &good[..]].concat();
     let (mut first, mut last) = (good.clone(), good.clone());
@@ -56,7 +56,7 @@ fn with_table_words(subject: Subject, edition: u64, own: u64, table: &[u8]) -> B
 
 /// In edition 2 word 3 above 1, or a table that lacks a byte where it is 1: every operation but Format answers 4, just after 3.
 /// Recover's map and the scratch maps are 0 then. Carry out reads no table.
-pub fn bad_tables(subject: Subject) -> bool {
+fn bad_tables(subject: Subject) -> bool {
     let good = turned();
     let (mut first, mut last) = (good.clone(), good.clone());
     (first[0], last[255]) = (good[1], good[100]);
@@ -79,7 +79,7 @@ fn is_refused(bad: &Book) -> bool {
                 Recover => &mut book.lent.map,
                 _ => &mut book.lent.scratch,
             };
-            let clear = !matches!(function, Recover | List | Retire) || cleared[..] == [0];
+            let clear = !matches!(function, Recover | List | Retire | Convert) || cleared[..] == [0];
             cleared.fill(JUNK);
             handed == (4, 0, Vec::new()) && clear && book.left == 0 && book.lent == before
         })
@@ -99,7 +99,7 @@ fn is_refused(bad: &Book) -> bool {
 }
 
 /// Edition 1 reads neither word 3 nor a table, edition 2 no table where word 3 is 0: all goes as over ours.
-pub fn unread_tables(subject: Subject) -> bool {
+fn unread_tables(subject: Subject) -> bool {
     let (good, lacking) = (turned(), [0; 256]);
     let unread = [(1, 1, &good[..]), (1, 1, &lacking), (1, 2, &good), (1, u64::MAX, &lacking), (2, 0, &good), (2, 0, &lacking)];
     unread.iter().all(|&(edition, own, table)| {
@@ -111,4 +111,14 @@ pub fn unread_tables(subject: Subject) -> bool {
         let done = added == (0, 0, 1, [0].into()) && gone == (0, 0);
         done && print == if edition == 1 { 144 } else { 32 } && book.lent.image[..64] == header
     })
+}
+
+/// Which of them come out as specified.
+pub fn table_cases(subject: Subject) -> [(&'static str, bool); 4] {
+    [
+        ("format stores a table", format_stores_a_table(subject)),
+        ("tables given to format", given_tables(subject)),
+        ("bad tables", bad_tables(subject)),
+        ("tables that are not read", unread_tables(subject)),
+    ]
 }

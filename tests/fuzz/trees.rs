@@ -34,7 +34,8 @@ enum Fill {
     Full,
 }
 
-/// The locate word beside a set word: every place wanted taken, as the set word, with more bits, any, or all places but one.
+/// The locate word beside a set word: every place wanted taken, as the set word, with more bits, any, or all places but one; or
+/// every place wanted, one of which is filled and not committed.
 #[derive(Clone, Copy)]
 enum Locate {
     Wanted,
@@ -42,6 +43,7 @@ enum Locate {
     More,
     Any,
     AllButOne,
+    Filled,
 }
 
 /// A tree's plan: a path that it follows down to a depth, how full its nodes are, and the frames held so far.
@@ -54,8 +56,8 @@ struct Plan {
 }
 
 const FILLS: [Fill; 6] = [Fill::Empty, Fill::Sparse, Fill::Dense, Fill::Full, Fill::Full, Fill::Full];
-const LOCATES: [Locate; 7] =
-    [Locate::Wanted, Locate::Wanted, Locate::Wanted, Locate::Equal, Locate::More, Locate::Any, Locate::AllButOne];
+const LOCATES: [Locate; 8] =
+    [Locate::Wanted, Locate::Wanted, Locate::Wanted, Locate::Equal, Locate::More, Locate::Any, Locate::AllButOne, Locate::Filled];
 
 struct Builder<'a> {
     random: &'a mut Random,
@@ -222,14 +224,17 @@ impl<'a> Builder<'a> {
             Fill::Dense => self.random.word() | self.random.word(),
             Fill::Full => u64::MAX,
         } & mask;
+        let last = if matches!(plan.locate, Locate::Filled) { wanted.leading_zeros() } else { 64 };
+        let filled = 63u64.checked_sub(u64::from(last));
         let (mut set, mut frame) = (0, prefix);
         for place in (0..PLACES).filter(|place| wanted >> place & 1 == 1) {
             frame = self.frame(prefix, path_bits(level), frame);
             self.place(at, place, frame);
-            set |= u64::from(plan.held.insert(frame)) << place;
+            let held = Some(place) != filled && plan.held.insert(frame);
+            set |= u64::from(held) << place;
         }
         let locate = match plan.locate {
-            Locate::Wanted => wanted,
+            Locate::Wanted | Locate::Filled => wanted,
             Locate::Equal => set,
             Locate::More => set | self.random.word() & mask,
             Locate::Any => self.random.word() & mask,

@@ -14,11 +14,12 @@ pub enum Function {
     Has,
     List,
     Retire,
+    Convert,
     Apply,
 }
 
 impl Function {
-    pub const ALL: [Function; 12] = [
+    pub const ALL: [Function; 13] = [
         Function::Format,
         Function::Recover,
         Function::Open,
@@ -30,6 +31,7 @@ impl Function {
         Function::Has,
         Function::List,
         Function::Retire,
+        Function::Convert,
         Function::Apply,
     ];
 
@@ -62,6 +64,8 @@ pub struct Handed {
 #[derive(PartialEq, Eq)]
 pub struct Lent {
     pub image: Buffer,
+    /// The second image, of Convert alone: for every other call without a word.
+    pub copy: Buffer,
     pub map: Buffer,
     pub heads: Buffer,
     pub script: Buffer,
@@ -83,9 +87,10 @@ impl Lent {
         broken.or(if table { Some("table") } else { None })
     }
 
-    pub fn named(&self) -> [(&'static str, &Buffer); 6] {
+    pub fn named(&self) -> [(&'static str, &Buffer); 7] {
         [
             ("image", &self.image),
+            ("copy", &self.copy),
             ("map", &self.map),
             ("heads", &self.heads),
             ("script", &self.script),
@@ -99,6 +104,7 @@ impl Clone for Lent {
     fn clone(&self) -> Lent {
         Lent {
             image: self.image.clone(),
+            copy: self.copy.clone(),
             map: self.map.clone(),
             heads: self.heads.clone(),
             script: self.script.clone(),
@@ -110,6 +116,7 @@ impl Clone for Lent {
 
     fn clone_from(&mut self, other: &Lent) {
         self.image.clone_from(&other.image);
+        self.copy.clone_from(&other.copy);
         self.map.clone_from(&other.map);
         self.heads.clone_from(&other.heads);
         self.script.clone_from(&other.script);

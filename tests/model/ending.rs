@@ -47,6 +47,8 @@ pub const TOO_SHORT: Ending = ending(1, "too short for its header");
 pub const SLOTS: Ending = ending(1, "number of slots");
 pub const NODES: Ending = ending(1, "number of nodes");
 pub const LENGTH: Ending = ending(1, "length");
+pub const COPY_SHORT: Ending = ending(1, "second image shorter");
+pub const COPY_LONG: Ending = ending(1, "second image longer");
 pub const EDITION_0: Ending = ending(2, "edition 0");
 pub const EDITION_3: Ending = ending(2, "edition 3");
 pub const EDITION_ABOVE: Ending = ending(2, "edition above 3");
@@ -105,6 +107,7 @@ pub const TABLE_SHORT: Ending = ending(16, "table of fewer bytes");
 pub const TABLE_LONG: Ending = ending(16, "table of more bytes");
 pub const TABLE_LACKS_ONE: Ending = ending(16, "table lacks one byte");
 pub const TABLE_LACKS: Ending = ending(16, "table lacks several bytes");
+pub const OWN_TABLE: Ending = ending(17, "own table");
 
 /// Refusal 4 for word 3 or the stored table.
 pub const BAD_TABLES: [Ending; 5] = [OWN_2, OWN_HIGH, OWN_ABOVE, STORED_LACKS_ONE, STORED_LACKS];

@@ -106,11 +106,34 @@ pub enum Fault {
     GivenLacksOneTaken,
     EmptyRefused,
     OwnForgotten,
+    CopyUnchecked,
+    LongCopyTaken,
+    CopyAfterScratch,
+    CopyClearedFirst,
+    ConvertChecksAsList,
+    OwnBeforeUnsound,
+    OwnConverted,
+    OwnOfEdition1,
+    UnmarkedIsOwn,
+    MarksLeft,
+    MarksLeftFor17,
+    EditionKept,
+    HeaderKept,
+    EmptySlotKept,
+    SlotsPacked,
+    UnreachedKept,
+    LocateKept,
+    ClaimsHeld,
+    PlacesPacked,
+    UnreadKept,
+    StaleFramesKept,
+    StalePrintsKept,
+    OldRuleKept,
 }
 
 impl Fault {
     /// Found by single calls alone: one buffer or answer differs from the sound model's.
-    pub const BY_CALLS: [(Fault, &'static str); 52] = [
+    pub const BY_CALLS: [(Fault, &'static str); 63] = [
         (Fault::NoSlots, "an image without slots is taken"),
         (Fault::EmptySlotRead, "an empty slot's reel number counts as open"),
         (Fault::HighestSlot, "a reel is the highest filled slot with its number"),
@@ -163,6 +186,17 @@ impl Fault {
         (Fault::MapLeftForTable, "recover leaves the map as it was on 4 for the table"),
         (Fault::FormatReadsTable, "format refuses an image whose table is bad"),
         (Fault::ApplyReadsTable, "apply refuses an image whose table is bad"),
+        (Fault::CopyAfterScratch, "convert tries the second image's length after 2 and 3"),
+        (Fault::ConvertChecksAsList, "convert's 4 comes as in list"),
+        (Fault::OwnBeforeUnsound, "convert tries 17 before 4"),
+        (Fault::UnmarkedIsOwn, "convert answers 17 for a stored table though word 3 is 0"),
+        (Fault::EmptySlotKept, "convert keeps an empty slot's reel number"),
+        (Fault::SlotsPacked, "convert packs the filled slots"),
+        (Fault::UnreachedKept, "convert copies a node that isn't reached"),
+        (Fault::PlacesPacked, "convert packs the frames of a node"),
+        (Fault::UnreadKept, "convert keeps words 5 to 7"),
+        (Fault::StaleFramesKept, "convert keeps the frame words of places not held"),
+        (Fault::StalePrintsKept, "convert keeps the fingerprints of places not held"),
     ];
 
     /// Found by histories with crashes alone, held against the plain table.
@@ -183,7 +217,7 @@ impl Fault {
     ];
 
     /// Found by either.
-    pub const BY_BOTH: [(Fault, &'static str); 38] = [
+    pub const BY_BOTH: [(Fault, &'static str); 50] = [
         (Fault::AnyClaimBusy, "claim answers 13 for any open claim on the reel"),
         (Fault::FrameShared, "claim takes a frame that another head has"),
         (Fault::NodeShared, "claim takes a place in a node that another head is at"),
@@ -222,5 +256,17 @@ impl Fault {
         (Fault::TwoTablesTaken, "format takes a table of 512 bytes"),
         (Fault::GivenLacksOneTaken, "format takes a table that lacks one byte"),
         (Fault::EmptyRefused, "format refuses a table of length 0"),
+        (Fault::CopyUnchecked, "convert does not look at the second image's length"),
+        (Fault::LongCopyTaken, "convert takes a second image that is longer"),
+        (Fault::CopyClearedFirst, "convert clears the second image before 4 and 17"),
+        (Fault::OwnConverted, "convert writes edition 1 of an image with an own table"),
+        (Fault::OwnOfEdition1, "convert answers 17 for edition 1 with word 3 of 1"),
+        (Fault::MarksLeft, "convert leaves the nodes reached in the scratch map"),
+        (Fault::MarksLeftFor17, "convert leaves the nodes reached in the scratch map with 17"),
+        (Fault::EditionKept, "convert writes the same edition"),
+        (Fault::HeaderKept, "convert keeps words 3 to 63"),
+        (Fault::LocateKept, "convert copies the locate word"),
+        (Fault::ClaimsHeld, "convert makes held what is claimed"),
+        (Fault::OldRuleKept, "convert makes the fingerprints by the rule of before"),
     ];
 }

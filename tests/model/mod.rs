@@ -4,6 +4,7 @@ mod beside;
 pub mod buffer;
 pub mod call;
 pub mod claim;
+pub mod convert;
 pub mod ending;
 pub mod fault;
 pub mod format;

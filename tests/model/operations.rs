@@ -1,7 +1,8 @@
-//! The twelve functions: answer, count, script and every buffer at the end, over any contents, numbers and lengths.
+//! The thirteen functions: answer, count, script and every buffer at the end, over any contents, numbers and lengths.
 //! Refusals come by `?`, in the specification's sequence, before anything is written.
 use super::call::{Call, Function, Handed, Lent};
 use super::claim::claim;
+use super::convert::convert;
 use super::ending::*;
 use super::fault::Fault;
 use super::format::format;
@@ -34,6 +35,7 @@ pub fn perform(call: &Call, lent: &mut Lent, fault: Fault) -> Outcome {
         Function::Has => has(call, lent, fault),
         Function::List => list(call, lent, fault),
         Function::Retire => retire(call, lent, fault),
+        Function::Convert => convert(lent, fault),
         Function::Apply => apply(lent, fault),
     };
     let (ending, count) = ended.unwrap_or_else(|refusal| (refusal, 0));
@@ -79,7 +81,7 @@ pub fn check_map(map: &[u64], nodes: u64) -> Result<(), Ending> {
     check(map.len() as u64 == map_words(nodes), MAP_LENGTH)
 }
 
-fn check_scratch(scratch: &[u64], nodes: u64) -> Result<(), Ending> {
+pub fn check_scratch(scratch: &[u64], nodes: u64) -> Result<(), Ending> {
     check(scratch.len() as u64 == map_words(nodes), SCRATCH_LENGTH)
 }
 

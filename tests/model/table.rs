@@ -28,6 +28,7 @@ impl Head {
 /// Of what is lent: the lengths, and the bytes of a table.
 pub struct Fed<'a> {
     image: u64,
+    copy: u64,
     map: u64,
     script: u64,
     scratch: u64,
@@ -39,6 +40,7 @@ impl Fed<'_> {
     pub fn of(lent: &Lent) -> Fed<'_> {
         Fed {
             image: lent.image.len() as u64,
+            copy: lent.copy.len() as u64,
             map: lent.map.len() as u64,
             script: lent.script.len() as u64,
             scratch: lent.scratch.len() as u64,
@@ -81,6 +83,10 @@ impl Table {
         Table { slots, nodes, own, reels: Reels::new(), heads: [Head::Idle; HEADS as usize] }
     }
 
+    pub fn holds_frames(&self) -> bool {
+        self.reels.values().any(|frames| !frames.is_empty())
+    }
+
     /// How many heads have a claim open, and in a reel.
     pub fn claims(&self) -> u64 {
         self.heads.iter().filter(|&&head| head != Head::Idle).count() as u64
@@ -121,6 +127,7 @@ impl Table {
             Function::Has => return Ok(Value::Has(self.frames(call.reel)?.contains(&call.frame))),
             Function::List => return self.list(call.reel, fed.list),
             Function::Retire => self.retire(call.reel)?,
+            Function::Convert => refuse(self.own, 17)?,
             Function::Format | Function::Apply => unreachable!("answered above, or no operation"),
         }
         Ok(Value::None)
@@ -141,11 +148,12 @@ impl Table {
     fn check_lengths(&self, function: Function, fed: &Fed) -> Result<(), u64> {
         use Function::*;
         refuse(fed.image != image_words(self.slots, self.nodes), 1)?;
+        refuse(function == Convert && fed.copy != fed.image, 1)?;
         let map = matches!(function, Recover | Open | Claim | Retire);
         refuse(map && fed.map != map_words(self.nodes), 3)?;
-        let scratch = matches!(function, List | Retire);
+        let scratch = matches!(function, List | Retire | Convert);
         refuse(scratch && fed.scratch != map_words(self.nodes), 3)?;
-        let script = !matches!(function, Recover | Has | List);
+        let script = !matches!(function, Recover | Has | List | Convert);
         refuse(script && fed.script < SCRIPT_WORDS as u64, 3)
     }
 

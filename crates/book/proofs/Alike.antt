@@ -8,10 +8,10 @@ use Prim.Native.Nat.{ℕ, _<_}
 use native.Mathlib.Omega.{arith}
 use native.Mathlib.Decide.{ℕ-discrete}
 use lib.ListN.{length}
-use lib.Dec.{ltb, leb}
+use lib.Dec.{eqb, ltb, leb}
 use borrow.Author.Tests.{ltb-false, leb-true, le-leb, lt-leb, not-false}
 use Rattle.tree.specs.Memory.{reads, isSome, Fit}
-use Rattle.tree.specs.Test.{Test, lt, le, is, _or_, holds}
+use Rattle.tree.specs.Test.{Test, lt, le, ne, is, _or_, holds}
 use Rattle.tree.specs.Lists.{empty}
 use Rattle.tree.specs.declared.layout.Geometry.{Geometry}
 use Rattle.tree.specs.Layout.{badImage, imageWords, badEdition}
@@ -19,18 +19,19 @@ use Rattle.tree.specs.Fingerprint.{badOwn}
 use Rattle.tree.specs.Slots.{slotOf, emptySlot}
 use Rattle.tree.specs.Lookup.{pathFrom, freeRun}
 use Rattle.tree.proofs.Cases.{test, true-not-false, same-test}
+use Rattle.tree.proofs.Tests.{says}
 use Rattle.book.specs.Heads.{headCount, headAt, targetOf}
 use Rattle.book.specs.Refusals.{Refusal, _gives_, refusal}
 use Rattle.tree.specs.Room.{roomOn, atLevel31}
-use Rattle.book.specs.State.{State, Operation, format, recover, openReel, claim, fill, commit, abandon, remove, retire, query, has, list, arguments, Work, memory, shape}
-use Rattle.book.specs.Checks.{firstThree, badMap, badScript, outside, noPath, noRunFor, refusals}
+use Rattle.book.specs.State.{State, Operation, format, recover, openReel, claim, fill, commit, abandon, remove, retire, query, has, list, convert, arguments, Work, memory, shape}
+use Rattle.book.specs.Checks.{firstThree, badMap, badScript, notSound, outside, noPath, noRunFor, refusals}
 use Rattle.book.specs.Perform.{oneIf, granted, perform}
 use Rattle.book.specs.Table as table
 use Rattle.book.specs.Table.{Table, TableHead, TableWork, Fed, nothing, fed, isPresent, tableHead, tableRefusals, tableWork, reply}
 use Rattle.book.specs.Agrees.{EachOnce, Agrees}
 use Rattle.book.specs.Ways.{SlotHas, Lacks, InTheWay}
 use Rattle.book.specs.Histories.{replied}
-use Rattle.book.specs.Demands.{IsFormat, is-format, Alike}
+use Rattle.book.specs.Demands.{GivesOne, by-format, by-convert, Alike}
 use Rattle.book.proofs.Refusals.{Named, Passes, decided, denies, denied, passes}
 use Rattle.book.proofs.Performed.{answer-is, work-granted, work-refused, reply-is, reply-granted, reply-refused}
 use Rattle.book.proofs.InTheWay.{busy-remove, busy-retire, taken-in-the-way, conflict-claim, lacking}
@@ -38,6 +39,9 @@ use Rattle.book.proofs.Level31.{never-level31, lacks-open, lacks-claim}
 use Rattle.book.proofs.Paired.{Paired, end, same, skip, busy, meets, run, paired-answer, paired-run, paired-busy}
 use Rattle.book.proofs.Reading.{image-right, edition-right, same-geometry, is-sound, slot-has, slot-below, path-there, tree-right}
 use Rattle.book.proofs.Reading.{same-frames, same-length, same-held, all-filled, same-idle, same-claimed, same-filled, claim-of, claim-inside, same-busy}
+
+image-words : {s : State} {t : Table} → Agrees s t → length (s .image) ≡ imageWords (table.geometry t)
+image-words a = a .shows .words ∙ ap imageWords (same-geometry (a .shows))
 
 -- ---- the operations' lists
 
@@ -80,6 +84,10 @@ module _ {s : State} {t : Table} (a : Agrees s t) where
       → Paired x P Q (firstThree (s .image) u ((badOwn (memory s) gives 4) ∷ rs)) ((v gives 3) ∷ qs)
   borrowed q p = checks (same 3 refl q (λ e. skip (a .shows .good-table) (p e)))
 
+  -- nor does 4 for an image that is not sound
+  sound-image : holds (notSound (memory s)) ≡ false
+  sound-image = rw (a .shows .good-table) (ap not (is-sound (a .shows)))
+
   -- 5, and after it the reel's slot
   reel-there : {x : Fed} {P Q : Type 0} {rs qs : List Refusal} (reel : ℕ)
       → (SlotHas (shape s) (memory s) reel (slotOf (shape s) (memory s) reel) → Paired x P Q rs qs)
@@ -113,11 +121,11 @@ module _ {s : State} {t : Table} (a : Agrees s t) where
   unfolding refusals tableRefusals
   paired (format words table slots nodes) x =
       let g : Geometry = record { slots = slots; nodes = nodes } in
-      same 1 refl (ap (λ n. holds (badImage n g)) (a .shows .words ∙ ap imageWords (same-geometry (a .shows)))) (λ e.
+      same 1 refl (ap (λ n. holds (badImage n g)) (image-words a)) (λ e.
       same 3 refl refl (λ e. same 16 refl refl (λ e. end (λ w. elim w [ ]) (λ w. elim w [ ]))))
   paired (recover words) x =
       checks (same 3 refl (ap (λ g. holds (badMap g words)) (same-geometry (a .shows))) (λ e.
-      skip (rw (a .shows .good-table) (ap not (is-sound (a .shows)))) (end (λ w. elim w [ ]) (λ w. elim w [ ]))))
+      skip sound-image (end (λ w. elim w [ ]) (λ w. elim w [ ]))))
   paired (openReel words script reel) x =
       borrowed (ap (λ g. holds (badMap g words or badScript script)) (same-geometry (a .shows))) (λ e.
       same 6 refl (present-test reel) (λ e.
@@ -159,6 +167,15 @@ module _ {s : State} {t : Table} (a : Agrees s t) where
       reel-there reel (λ r.
       skip (ap not (tree-right (a .shows) (r .open-slot)))
       (same 14 refl (ap (ltb room) (same-length (same-frames (a .shows) r))) (λ e. end (λ w. elim w [ ]) (λ w. elim w [ ])))))
+  paired (query (convert scratch copy)) x =
+      let n = length (s .image) in
+      let longer : holds (badImage n (shape s) or ne copy n) ≡ not (eqb copy (imageWords (table.geometry t))) =
+      rw (image-right (a .shows)) (ap (λ n. not (eqb copy n)) (image-words a)) in
+      same 1 refl longer (λ e.
+      skip (edition-right (a .shows)) (
+      same 3 refl (ap (λ g. holds (badMap g scratch)) (same-geometry (a .shows))) (λ e.
+      skip sound-image (
+      same 17 refl (a .shows .own) (λ e. end (λ w. elim w [ ]) (λ w. elim w [ ]))))))
   paired (retire words scratch script reel) x =
       borrowed (ap (λ g. holds (badMap g words or badMap g scratch or badScript script)) (same-geometry (a .shows))) (λ e.
       reel-there reel (λ r.
@@ -189,6 +206,7 @@ granted-alike a (commit script h') x h = record { value = refl; listing = none-o
 granted-alike a (abandon script h') x h = record { value = refl; listing = none-once }
 granted-alike a (remove script reel f) x h = record { value = refl; listing = none-once }
 granted-alike a (retire words scratch script reel) x h = record { value = refl; listing = none-once }
+granted-alike a (query (convert scratch copy)) x h = record { value = refl; listing = none-once }
 granted-alike {s} {t} a (query (has reel f)) x h =
     let r = slot-has (a .shows) reel (not-false _ (table-passes (query (has reel f)) x t (omega arith) h .0)) in
     record { value = ap oneIf (same-held (a .shows) r f); listing = none-once }
@@ -207,12 +225,12 @@ work-alike {s} {t} a op e = elim (ℕ-discrete (perform op s .answer) 0) [
       (record { value = refl; listing = none-once })
 ]
 
--- ---- the table's numbers: 2 and 4 never, 1 only of Format
+-- ---- the table's numbers: 2 and 4 never, 1 only of Format, and of Convert for the second image's length
 
-record Answers (op : Operation) (n : ℕ) : Type 0 where
+record Answers (s : State) (op : Operation) (n : ℕ) : Type 0 where
   not-edition : n ≢ 2
   not-malformed : n ≢ 4
-  format-alone : n ≡ 1 → IsFormat op
+  one-from : n ≡ 1 → GivesOne s op
 
 -- what holds of 0 and of every number of a list holds of its answer
 abbrev Each : (ℕ → Type 0) → List Refusal → Type 0
@@ -224,26 +242,37 @@ unfolding refusal
 each-answer P z [] p = z
 each-answer P z (r ∷ rs) p = elim (test (holds (r .test))) [ inl e ↦ rw e (p .0) | inr e ↦ rw e (each-answer P z rs (p .1)) ]
 
-never-these : {op : Operation} (rs : List Refusal) → Each (λ n. (n ≢ 1) × (n ≢ 2) × (n ≢ 4)) rs → Answers op (refusal rs)
+never-these : {s : State} {op : Operation} (rs : List Refusal) → Each (λ n. (n ≢ 1) × (n ≢ 2) × (n ≢ 4)) rs → Answers s op (refusal rs)
 never-these rs p =
     let n = each-answer (λ n. (n ≢ 1) × (n ≢ 2) × (n ≢ 4)) (omega arith) rs p in
-    record { not-edition = n .1; not-malformed = n .2; format-alone = λ q. absurd (n .0 q) }
+    record { not-edition = n .1; not-malformed = n .2; one-from = λ q. absurd (n .0 q) }
 
-table-answers : (op : Operation) (x : Fed) (t : Table) → Answers op (refusal (tableRefusals op x t))
-unfolding tableRefusals
-table-answers (format words table slots nodes) x t =
+table-answers : {s : State} {t : Table} → Agrees s t → (op : Operation) (x : Fed) → Answers s op (refusal (tableRefusals op x t))
+unfolding tableRefusals refusal
+table-answers {s} {t} a (query (convert scratch copy)) x =
+    let rs = tableRefusals (query (convert scratch copy)) x t in
+    let longer = ne copy (imageWords (table.geometry t)) in
+    elim (test (holds longer)) [
+      | inl e ↦ rw e (record {
+        not-edition = omega arith;
+        not-malformed = omega arith;
+        one-from = λ q. by-convert (λ z. says longer e (z ∙ image-words a));
+      })
+      | inr e ↦ rw e (never-these ((badMap (table.geometry t) scratch gives 3) ∷ (is (t .own) gives 17) ∷ []) (omega arith))
+    ]
+table-answers {t = t} a (format words table slots nodes) x =
     let n = each-answer (λ n. (n ≢ 2) × (n ≢ 4)) (omega arith) (tableRefusals (format words table slots nodes) x t) (omega arith) in
-    record { not-edition = n .0; not-malformed = n .1; format-alone = λ q. is-format }
-table-answers (recover words) x t = never-these (tableRefusals (recover words) x t) (omega arith)
-table-answers (openReel words script reel) x t = never-these (tableRefusals (openReel words script reel) x t) (omega arith)
-table-answers (claim words script h reel f) x t = never-these (tableRefusals (claim words script h reel f) x t) (omega arith)
-table-answers (fill script h) x t = never-these (tableRefusals (fill script h) x t) (omega arith)
-table-answers (commit script h) x t = never-these (tableRefusals (commit script h) x t) (omega arith)
-table-answers (abandon script h) x t = never-these (tableRefusals (abandon script h) x t) (omega arith)
-table-answers (remove script reel f) x t = never-these (tableRefusals (remove script reel f) x t) (omega arith)
-table-answers (query (has reel f)) x t = never-these (tableRefusals (query (has reel f)) x t) (omega arith)
-table-answers (query (list scratch room reel)) x t = never-these (tableRefusals (query (list scratch room reel)) x t) (omega arith)
-table-answers (retire words scratch script reel) x t = never-these (tableRefusals (retire words scratch script reel) x t) (omega arith)
+    record { not-edition = n .0; not-malformed = n .1; one-from = λ q. by-format }
+table-answers {t = t} a (recover words) x = never-these (tableRefusals (recover words) x t) (omega arith)
+table-answers {t = t} a (openReel words script reel) x = never-these (tableRefusals (openReel words script reel) x t) (omega arith)
+table-answers {t = t} a (claim words script h reel f) x = never-these (tableRefusals (claim words script h reel f) x t) (omega arith)
+table-answers {t = t} a (fill script h) x = never-these (tableRefusals (fill script h) x t) (omega arith)
+table-answers {t = t} a (commit script h) x = never-these (tableRefusals (commit script h) x t) (omega arith)
+table-answers {t = t} a (abandon script h) x = never-these (tableRefusals (abandon script h) x t) (omega arith)
+table-answers {t = t} a (remove script reel f) x = never-these (tableRefusals (remove script reel f) x t) (omega arith)
+table-answers {t = t} a (query (has reel f)) x = never-these (tableRefusals (query (has reel f)) x t) (omega arith)
+table-answers {t = t} a (query (list scratch room reel)) x = never-these (tableRefusals (query (list scratch room reel)) x t) (omega arith)
+table-answers {t = t} a (retire words scratch script reel) x = never-these (tableRefusals (retire words scratch script reel) x t) (omega arith)
 
 -- ---- demand 2 of one state
 
@@ -252,7 +281,7 @@ alike {s} {t} a op fit =
     let x = fed (perform op s .answer) in
     let e : perform op s .answer ≡ refusal (tableRefusals op x t) = sym (paired-answer (paired a op x) (sym (answer-is op s)) refl) in
     let q : perform op s .answer ≡ replied op s t .answer = e ∙ sym (reply-is op x t) in
-    let n = table-answers op x t in
+    let n = table-answers a op x in
     let w = work-alike a op q in
     record {
       answer = q;
@@ -260,7 +289,7 @@ alike {s} {t} a op fit =
       listing = w .listing;
       not-edition = λ z. n .not-edition (sym e ∙ z);
       not-malformed = λ z. n .not-malformed (sym e ∙ z);
-      format-alone = λ z. n .format-alone (sym e ∙ z);
+      one-from = λ z. n .one-from (sym e ∙ z);
       busy = λ z. rw answer-is (paired-busy (paired a op nothing) z);
       no-run = λ z. rw answer-is (paired-run (paired a op nothing) z);
     }

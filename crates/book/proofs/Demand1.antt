@@ -8,10 +8,10 @@ use lib.Dec.{eqb, ltb}
 use borrow.Author.Tests.{eqb-true, eqb-false, ltb-true, eq-eqb, lt-ltb}
 use Rattle.tree.specs.Test.{is}
 use Rattle.book.specs.Refusals.{Refusal, refusal, _gives_}
-use Rattle.book.specs.State.{State, Operation, format, recover, openReel, claim, fill, commit, abandon, remove, retire, query, has, list}
+use Rattle.book.specs.State.{State, Operation, format, recover, openReel, claim, fill, commit, abandon, remove, retire, query, has, list, convert}
 use Rattle.book.specs.Checks.{refusals}
 use Rattle.book.specs.Perform.{leaves, pastChecks, clears, perform}
-use Rattle.book.specs.Demands.{numbers, ClearsMap, unsound, BorrowsScratch, by-list, by-retire, Leaves, as-before, map-cleared, Refused, Demand1}
+use Rattle.book.specs.Demands.{numbers, ClearsMap, unsound, BorrowsScratch, by-list, by-retire, by-convert, Leaves, as-before, map-cleared, Refused, Demand1}
 use Rattle.tree.proofs.Laws.{pool-laws}
 use Rattle.tree.proofs.Cases.{test, true-not-false, or-true, or-left, or-right}
 use Rattle.book.proofs.Refusals.{refusal-listed}
@@ -36,6 +36,7 @@ numbered (abandon script h) s = refusal-listed _
 numbered (remove script reel f) s = refusal-listed _
 numbered (query (has reel f)) s = without-third _ _ _ _
 numbered (query (list scratch room reel)) s = refusal-listed _
+numbered (query (convert scratch copy)) s = refusal-listed _
 numbered (retire words scratch script reel) s = refusal-listed _
 
 cleared-at : {words n : ℕ} → ClearsMap (recover words) n → n ≡ 4
@@ -76,6 +77,7 @@ clears-scratch (fill script h) n = (λ h. absurd (true-not-false h refl), λ x. 
 clears-scratch (commit script h) n = (λ h. absurd (true-not-false h refl), λ x. elim (x .0) [ ])
 clears-scratch (abandon script h) n = (λ h. absurd (true-not-false h refl), λ x. elim (x .0) [ ])
 clears-scratch (remove script reel f) n = (λ h. absurd (true-not-false h refl), λ x. elim (x .0) [ ])
+clears-scratch (query (convert scratch copy)) n = (λ h. (by-convert, past-checks n .0 h), λ x. past-checks n .1 (x .1))
 clears-scratch (query (has reel f)) n = (λ h. absurd (true-not-false h refl), λ x. elim (x .0) [ ])
 
 refused : (op : Operation) (s : State) → perform op s .answer ≢ 0 → Refused op s

@@ -2,6 +2,7 @@
 use Rattle.book.specs.Demands.{Demand2, Demand3, Placed}
 use Rattle.book.specs.Growth.{Growth}
 use Rattle.book.specs.OwnTables.{OwnTables}
+use Rattle.book.specs.Conversions.{Conversions}
 pub use Rattle.book.proofs.Demand1.{demand1}
 pub use Rattle.book.proofs.Due.{refusals-due}
 pub use Rattle.book.proofs.AsBefore.{claim-as-before}
@@ -21,6 +22,7 @@ use Rattle.book.proofs.ClaimPlaced.{claim-placed}
 use Rattle.book.proofs.Placed.{placed-from}
 use Rattle.book.proofs.Growth.{growth-from}
 use Rattle.book.proofs.OwnTables.{own-tables-from}
+use Rattle.book.proofs.Conversions.{conversions-from}
 use Rattle.book.proofs.Witnesses.{witnesses-from}
 use Rattle.book.specs.Witnesses.{Witnesses}
 use mathlib.Core.Path.{_≡_}
@@ -58,6 +60,9 @@ growth = growth-from steps
 
 pub own-tables : OwnTables
 own-tables = own-tables-from demand3
+
+pub conversions : Conversions
+conversions = conversions-from demand3
 
 pub witnesses : Witnesses
 witnesses = witnesses-from demand3

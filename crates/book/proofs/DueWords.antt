@@ -1,6 +1,6 @@
 -- Tests of the image, of buffers, heads, slots and runs, each with what it means by words.
 use mathlib.Core.Path.{_≡_, refl, sym, _∙_, ap, subst}
-use mathlib.Core.Bool.{Bool, true, false, not}
+use mathlib.Core.Bool.{Bool, true, false, not, _||_}
 use mathlib.Core.Logic.{_⊎_, inl, inr, _↔_, _≢_}
 use mathlib.Core.List.{List}
 use Prim.Native.Nat.{ℕ, _≤_, _<_}
@@ -10,14 +10,14 @@ use lib.ListN.{length, getD}
 use lib.Dec.{eqb}
 use borrow.Author.Tests.{ltb-true, lt-ltb, eqb-true, eqb-false, not-true}
 use Rattle.tree.specs.Memory.{Memory, reads}
-use Rattle.tree.specs.Test.{Test, lt, le, ne, is, _and_, _or_, holds, Says}
+use Rattle.tree.specs.Test.{Test, lt, le, eq, ne, is, _and_, _or_, holds, Says}
 use Rattle.tree.specs.declared.layout.Geometry.{Geometry}
-use Rattle.tree.specs.Layout.{badImage}
-use Rattle.tree.specs.Fingerprint.{hasEvery, isGiven, badGiven, LacksByte}
+use Rattle.tree.specs.Layout.{badImage, editionAt, ownAt}
+use Rattle.tree.specs.Fingerprint.{hasOwn, hasEvery, isGiven, badGiven, LacksByte}
 use Rattle.tree.specs.Sound.{SoundImage}
 use Rattle.tree.specs.Slots.{slotOf, emptySlot}
 use Rattle.tree.specs.Lookup.{freeRun}
-use Rattle.tree.proofs.Cases.{test, true-not-false}
+use Rattle.tree.proofs.Cases.{test, true-not-false, or-true, or-left, or-right}
 use Rattle.tree.proofs.Tests.{says, said}
 use Rattle.tree.proofs.Laws.{slot-laws, run-laws, table-laws}
 use Rattle.book.specs.declared.Target.{Target}
@@ -25,12 +25,12 @@ use Rattle.book.specs.declared.HeadState.{HeadState}
 use Rattle.book.specs.declared.HeadState.the-variants as heads
 use Rattle.book.specs.Heads.{headCount, stateOf, headAt, isIdle, isClaimed, isFilled, targetOf, busy}
 use Rattle.book.specs.State.{State, memory, shape}
-use Rattle.book.specs.Checks.{outside}
+use Rattle.book.specs.Checks.{notSound, outside}
 use Rattle.book.specs.Agrees.{About, by-claim, by-fill}
 use Rattle.book.specs.Ways.{SlotHas, ReelAt, HeadNames}
 use Rattle.book.specs.Due.{RightImage, BadGiven, stateWord, slotWord, nodeWord, placeWord, frameWord, Idle, Outside, Busy, OfReel, NoReel, OpenReel, NoEmptySlot, NoRun, LowestFree}
 use Rattle.book.proofs.Refusals.{Denies, decided, denies, denied}
-use Rattle.book.proofs.Recovery.{notSound, sound-test}
+use Rattle.book.proofs.Recovery.{sound-test}
 use Rattle.book.proofs.Uses.{FoundRun}
 use Rattle.book.proofs.Conflicts.{busy-by}
 
@@ -45,12 +45,24 @@ turned {b} h = (
   λ wrong. elim (test b) [ inl e ↦ absurd (wrong (h .0 e)) | inr e ↦ ap not e ],
 )
 
--- 4 in Recover
+-- one test or another
+pub either : {a b : Bool} {P Q : Type 0} → (a ≡ true) ↔ P → (b ≡ true) ↔ Q → (a || b ≡ true) ↔ (P ⊎ Q)
+either {a} {b} h k = (
+  λ e. elim (or-true a b e) [ inl x ↦ inl (h .0 x) | inr x ↦ inr (k .0 x) ],
+  λ x. elim x [ inl p ↦ or-left b (h .1 p) | inr q ↦ or-right a (k .1 q) ],
+)
+
+-- 4 in Recover and Convert
 pub unsound-test : (m : Memory) → (holds (notSound m) ≡ true) ↔ (SoundImage m → ⊥)
 unsound-test m = (
   λ e a. true-not-false e (sound-test m .1 a),
   λ wrong. elim (test (holds (notSound m))) [ inl e ↦ e | inr e ↦ absurd (wrong (sound-test m .0 e)) ],
 )
+
+-- 17
+pub own-test : (m : Memory) → (hasOwn m ≡ true) ↔ ((m 0 ≡ 2) × (m 3 ≡ 1))
+unfolding hasOwn
+own-test m = plain (eq (m editionAt) 2 and eq (m ownAt) 1)
 
 -- 16
 pub given-test : (table : List ℕ) → (holds (badGiven table) ≡ true) ↔ BadGiven table

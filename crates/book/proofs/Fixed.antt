@@ -24,7 +24,7 @@ use Rattle.tree.proofs.OwnTables.{given-good, given-none}
 use Rattle.tree.proofs.Memory.{apply-laws, torn-whole}
 use Rattle.book.specs.Refusals.{_gives_, refusal}
 use Rattle.book.specs.State.{State, format, recover, openReel, memory, shape}
-use Rattle.book.specs.Checks.{badMap, refusals}
+use Rattle.book.specs.Checks.{badMap, notSound, refusals}
 use Rattle.tree.specs.Subtree.{nodesOf}
 use Rattle.tree.specs.Recovery.{recoverStores}
 use Rattle.book.specs.Perform.{formatStores, openScript, granted, perform}
@@ -35,7 +35,7 @@ use Rattle.book.proofs.Performed.{answer-is, work-granted}
 use Rattle.book.proofs.Stores.{claims, fills, commits, abandons, removes, retires, asks}
 use Rattle.book.proofs.GivenTable.{withTable, none-given, beside-table, own-put, entries-put}
 use Rattle.book.proofs.Formatted.{header-stored, root-stored, unread-stored, format-avoids, blank, made, written, granted-format, Answered, format-answered}
-use Rattle.book.proofs.Recovery.{nodes-reached, corrects-stored, stored-once, now-equal, granted-recover, recover-refusals, notSound, sound-test}
+use Rattle.book.proofs.Recovery.{nodes-reached, corrects-stored, stored-once, now-equal, granted-recover, recover-refusals, sound-test}
 
 -- ---- Format
 

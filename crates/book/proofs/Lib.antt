@@ -60,9 +60,11 @@ pub mod StepClaim
 pub mod ClaimPlaced
 pub mod Growth
 pub mod OwnTables
+pub mod Conversions
 pub mod Demands
 pub mod Sample
 pub mod OldBook
+pub mod ConvertedBook
 pub mod Witnesses
 pub mod Stores
 pub mod Fixed

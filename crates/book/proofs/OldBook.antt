@@ -33,7 +33,7 @@ use Rattle.book.proofs.Editions.{editions}
 use Rattle.book.proofs.Held.{held-starts, at-once}
 use Rattle.book.proofs.Sample.{words-fit, zeros-fit}
 
-abbrev Small : Store → Type 0
+abbrev pub Small : Store → Type 0
 Small p = p .1 < 2 ^ 64
 
 fits : Fit (heldBook 1 .image)

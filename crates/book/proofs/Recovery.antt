@@ -1,7 +1,7 @@
 -- Recovery of an image that shows reels: accepted with a map of the right length, and it leaves those reels, whole, with
 -- every head idle; a recovery that is refused or interrupted keeps them.
 use mathlib.Core.Path.{_≡_, refl, sym, _∙_, ap, ap₂}
-use mathlib.Core.Bool.{Bool, false, cond, not}
+use mathlib.Core.Bool.{Bool, false, cond}
 use mathlib.Core.Logic.{inl, inr, _↔_}
 use mathlib.Core.List.{List, [], _∷_, map, List·Memᴰ, Memᴰ·map, Memᴰ·of-map, Memᴰ·cast}
 use Prim.Native.Nat.{ℕ, _<_}
@@ -11,7 +11,7 @@ use lib.ListN.{length}
 use lib.Dec.{eqb}
 use borrow.Author.Tests.{eqb-true, eqb-false, ne-eqb, not-true, not-false}
 use Rattle.tree.specs.Memory.{Memory, reads, Store, stores, apply}
-use Rattle.tree.specs.Test.{Test, is, _or_, holds}
+use Rattle.tree.specs.Test.{is, holds}
 use Rattle.tree.specs.declared.layout.Geometry.{Geometry}
 use Rattle.tree.specs.Layout.{badImage, inRange, mapWords, geometryOf, locateAt, setAt, badEdition}
 use Rattle.tree.specs.Fingerprint.{Rule, ruleOf, badOwn}
@@ -19,7 +19,6 @@ use Rattle.tree.specs.Sound.{Sound, SoundImage}
 use Rattle.tree.specs.Lists.{Distinct}
 use Rattle.tree.specs.Slots.{filledSlots}
 use Rattle.tree.specs.Subtree.{Visit, visit, tree, allTrees}
-use Rattle.tree.specs.Check.{isSound}
 use Rattle.tree.specs.Pool.{mapOf}
 use Rattle.tree.proofs.Cases.{test}
 use Rattle.tree.proofs.Tests.{said}
@@ -34,7 +33,7 @@ use Rattle.tree.proofs.Laws.{slot-laws, tree-laws, reach-laws, sound-laws, node
 use Rattle.book.specs.Heads.{idleHeads}
 use Rattle.book.specs.Refusals.{_gives_}
 use Rattle.book.specs.State.{State, recover, Work, leaving}
-use Rattle.book.specs.Checks.{badMap, refusals}
+use Rattle.book.specs.Checks.{badMap, notSound, refusals}
 use Rattle.tree.specs.Subtree.{nodesOf}
 use Rattle.tree.specs.Recovery.{recoverStores}
 use Rattle.book.specs.Perform.{granted, perform}
@@ -119,10 +118,6 @@ module _ (g : Geometry) (im : List ℕ) where
       (elim (ℕ-discrete (reads im (locateAt g n)) (reads im (setAt g n))) [ yes q ↦ inl q | no h ↦ inr (corrects-stored g (reads im) _ _ .1 (record { node = n; reached = r; at = refl; differs = h; is = refl })) ])
 
 -- ---- what recovery answers and leaves
-
--- Recover's 4
-abbrev pub notSound : Memory → Test
-notSound m = badOwn m or is (not (isSound (ruleOf m) (geometryOf m) m))
 
 pub sound-test : (m : Memory) → (holds (notSound m) ≡ false) ↔ SoundImage m
 sound-test m =

@@ -11,8 +11,8 @@ use Rattle.tree.specs.declared.layout.Geometry.{Geometry}
 use Rattle.tree.specs.Layout.{badImage, slotsAt, nodesAt, geometryOf}
 use Rattle.tree.specs.Fingerprint.{ruleOf}
 use Rattle.book.specs.Refusals.{refusal}
-use Rattle.book.specs.State.{State, Operation, format, recover, openReel, claim, fill, commit, abandon, remove, retire, query, arguments, Work}
-use Rattle.book.specs.Checks.{refusals}
+use Rattle.book.specs.State.{State, Operation, format, recover, openReel, claim, fill, commit, abandon, remove, retire, query, Query, has, list, convert, arguments, Work}
+use Rattle.book.specs.Checks.{queryRefusals, refusals}
 use Rattle.book.specs.CarryOut.{carry, carried}
 use Rattle.tree.specs.Recovery.{recoverStores}
 use Rattle.book.specs.Perform.{formatStores, givenStores, granted, perform}
@@ -56,6 +56,12 @@ recovered im g =
     sym (same-geometry (reads im) (reads (mendedImage g im)) (kept a slotsAt (λ n. omega arith)) (kept a nodesAt (λ n. omega arith)))
 
 -- ---- an answered operation
+
+-- every order that only reads tests the image first
+query-header : (q : Query) (image : List ℕ) → refusal (queryRefusals q image) ≡ 0 → Denies (badImage (length image) (geometryOf (reads image)))
+query-header (has reel f) image h = first-passed _ _ (omega arith) h
+query-header (list scratch room reel) image h = first-passed _ _ (omega arith) h
+query-header (convert scratch copy) image h = first-passed _ _ (omega arith) h .0
 
 answered : (op : Operation) (s : State) → Fit (s .image) → Fit (s .heads) → Fit (arguments op) → refusal (refusals op s) ≡ 0 → Answered s (granted op s)
 unfolding refusals granted
@@ -103,7 +109,7 @@ answered (remove script reel f) s a b c h =
     let m = reads (s .image) in
     let good = good-remove (sized _ _ (p .0)) m a _ (find-inside _ m (ruleOf m) _ f (p .1 .1 .1 .1 .1 .1 .1 .0)) in
     record { script = good; words = refl; header = p .0 }
-answered (query q) s a b c h = record { script = no-stores _; words = refl; header = first-passed _ _ (omega arith) h }
+answered (query q) s a b c h = record { script = no-stores _; words = refl; header = query-header q (s .image) h }
 answered (retire words scratch script reel) s a b c h =
     let p = passes _ (omega arith) h in
     record { script = good-retire (sized _ _ (p .0)) _ (p .1 .1 .1 .1 .0); words = refl; header = p .0 }

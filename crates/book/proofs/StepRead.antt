@@ -1,11 +1,14 @@
 -- The step of an operation that only reads: nothing is written.
 use mathlib.Core.Path.{_≡_, refl}
-use mathlib.Core.Logic.{inl}
+use mathlib.Core.Logic.{inl, inr}
 use mathlib.Core.List.{[]}
+use lib.Dec.{eqb}
 use Rattle.tree.proofs.Memory.{apply-none, crash-none}
+use Rattle.tree.proofs.Cases.{test}
 use Rattle.book.specs.State.{State, Operation, query, Query}
 use Rattle.book.specs.Perform.{granted}
-use Rattle.book.specs.Table.{Table, tableWork}
+use Rattle.book.specs.Refusals.{refusal}
+use Rattle.book.specs.Table.{Table, Fed, tableRefusals, tableWork, reply}
 use Rattle.book.specs.Agrees.{Agrees}
 use Rattle.book.proofs.Showing.{shows-view}
 use Rattle.book.proofs.Keeps.{keeps-itself}
@@ -22,3 +25,8 @@ step-idle {op} {s} {t} p q r a = record {
 pub step-query : {s : State} {t : Table} → Agrees s t → (q : Query) → Step (query q) s t
 unfolding granted tableWork
 step-query a q = step-idle refl refl refl a
+
+-- the table stays, answered or refused
+pub query-after : (q : Query) (x : Fed) (t : Table) → reply (query q) x t .work .after ≡ t
+unfolding reply tableWork
+query-after q x t = elim (test (eqb (refusal (tableRefusals (query q) x t)) 0)) [ inl e ↦ rw e | inr e ↦ rw e ]

@@ -7,26 +7,25 @@ use native.Mathlib.Omega.{arith}
 use native.Mathlib.Decide.{ℕ-discrete, decLt}
 use lib.ListN.{length, set, length-set}
 use lib.Seq.{getD-set-same, getD-set-other, set-out}
-use lib.Dec.{eqb}
 use borrow.Author.Tests.{eq-eqb}
 use Rattle.tree.specs.Memory.{reads, Store, store, segmented, apply, CrashImage, Torn, passed, Fit}
 use Rattle.tree.specs.declared.layout.Geometry.{Geometry}
 use Rattle.tree.specs.Layout.{mapWords, reelAt, geometryOf}
 use Rattle.tree.specs.Slots.{emptySlot}
 use Rattle.tree.specs.Lookup.{freeRun}
-use Rattle.tree.proofs.Cases.{test}
 use Rattle.tree.proofs.Memory.{segment-laws, crash-laws}
 use Rattle.book.specs.State.{State, Operation, recover, openReel, commit, query, has, arguments}
 use Rattle.book.specs.Perform.{newNode, openScript, granted, perform}
-use Rattle.book.specs.Refusals.{refusal}
-use Rattle.book.specs.Table.{Table, Fed, tableRefusals, tableWork, reply, allIdle}
+use Rattle.book.specs.Table.{Table, allIdle}
 use Rattle.book.specs.Agrees.{Agrees}
 use Rattle.book.specs.Histories.{done, replied, Steady, Interrupted, Attempts, none-yet, interrupted, Recovered, Follows, performed, before, after}
 use Rattle.book.specs.Demands.{Demand3}
 use Rattle.book.specs.Heads.{headCount}
 use Rattle.book.specs.Witnesses.{CommitCut, allClaimed, fourOpen, FourClaims, GoesOn, Witnesses}
 use Rattle.book.proofs.Performed.{work-granted}
+use Rattle.book.proofs.StepRead.{query-after}
 use Rattle.book.proofs.OldBook.{old-book}
+use Rattle.book.proofs.ConvertedBook.{converted-book}
 use Rattle.book.proofs.Sample.{words-fit, computed, four-follows, told-apart, other-geometry}
 
 -- ---- power lost within an operation
@@ -110,11 +109,6 @@ module _ (s : State) (script h : ℕ) (e : perform (commit script h) s .answer �
 
 -- ---- every history agrees with its table: what follows from demand 3
 
--- Has changes no table
-has-after : (reel f : ℕ) (x : Fed) (t : Table) → reply (query (has reel f)) x t .work .after ≡ t
-unfolding reply tableWork
-has-after reel f x t = elim (test (eqb (refusal (tableRefusals (query (has reel f)) x t)) 0)) [ inl e ↦ rw e | inr e ↦ rw e ]
-
 module _ (kept : Demand3) where
   -- after any crash and any attempts there is a recovery that ends, and a history goes on from it
   goes-on : (s : State) (t : Table) → Follows s t → (op : Operation) → Fit (arguments op) → (k : ℕ) (m m' : List ℕ) → Interrupted op s k m
@@ -144,7 +138,7 @@ module _ (kept : Demand3) where
       let r = goes-on s t f (query (has 0 0)) fit 0 _ _ c none-yet in (
         r .state,
         r .recovered,
-        elim (kept s t f .survives (query (has 0 0)) fit 0 _ _ c none-yet .whole _ (r .recovered)) [ inl p ↦ p .1 | inr a ↦ rw (has-after 0 0 _ t) at a ],
+        elim (kept s t f .survives (query (has 0 0)) fit 0 _ _ c none-yet .whole _ (r .recovered)) [ inl p ↦ p .1 | inr a ↦ rw (query-after (has 0 0) _ t) at a ],
       )
 
   commit-cut : (s : State) (t : Table) → Follows s t → (script h : ℕ) → h < headCount → perform (commit script h) s .answer ≡ 0
@@ -180,5 +174,6 @@ witnesses-from kept = record {
   second-crash = second-crash;
   goes-on = goes-on kept;
   old-book = old-book;
+  converted-book = converted-book;
   other-geometry = other-geometry;
 }

@@ -8,7 +8,7 @@ use Rattle.tree.specs.Memory.{Memory, reads, isSome}
 use Rattle.tree.specs.Test.{Test, lt, le, ne, is, _and_, _or_, holds}
 use Rattle.tree.specs.declared.layout.Geometry.{Geometry}
 use Rattle.tree.specs.Layout.{badImage, badEdition, mapWords, geometryOf}
-use Rattle.tree.specs.Fingerprint.{ruleOf, badOwn, badGiven}
+use Rattle.tree.specs.Fingerprint.{hasOwn, ruleOf, badOwn, badGiven}
 use Rattle.tree.specs.Slots.{slotOf, emptySlot}
 use Rattle.tree.specs.Path.{child}
 use Rattle.tree.specs.declared.path.Spot.{Spot}
@@ -21,7 +21,7 @@ use Rattle.book.specs.declared.Target.{Target}
 use Rattle.book.specs.Heads.{headCount, headAt, isIdle, isClaimed, isFilled, targetOf, anyHead, busy, conflicts}
 use Rattle.book.specs.Refusals.{Refusal, _gives_}
 use Rattle.tree.specs.Room.{roomOn, needs, atLevel31}
-use Rattle.book.specs.State.{State, Operation, format, recover, openReel, claim, fill, commit, abandon, remove, retire, query, Query, has, list}
+use Rattle.book.specs.State.{State, Operation, format, recover, openReel, claim, fill, commit, abandon, remove, retire, query, Query, has, list, convert}
 
 -- 3: a map, or a scratch map, is not of the map's length; a script is too short
 abbrev pub badMap : Geometry → ℕ → Test
@@ -36,7 +36,7 @@ firstThree image buffers rest =
     let m = reads image in
     (badImage (length image) (geometryOf m) gives 1) ∷ (badEdition m gives 2) ∷ (buffers gives 3) ∷ rest
 
--- and just after 3, 4 for a bad table: every order but Format and Recover
+-- and just after 3, 4 for a bad table: every order but Format, and Recover and Convert, whose 4 has it
 abbrev pub checked : List ℕ → Test → List Refusal → List Refusal
 checked image buffers rest = firstThree image buffers ((badOwn (reads image) gives 4) ∷ rest)
 
@@ -67,16 +67,36 @@ abbrev pub inConflict : Geometry → (map : Memory) → (heads : List ℕ) → (
 inConflict g map heads slot r f =
     is (anyHead (conflicts (targetIn slot r (freeRun g map (needs r)) f) (not (holds (noRunFor g map r)))) heads)
 
--- the orders that only read: what they borrow, and their tests after those
-abbrev pub queryBuffers : Query → Geometry → Test
-queryBuffers (has reel f) g = is false
-queryBuffers (list scratch room reel) g = badMap g scratch
+-- 4 in Recover and Convert: the image is not sound, one with a bad table is not
+abbrev pub notSound : Memory → Test
+notSound m = badOwn m or is (not (isSound (ruleOf m) (geometryOf m) m))
 
-abbrev pub queryTests : Query → Geometry → Memory → List Refusal
-queryTests (has reel f) g m = let slot = slotOf g m reel in (le (g .slots) slot gives 5) ∷ (noPath (pathFrom g m slot f) gives 4) ∷ []
-queryTests (list scratch room reel) g m =
+-- the orders that only read
+abbrev pub queryRefusals : Query → List ℕ → List Refusal
+queryRefusals (has reel f) image =
+    let m = reads image in
+    let g = geometryOf m in
     let slot = slotOf g m reel in
-    (le (g .slots) slot gives 5) ∷ (is (not (isSoundTree g m slot)) gives 4) ∷ (lt room (length (listing g m slot)) gives 14) ∷ []
+    checked image (is false) ((le (g .slots) slot gives 5) ∷ (noPath (pathFrom g m slot f) gives 4) ∷ [])
+queryRefusals (list scratch room reel) image =
+    let m = reads image in
+    let g = geometryOf m in
+    let slot = slotOf g m reel in
+    checked image (badMap g scratch)
+    ((le (g .slots) slot gives 5)
+    ∷ (is (not (isSoundTree g m slot)) gives 4)
+    ∷ (lt room (length (listing g m slot)) gives 14)
+    ∷ [])
+-- the second image must be as long as the image; 17: an own table can't go to edition 1
+queryRefusals (convert scratch copy) image =
+    let m = reads image in
+    let g = geometryOf m in
+    (badImage (length image) g or ne copy (length image) gives 1)
+    ∷ (badEdition m gives 2)
+    ∷ (badMap g scratch gives 3)
+    ∷ (notSound m gives 4)
+    ∷ (is (hasOwn m) gives 17)
+    ∷ []
 
 unfoldable pub refusals : Operation → State → List Refusal
 refusals op s =
@@ -88,7 +108,7 @@ refusals op s =
           let g' : Geometry = record { slots = slots; nodes = nodes } in
           (badImage (length (s .image)) g' gives 1) ∷ (badMap g' map gives 3) ∷ (badGiven table gives 16) ∷ []
       | recover map ↦
-          firstThree (s .image) (badMap g map) ((badOwn m or is (not (isSound (ruleOf m) g m)) gives 4) ∷ [])
+          firstThree (s .image) (badMap g map) ((notSound m gives 4) ∷ [])
       | openReel map script reel ↦
           checked (s .image) (badMap g map or badScript script)
           ((lt (slotOf g m reel) (g .slots) gives 6) ∷ (le (g .slots) (emptySlot g m) gives 7) ∷ (le (g .nodes) (freeRun g (reads (s .pool)) 1) gives 8) ∷ [])
@@ -126,5 +146,5 @@ refusals op s =
           let slot = slotOf g m reel in
           checked (s .image) (badMap g map or badMap g scratch or badScript script)
           ((le (g .slots) slot gives 5) ∷ (is (busy (s .heads) slot) gives 13) ∷ (is (not (isSoundTree g m slot)) gives 4) ∷ [])
-      | query q ↦ checked (s .image) (queryBuffers q g) (queryTests q g m)
+      | query q ↦ queryRefusals q (s .image)
     ]

@@ -16,7 +16,7 @@ use Rattle.book.specs.declared.Target.{Target}
 use Rattle.book.specs.declared.HeadState.the-variants.{Claimed, Filled}
 use Rattle.book.specs.Heads.{headCount, headAt}
 use Rattle.book.specs.Refusals.{comesTo}
-use Rattle.book.specs.State.{State, Operation, format, recover, openReel, claim, fill, commit, abandon, remove, retire, query, Query, has, list, arguments, nothingHanded}
+use Rattle.book.specs.State.{State, Operation, format, recover, openReel, claim, fill, commit, abandon, remove, retire, query, Query, has, list, convert, arguments, nothingHanded}
 use Rattle.book.specs.Perform.{perform}
 use Rattle.book.specs.CarryOut.{carry, carried}
 use Rattle.book.specs.Table.{Table, nothing, tableRefusals, allIdle}
@@ -31,6 +31,7 @@ use Rattle.book.specs.Histories.{done, replied, Interrupted, Attempts, R
 abbrev pub queryNumbers : Query → List ℕ
 queryNumbers (has reel f) = 1 ∷ 2 ∷ 4 ∷ 5 ∷ 4 ∷ []
 queryNumbers (list scratch room reel) = 1 ∷ 2 ∷ 3 ∷ 4 ∷ 5 ∷ 4 ∷ 14 ∷ []
+queryNumbers (convert scratch copy) = 1 ∷ 2 ∷ 3 ∷ 4 ∷ 17 ∷ []
 
 abbrev pub numbers : Operation → List ℕ
 numbers (format words table slots nodes) = 1 ∷ 3 ∷ 16 ∷ []
@@ -48,10 +49,11 @@ numbers (query q) = queryNumbers q
 pub data ClearsMap : Operation → ℕ → Type 0 where
   unsound : {words : ℕ} → ClearsMap (recover words) 4
 
--- List and Retire borrow a scratch map
+-- List, Retire and Convert borrow a scratch map
 pub data BorrowsScratch : Operation → Type 0 where
   by-list : {scratch room reel : ℕ} → BorrowsScratch (query (list scratch room reel))
   by-retire : {words scratch script reel : ℕ} → BorrowsScratch (retire words scratch script reel)
+  by-convert : {scratch copy : ℕ} → BorrowsScratch (query (convert scratch copy))
 
 -- what a refusal leaves: everything, but for the map that a recovery refused 4 clears
 pub data Leaves (s : State) : Operation → ℕ → State → Type 0 where
@@ -74,8 +76,10 @@ pub record Demand1 : Type 0 where
 
 -- ---- 2: in every history, book and table answer alike
 
-pub data IsFormat : Operation → Type 0 where
-  is-format : {words slots nodes : ℕ} {table : List ℕ} → IsFormat (format words table slots nodes)
+-- 1 comes only from Format, and from Convert for a second image that is not as long as the image
+pub data GivesOne (s : State) : Operation → Type 0 where
+  by-format : {words slots nodes : ℕ} {table : List ℕ} → GivesOne s (format words table slots nodes)
+  by-convert : {scratch copy : ℕ} → copy ≢ length (s .image) → GivesOne s (query (convert scratch copy))
 
 pub record Alike (op : Operation) (s : State) (t : Table) : Type 0 where
   pub answer : perform op s .answer ≡ replied op s t .answer
@@ -83,7 +87,7 @@ pub record Alike (op : Operation) (s : State) (t : Table) : Type 0 where
   pub listing : EachOnce (perform op s .work .handed .listing) (replied op s t .work .handed .listing)
   pub not-edition : perform op s .answer ≢ 2
   pub not-malformed : perform op s .answer ≢ 4
-  pub format-alone : perform op s .answer ≡ 1 → IsFormat op
+  pub one-from : perform op s .answer ≡ 1 → GivesOne s op
   -- where the table comes to an 8, it comes exactly if the operation lacks the nodes that it needs
   pub no-run : comesTo 8 (tableRefusals op nothing t) ≡ true → (perform op s .answer ≡ 8) ↔ Lacks s op
   -- where it comes to a 13, that comes exactly if a head is in the operation's way

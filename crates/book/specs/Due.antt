@@ -18,7 +18,7 @@ use Rattle.tree.specs.Sound.{SoundImage}
 use Rattle.tree.specs.declared.path.Spot.{Spot}
 use Rattle.tree.specs.Laws.{Malformed, FreeRun}
 use Rattle.book.specs.Heads.{headCount}
-use Rattle.book.specs.State.{State, Operation, format, recover, openReel, claim, fill, commit, abandon, remove, retire, query, has, list, memory, shape}
+use Rattle.book.specs.State.{State, Operation, format, recover, openReel, claim, fill, commit, abandon, remove, retire, query, has, list, convert, memory, shape}
 use Rattle.book.specs.Perform.{perform}
 use Rattle.book.specs.Ways.{FullPath, SlotHas, ReelAt, Matches, Uses}
 
@@ -55,10 +55,17 @@ WrongMap g words = words ≢ (g .nodes + 63) / 64
 abbrev pub ShortScript : (words : ℕ) → Type 0
 ShortScript words = words < 50
 
--- 1 and 2 first: the image by its own R and N; its edition, neither 1 nor 2
+-- 1: the image, by its own R and N
+abbrev pub WrongImage : State → Type 0
+WrongImage s = RightImage (length (s .image)) (shape s) → ⊥
+
+-- 2: its edition, neither 1 nor 2
+abbrev pub NoEdition : State → Type 0
+NoEdition s = (memory s editionAt ≢ 1) × (memory s editionAt ≢ 2)
+
+-- these two come first
 abbrev pub header : State → List Due → List Due
-header s ds =
-    (1 when (RightImage (length (s .image)) (shape s) → ⊥)) ∷ (2 when ((memory s editionAt ≢ 1) × (memory s editionAt ≢ 2))) ∷ ds
+header s ds = (1 when WrongImage s) ∷ (2 when NoEdition s) ∷ ds
 
 -- 16: a given table is not 256 bytes long, or lacks some byte; one of length 0 is none
 abbrev pub BadGiven : (table : List ℕ) → Type 0
@@ -224,6 +231,14 @@ due (query (list scratch room reel)) s =
     ∷ (4 when OfReel s reel (BadTree s))
     ∷ (14 when OfReel s reel (MoreFrames s room))
     ∷ [])
+-- 17: the image is of edition 2 and word 3 is 1, so that it has an own table
+due (query (convert scratch copy)) s =
+    (1 when (WrongImage s ⊎ (copy ≢ length (s .image))))
+    ∷ (2 when NoEdition s)
+    ∷ (3 when WrongMap (shape s) scratch)
+    ∷ (4 when (SoundImage (memory s) → ⊥))
+    ∷ (17 when ((memory s 0 ≡ 2) × (memory s 3 ≡ 1)))
+    ∷ []
 
 -- an operation's answer is the number that is due, over any memory contents, numbers and lengths
 abbrev pub RefusalsDue : Type 1

@@ -10,6 +10,7 @@ pub mod CarryOut
 pub mod Histories
 pub mod Editions
 pub mod OwnTables
+pub mod Conversions
 pub mod Ways
 pub mod Demands
 pub mod Growth

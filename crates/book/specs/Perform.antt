@@ -15,6 +15,7 @@ use Rattle.tree.specs.declared.path.Spot.{Spot}
 use Rattle.tree.specs.Lookup.{spot, pathFrom, find, freeRun}
 use Rattle.tree.specs.Subtree.{tree, allTrees, nodesOf, listing}
 use Rattle.tree.specs.Recovery.{recoverStores}
+use Rattle.tree.specs.Convert.{convertedImage}
 use Rattle.tree.specs.Pool.{mark, markAll, unmarkAll, clearMap, mapOf}
 use Rattle.book.specs.declared.Target.{Target}
 use Rattle.book.specs.declared.HeadState.{HeadState}
@@ -24,7 +25,7 @@ use Rattle.book.specs.Refusals.{refusal}
 use Rattle.tree.specs.declared.path.Room.{Room}
 use Rattle.tree.specs.declared.path.Room.the-variants.{Clear, ScaleUp, BranchOut}
 use Rattle.tree.specs.Room.{roomOn, needs, placesLeft}
-use Rattle.book.specs.State.{State, Operation, format, recover, openReel, claim, fill, commit, abandon, remove, retire, query, Query, has, list, Handed, handing, handingFrames, nothingHanded, Work, leaving, Outcome}
+use Rattle.book.specs.State.{State, Operation, format, recover, openReel, claim, fill, commit, abandon, remove, retire, query, Query, has, list, convert, Handed, handing, handingFrames, handingCopy, nothingHanded, Work, leaving, Outcome}
 use Rattle.book.specs.Checks.{placeIn, targetIn, refusals}
 
 -- ---- what is written
@@ -120,9 +121,16 @@ abbrev pub putHead : State → ℕ → HeadState → State
 putHead s h x = record { image = s .image; pool = s .pool; heads = withHead (s .heads) h x }
 
 -- what an order that only reads hands back
-abbrev pub queried : Query → Geometry → Memory → Handed
-queried (has reel f) g m = handing (oneIf (isSome (find (ruleOf m) g m (slotOf g m reel) f)))
-queried (list scratch room reel) g m = handingFrames (listing g m (slotOf g m reel))
+abbrev pub queried : Query → List ℕ → Handed
+queried (has reel f) image =
+    let m = reads image in
+    let g = geometryOf m in
+    handing (oneIf (isSome (find (ruleOf m) g m (slotOf g m reel) f)))
+queried (list scratch room reel) image =
+    let m = reads image in
+    let g = geometryOf m in
+    handingFrames (listing g m (slotOf g m reel))
+queried (convert scratch copy) image = handingCopy (convertedImage image)
 
 unfoldable pub granted : Operation → State → Work
 granted op s =
@@ -160,7 +168,7 @@ granted op s =
           let slot = slotOf g m reel in
           writing (((rootAt slot, 0) ∷ []) ∷ [])
           (record { image = s .image; pool = unmarkAll (s .pool) (nodesOf (tree g m slot)); heads = s .heads })
-      | query q ↦ record { script = []; handed = queried q g m; after = s }
+      | query q ↦ record { script = []; handed = queried q (s .image); after = s }
     ]
 
 -- ---- any operation
@@ -185,8 +193,9 @@ pastChecks n = eqb n 0 || ltb 3 n
 abbrev pub borrowsScratch : Query → Bool
 borrowsScratch (has reel f) = false
 borrowsScratch (list scratch room reel) = true
+borrowsScratch (convert scratch copy) = true
 
--- List's and Retire's scratch map is all 0 after any end but 1, 2 or 3
+-- List's, Retire's and Convert's scratch map is all 0 after any end but 1, 2 or 3
 unfoldable pub clears : Operation → ℕ → Bool
 clears (query q) n = borrowsScratch q && pastChecks n
 clears (retire words scratch script reel) n = pastChecks n

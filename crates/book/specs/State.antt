@@ -1,5 +1,6 @@
 -- What the driver keeps, the operations with their arguments, and what an operation answers.
 use mathlib.Core.Bool.{Bool, cond}
+use mathlib.Core.Option.{Option, none, some}
 use mathlib.Core.List.{List, [], _∷_}
 use Prim.Native.Nat.{ℕ}
 use lib.ListN.{length}
@@ -21,10 +22,11 @@ memory s = reads (s .image)
 abbrev pub shape : State → Geometry
 shape s = geometryOf (memory s)
 
--- the orders that only read: they leave image, map and heads, and have no script
+-- the orders that only read: they leave image, map and heads, and have no script; Convert writes a second image
 pub data Query : Type 0 where
   has : (reel frame : ℕ) → Query
   list : (scratch room : ℕ) (reel : ℕ) → Query
+  convert : (scratch copy : ℕ) → Query
 
 -- the paper's orders, each with the lengths of the buffers that it borrows beside image and heads, and its numbers; Format with
 -- the table that it is given, byte by byte
@@ -44,6 +46,7 @@ pub data Operation : Type 0 where
 abbrev pub queryArguments : Query → List ℕ
 queryArguments (has reel frame) = reel ∷ frame ∷ []
 queryArguments (list scratch room reel) = reel ∷ []
+queryArguments (convert scratch copy) = []
 
 abbrev pub arguments : Operation → List ℕ
 arguments (format map table slots nodes) = slots ∷ nodes ∷ []
@@ -57,19 +60,24 @@ arguments (remove script reel frame) = reel ∷ frame ∷ []
 arguments (retire map scratch script reel) = reel ∷ []
 arguments (query q) = queryArguments q
 
--- what an operation hands back beside its script: Has's yes or no, List's count; List's frames
+-- what an operation hands back beside its script: Has's yes or no, List's count; List's frames; the words that Convert writes to
+-- the second image
 pub record Handed : Type 0 where
   pub value : ℕ
   pub listing : List ℕ
+  pub copy : Option (List ℕ)
 
 abbrev pub nothingHanded : Handed
-nothingHanded = record { value = 0; listing = [] }
+nothingHanded = record { value = 0; listing = []; copy = none }
 
 abbrev pub handing : (value : ℕ) → Handed
-handing n = record { value = n; listing = [] }
+handing n = record { value = n; listing = []; copy = none }
 
 abbrev pub handingFrames : List ℕ → Handed
-handingFrames fs = record { value = length fs; listing = fs }
+handingFrames fs = record { value = length fs; listing = fs; copy = none }
+
+abbrev pub handingCopy : List ℕ → Handed
+handingCopy ws = record { value = 0; listing = []; copy = some ws }
 
 -- what an operation does: a script in segments, what it hands back, and the state as it leaves it, before the script is carried out
 pub record Work : Type 0 where
@@ -92,3 +100,8 @@ pub record Outcome : Type 0 where
 -- the borrowed scratch map at the end: all 0 of the same length where it is cleared, else as it was
 unfoldable pub scratchAfter : (cleared : Bool) (scratch : List ℕ) → List ℕ
 scratchAfter cleared scratch = cond cleared (clearMap (length scratch)) scratch
+
+-- the second image at the end: as it was, unless it is written
+abbrev pub copyAfter : Option (List ℕ) → (copy : List ℕ) → List ℕ
+copyAfter none copy = copy
+copyAfter (some ws) copy = ws

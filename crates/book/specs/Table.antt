@@ -7,14 +7,14 @@ use Prim.Native.Nat.{ℕ}
 use lib.ListN.{length, getD, set, replicate}
 use lib.Dec.{eqb}
 use Rattle.tree.specs.Memory.{isSome}
-use Rattle.tree.specs.Test.{lt, le, is, _or_}
+use Rattle.tree.specs.Test.{lt, le, ne, is, _or_}
 use Rattle.tree.specs.Lists.{keep, every, hasKey}
 use Rattle.tree.specs.declared.layout.Geometry.{Geometry}
 use Rattle.tree.specs.Layout.{badImage, imageWords}
 use Rattle.tree.specs.Fingerprint.{isGiven, badGiven}
 use Rattle.book.specs.Heads.{headCount}
 use Rattle.book.specs.Refusals.{Refusal, _gives_, refusal}
-use Rattle.book.specs.State.{Operation, format, recover, openReel, claim, fill, commit, abandon, remove, retire, query, Query, has, list, Handed, nothingHanded, handing, handingFrames}
+use Rattle.book.specs.State.{Operation, format, recover, openReel, claim, fill, commit, abandon, remove, retire, query, Query, has, list, convert, Handed, nothingHanded, handing, handingFrames}
 use Rattle.book.specs.Checks.{badMap, badScript}
 
 -- per head idle, or claimed or filled with reel and frame
@@ -122,12 +122,14 @@ isBusy t reel = anyTableHead (isAbout reel) t
 abbrev pub isTaken : Table → (reel frame : ℕ) → Bool
 isTaken t reel f = anyTableHead (λ x. isAbout reel x && eqb (frameOf x) f) t
 
--- ---- its refusals: 2 and 4 never come, and 1 only from Format
+-- ---- its refusals: 2 and 4 never come, and 1 only from Format, and from Convert for the second image's length
 
 abbrev pub tableQueryRefusals : Query → Table → List Refusal
 tableQueryRefusals (has reel f) t = (is (not (isPresent t reel)) gives 5) ∷ []
 tableQueryRefusals (list scratch room reel) t =
     (badMap (geometry t) scratch gives 3) ∷ (is (not (isPresent t reel)) gives 5) ∷ (lt room (length (framesOf t reel)) gives 14) ∷ []
+tableQueryRefusals (convert scratch copy) t =
+    (ne copy (imageWords (geometry t)) gives 1) ∷ (badMap (geometry t) scratch gives 3) ∷ (is (t .own) gives 17) ∷ []
 
 unfoldable pub tableRefusals : Operation → Fed → Table → List Refusal
 tableRefusals op fed t =
@@ -212,6 +214,7 @@ becoming t = record { handed = nothingHanded; after = t }
 abbrev pub tableQueried : Query → Table → Handed
 tableQueried (has reel f) t = handing (cond (isHeld t reel f) 1 0)
 tableQueried (list scratch room reel) t = handingFrames (framesOf t reel)
+tableQueried (convert scratch copy) t = nothingHanded
 
 unfoldable pub tableWork : Operation → Table → TableWork
 tableWork (format words table slots nodes) t = becoming (emptyTable (isGiven table) slots nodes)

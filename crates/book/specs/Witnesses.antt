@@ -3,6 +3,7 @@
 use mathlib.Core.Path.{_≡_}
 use mathlib.Core.Bool.{false}
 use mathlib.Core.Logic.{_⊎_}
+use mathlib.Core.Option.{Option, some}
 use mathlib.Core.List.{List, [], _∷_, map}
 use Prim.Native.Nat.{ℕ, _+_, _*_, _^_, _<_}
 use lib.ListN.{length, set, replicate}
@@ -11,10 +12,11 @@ use Rattle.tree.specs.Layout.{editionAt, reelAt, locateAt}
 use Rattle.tree.specs.Slots.{emptySlot}
 use Rattle.book.specs.declared.HeadState.the-variants.{Claimed, Filled}
 use Rattle.book.specs.Heads.{headCount, headAt}
-use Rattle.book.specs.State.{State, Operation, format, recover, openReel, claim, fill, commit, query, has, arguments, memory, shape}
+use Rattle.book.specs.State.{State, Operation, format, recover, openReel, claim, fill, commit, query, has, convert, arguments, memory, shape}
 use Rattle.book.specs.Perform.{perform}
 use Rattle.book.specs.Table.{Table, Reel, idle, claimed, filled, emptyTable, allIdle}
 use Rattle.book.specs.Agrees.{Agrees}
+use Rattle.book.specs.Held.{tableOf}
 use Rattle.book.specs.Histories.{done, replied, Interrupted, Attempts, Recovered, Follows}
 use Rattle.book.specs.Starred.{run, formatted, withFrames}
 
@@ -141,6 +143,41 @@ pub record OldBook : Type 0 where
   pub says-no : perform (query (has 7 (2 ^ 32))) (heldBook 2) .work .handed .value ≡ 0
   pub unsound : perform (recover 1) (heldBook 2) .answer ≡ 4
 
+-- ---- a book converted
+
+-- an image of edition 1 with two slots and two nodes: reel 7 has slot 1 and node 1, which holds frame 2^32 at place 2; place 0 is
+-- claimed and filled. All else is stale: header words 3 and 63, the reel number of slot 0, node 0, of node 1 words 5 and 7 and
+-- the frame of place 1
+abbrev pub staleWords : List Store
+staleWords =
+    (0, 1) ∷ (1, 2) ∷ (2, 2) ∷ (3, 1) ∷ (63, 9) ∷ (64, 8) ∷ (66, 7) ∷ (67, 2) ∷ (68, 2) ∷ (70, 1) ∷ (147, 9)
+    ∷ (149, 5) ∷ (150, 4) ∷ (152, 16) ∷ (153, 9) ∷ (155, 9) ∷ (156, 113 + 144 * 2 ^ 16) ∷ (164, 1) ∷ (165, 9) ∷ (166, 2 ^ 32) ∷ []
+
+-- what it becomes, the edition and the fingerprint of 2^32 left open
+abbrev pub cleanWords : (edition print : ℕ) → List Store
+cleanWords edition print =
+    (0, edition) ∷ (1, 2) ∷ (2, 2) ∷ (66, 7) ∷ (67, 2)
+    ∷ (149, 4) ∷ (150, 4) ∷ (152, 16) ∷ (156, print * 2 ^ 16) ∷ (166, 2 ^ 32) ∷ []
+
+-- with a map and heads that mean nothing
+unfoldable pub bookOf : List Store → State
+bookOf words = record { image = apply (replicate 228 0) (stores words); pool = 9 ∷ []; heads = replicate 20 9 }
+
+-- what a conversion of it hands back
+abbrev pub copyOf : List Store → Option (List ℕ)
+copyOf words = perform (query (convert 1 228)) (bookOf words) .work .handed .copy
+
+pub record ConvertedBook : Type 0 where
+  -- there, and back
+  pub there : copyOf staleWords ≡ some (bookOf (cleanWords 2 1) .image)
+  pub back : copyOf (cleanWords 2 1) ≡ some (bookOf (cleanWords 1 144) .image)
+  -- a history starts on the copy of edition 2, with the reel and its frame
+  pub recovers : perform (recover 1) (bookOf (cleanWords 2 1)) .answer ≡ 0
+  pub history : Follows (done (recover 1) (bookOf (cleanWords 2 1))) (tableOf (bookOf (cleanWords 2 1) .image))
+  pub table : tableOf (bookOf (cleanWords 2 1) .image) .reels ≡ record { number = 7; frames = 2 ^ 32 ∷ [] } ∷ []
+  -- with the old edition's fingerprint the copy is not sound
+  pub old-print : perform (recover 1) (bookOf (cleanWords 2 144)) .answer ≡ 4
+
 -- ---- Format in mid-history
 
 -- a format to another geometry of the same image length, 226 words
@@ -174,5 +211,7 @@ pub record Witnesses : Type 0 where
       → Attempts m m' → GoesOn m'
   -- a history may start on an image of edition 1
   pub old-book : OldBook
+  -- an image full of stale words may be converted, and a history may start on the copy
+  pub converted-book : ConvertedBook
   -- a format to another geometry may come in mid-history
   pub other-geometry : OtherGeometry

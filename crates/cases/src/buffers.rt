@@ -77,6 +77,27 @@ fn show(buffer: &[u64], start: usize, count: usize) {
     }
 }
 
+// Exchanges the words of two buffers of one length.
+pub fn swap(a: &mut [u64], b: &mut [u64]) -> bool {
+    if a.len() != b.len() {
+        return false;
+    }
+    let mut left = a.len();
+    while left > 0 {
+        left -= 1;
+        if a.len() <= left {
+            return false;
+        }
+        if b.len() <= left {
+            return false;
+        }
+        let word = a[left];
+        a[left] = b[left];
+        b[left] = word;
+    }
+    true
+}
+
 // So many words from a place on, or none where there are not so many.
 pub fn part(words: &[u64], start: usize, count: usize) -> &[u64] {
     if words.len() < start {

@@ -33,26 +33,30 @@ pub const HAS: u64 = 11;
 
 pub const LIST: u64 = 12;
 
-pub const CRASH: u64 = 13;
+pub const CONVERT: u64 = 13;
 
-pub const PUT: u64 = 14;
+pub const CRASH: u64 = 14;
 
-pub const ALL: u64 = 15;
+pub const SWAP: u64 = 15;
 
-pub const RAMP: u64 = 16;
+pub const PUT: u64 = 16;
 
-pub const SHOW: u64 = 17;
+pub const ALL: u64 = 17;
 
-pub const LEND: u64 = 18;
+pub const RAMP: u64 = 18;
 
-pub const HOLD: u64 = 19;
+pub const SHOW: u64 = 19;
 
-pub const CARRY: u64 = 20;
+pub const LEND: u64 = 20;
+
+pub const HOLD: u64 = 21;
+
+pub const CARRY: u64 = 22;
 
 // An empty line or one that starts with #; and one that cannot be read.
-pub const HEADING: u64 = 21;
+pub const HEADING: u64 = 23;
 
-pub const UNKNOWN: u64 = 22;
+pub const UNKNOWN: u64 = 24;
 
 // A command's number, how many values stand behind it, and the values.
 pub struct Command {
@@ -102,16 +106,23 @@ fn name_of(line: &[u8], count: usize) -> u64 {
 }
 
 fn named(word: &[u8]) -> u64 {
-    index_of(
+    let operation = index_of(
         word,
-        b"format recover apply open claim fill commit abandon remove retire add has list crash put all ramp show lend hold carry",
+        b"format recover apply open claim fill commit abandon remove retire add has list convert",
+    );
+    if operation < CRASH {
+        return operation;
+    }
+    std::num::wrapping_add_u64(
+        CRASH,
+        index_of(word, b"crash swap put all ramp show lend hold carry"),
     )
 }
 
 // Does a command take so many values?
 fn takes(name: u64, count: usize) -> bool {
     match name {
-        RECOVER | APPLY | HOLD | CARRY => count == 0,
+        RECOVER | APPLY | CONVERT | SWAP | HOLD | CARRY => count == 0,
         OPEN | FILL | COMMIT | ABANDON | RETIRE | LIST => count == 1,
         FORMAT | REMOVE | HAS | ALL | LEND => count == 2,
         CLAIM | CRASH | SHOW => count == 3,

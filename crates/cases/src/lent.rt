@@ -4,6 +4,7 @@ use crate::command::CARRY;
 use crate::command::Command;
 use crate::command::HOLD;
 use crate::command::LEND;
+use crate::values::COPY;
 use crate::values::IMAGE;
 use crate::values::LIST;
 use crate::values::MAP;
@@ -11,8 +12,8 @@ use crate::values::SCRATCH;
 use crate::values::SCRIPT;
 use crate::values::TABLE;
 
-// The words of the buffers: an image of 128 nodes and its maps; the longest script; the frames of a path down to level 31; one
-// more than a table has bytes.
+// The words of the buffers: an image of 128 nodes, a second one, and its maps; the longest script; the frames of a path down to
+// level 31; one more than a table has bytes.
 pub const IMAGE_WORDS: usize = 10306;
 
 pub const MAP_WORDS: usize = 2;
@@ -31,6 +32,7 @@ pub struct Lent {
     pub script: usize,
     pub list: usize,
     pub table: usize,
+    pub copy: usize,
     pub held: bool,
 }
 
@@ -43,6 +45,7 @@ impl Lent {
             script: 0,
             list: 0,
             table: 0,
+            copy: 0,
             held: false,
         }
     }
@@ -66,6 +69,7 @@ impl Lent {
             SCRIPT => self.script = words,
             LIST => self.list = words,
             TABLE => self.table = words,
+            COPY => self.copy = words,
             _ => {}
         }
         self
@@ -86,6 +90,7 @@ pub fn has_words(buffer: u64, words: usize) -> bool {
         SCRIPT => words <= SCRIPT_WORDS,
         LIST => words <= LIST_WORDS,
         TABLE => words <= TABLE_WORDS,
+        COPY => words <= IMAGE_WORDS,
         _ => false,
     }
 }

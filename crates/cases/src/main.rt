@@ -8,6 +8,8 @@
 //   lend BUFFER WORDS          so many words from now on, none in the beginning; of a word of `table` its lowest byte is lent
 //   format SLOTS NODES, ..     the operations, with their numbers in the sequence of the C interface: what comes out is the
 //                              answer, and behind it what is handed back
+//   convert                    the other edition of `image` goes to `copy`
+//   swap                       image and copy, of one length, exchanged
 //   apply                      carries out a script: the words of `script` that are lent
 //   hold, carry                from now on, scripts that an operation writes are left, for `apply` or `crash`; or they are
 //                              carried out at once, as in the beginning
@@ -61,6 +63,7 @@ fn run_text(text: &[u8]) {
     let mut script = [0u64; SCRIPT_WORDS];
     let mut list = [0u64; LIST_WORDS];
     let mut table = [0u64; TABLE_WORDS];
+    let mut copy = [0u64; IMAGE_WORDS];
     let mut lent = Lent::nothing();
     let mut at = 0;
     while at < text.len() {
@@ -77,6 +80,7 @@ fn run_text(text: &[u8]) {
             &mut script,
             &mut list,
             &mut table,
+            &mut copy,
             lent,
         );
     }

@@ -2,6 +2,7 @@
 ghost use Prim.Native.Nat.{_<_};
 use crate::buffers::part;
 use crate::buffers::run_words;
+use crate::buffers::swap;
 use crate::calls::NO_COUNT;
 use crate::calls::call_scripted;
 use crate::calls::run_query;
@@ -10,6 +11,7 @@ use crate::command::ADD;
 use crate::command::APPLY;
 use crate::command::CLAIM;
 use crate::command::COMMIT;
+use crate::command::CONVERT;
 use crate::command::CRASH;
 use crate::command::Command;
 use crate::command::FILL;
@@ -20,6 +22,7 @@ use crate::command::LIST;
 use crate::command::OPEN;
 use crate::command::PUT;
 use crate::command::SHOW;
+use crate::command::SWAP;
 use crate::command::UNKNOWN;
 use crate::crash::run_crash;
 use crate::lent::Lent;
@@ -27,6 +30,7 @@ use crate::lent::has_words;
 use crate::lent::least;
 use crate::print;
 use crate::values;
+use crate::values::COPY;
 use crate::values::HEADS;
 use crate::values::IMAGE;
 use crate::values::MAP;
@@ -35,6 +39,7 @@ use crate::values::SCRIPT;
 use crate::values::TABLE;
 use reelbook::HEAD_WORDS;
 use reelbook::reelbook_apply;
+use reelbook::reelbook_convert;
 
 // Runs a command over the words that are lent.
 pub fn run_lent(
@@ -46,6 +51,7 @@ pub fn run_lent(
     script: &mut [u64],
     list: &mut [u64],
     table: &mut [u64],
+    copy: &mut [u64],
     lent: Lent,
 ) {
     let a = least(lent.image, image.len());
@@ -54,6 +60,7 @@ pub fn run_lent(
     let d = least(lent.script, script.len());
     let e = least(lent.list, list.len());
     let f = least(lent.table, table.len());
+    let g = least(lent.copy, copy.len());
     run_command(
         command,
         &mut image[..a],
@@ -63,6 +70,7 @@ pub fn run_lent(
         &mut script[..d],
         &mut list[..e],
         &mut table[..f],
+        &mut copy[..g],
         lent.held,
     );
 }
@@ -76,6 +84,7 @@ fn run_command(
     script: &mut [u64],
     list: &mut [u64],
     table: &mut [u64],
+    copy: &mut [u64],
     held: bool,
 ) {
     let name = command.name;
@@ -83,8 +92,20 @@ fn run_command(
         FORMAT..=APPLY => run_whole(command, image, map, heads, script, table),
         OPEN..=ADD => run_scripted(command, image, map, heads, scratch, script, held),
         HAS..=LIST => run_query(command, image, scratch, list),
+        CONVERT => print::answer(reelbook_convert(image, copy, scratch)),
         CRASH => run_crash(command, image, script, list),
-        PUT..=SHOW => run_buffer(command, image, map, heads, scratch, script, list, table),
+        SWAP => print::end(swap(image, copy)),
+        PUT..=SHOW => run_buffer(
+            command,
+            image,
+            map,
+            heads,
+            scratch,
+            script,
+            list,
+            table,
+            copy,
+        ),
         _ => run_mode(command),
     }
 }
@@ -206,6 +227,7 @@ fn run_buffer(
     script: &mut [u64],
     list: &mut [u64],
     table: &mut [u64],
+    copy: &mut [u64],
 ) {
     let buffer = command.a;
     match buffer {
@@ -216,6 +238,7 @@ fn run_buffer(
         SCRIPT => run_words(command, script),
         values::LIST => run_words(command, list),
         TABLE => run_words(command, table),
+        COPY => run_words(command, copy),
         _ => print::end(false),
     }
 }

@@ -27,6 +27,8 @@ pub const LIST: u64 = 5;
 
 pub const TABLE: u64 = 6;
 
+pub const COPY: u64 = 7;
+
 // The first place of a byte from a place on, or the end.
 pub fn place_of(b: u8, text: &[u8], from: usize) -> usize
     requires { ⌜ from ≤ length (now text) ⌝ }
@@ -92,7 +94,7 @@ fn value_of(word: &[u8]) -> One {
     if let One::Number(exponent) = read_one(word, 0, b"2^") {
         return power(exponent);
     }
-    named(index_of(word, b"image map heads scratch script list table ones"))
+    named(index_of(word, b"image map heads scratch script list table copy ones"))
 }
 
 fn power(exponent: u64) -> One {
@@ -105,8 +107,8 @@ fn power(exponent: u64) -> One {
 
 fn named(index: u64) -> One {
     match index {
-        IMAGE..=TABLE => One::Number(index),
-        7 => One::Number(ONES),
+        IMAGE..=COPY => One::Number(index),
+        8 => One::Number(ONES),
         _ => One::Missing,
     }
 }

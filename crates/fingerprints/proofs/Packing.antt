@@ -7,7 +7,7 @@ use native.Mathlib.Decide.{ℕ-discrete}
 use lib.ListN.{length, getD, set, replicate, length-set, length-replicate, getD-replicate}
 use lib.Seq.{getD-set-same, getD-set-other}
 use Rattle.memory.specs.Words.{withByte}
-use Rattle.tree.specs.Fingerprint.{entryIn, packedTo, packed}
+use Rattle.tree.specs.Fingerprint.{entryIn, bytesTo, packed}
 
 -- how many bytes of word j the first i entries fill
 abbrev bytesOf : (i j : ℕ) → ℕ
@@ -16,10 +16,10 @@ bytesOf i j = min (i - 8 * j) 8
 -- 32 words, the first i entries put into them
 pub record Packing (t : List ℕ) (xs : List ℕ) (i : ℕ) : Type 0 where
   pub long : length xs ≡ 32
-  pub put : (j : ℕ) → j < 32 → getD xs j 0 ≡ packedTo t j (bytesOf i j)
+  pub put : (j : ℕ) → j < 32 → getD xs j 0 ≡ bytesTo (λ k. entryIn t (8 * j + k)) (bytesOf i j)
 
 pub packing-none : (t : List ℕ) → Packing t (replicate 32 0) 0
-unfolding packedTo
+unfolding bytesTo
 packing-none t = record {
   long = length-replicate {A = ℕ} 32 0;
   put = λ j h. let e : bytesOf 0 j ≡ 0 = omega arith in rw e (getD-replicate 32 j 0 0 h);
@@ -27,7 +27,7 @@ packing-none t = record {
 
 pub packing-more : {t xs : List ℕ} {i v : ℕ} → i < 256 → v ≡ withByte (getD xs (i / 8) 0) (i % 8) (entryIn t i)
     → Packing t xs i → Packing t (set xs (i / 8) v) (i + 1)
-unfolding packedTo
+unfolding bytesTo
 packing-more {t} {xs} {i} {v} h e a = record {
   long = length-set xs (i / 8) v ∙ a .long;
   put = λ j l. elim (ℕ-discrete j (i / 8)) [

@@ -2,19 +2,13 @@
 use mathlib.Core.Bool.{cond}
 use mathlib.Core.List.{List}
 use Prim.Native.Nat.{ℕ, zero, suc}
-use lib.Dec.{eqb}
 use lib.ListN.{set}
 use Rattle.memory.specs.Words.{Memory, byte}
-use Rattle.tree.specs.Layout.{editionAt}
 use Rattle.tree.specs.Fingerprint.{theTable, hasOwn, storedTable}
 
 -- the table by which an image is read, its 256 entries in turn
 unfoldable pub tableIn : Memory → List ℕ
 tableIn m = cond (hasOwn m) (storedTable m) theTable
-
--- how many bytes of a frame its edition folds
-unfoldable pub bytesFolded : Memory → ℕ
-bytesFolded m = cond (eqb (m editionAt) 1) 4 8
 
 -- 1 at each of a word's bytes, the first k of them
 unfoldable pub flagged : List ℕ → (word k : ℕ) → List ℕ

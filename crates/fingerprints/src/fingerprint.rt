@@ -3,8 +3,8 @@ ghost use mathlib.Core.Path.{_≡_};
 ghost use Prim.Native.Nat.{_%_, _≤_, _<_};
 ghost use lib.ListN.{length};
 ghost use Rattle.memory.specs.Words.{reads, withByte};
-ghost use Rattle.tree.specs.Fingerprint.{tableEntry, theTable, entryIn, folded, fingerprint, ruleOf};
-ghost use Rattle.fingerprints.specs.Tables.{tableIn, bytesFolded};
+ghost use Rattle.tree.specs.Fingerprint.{tableEntry, theTable, entryIn, folded, fingerprint, ruleFor, ruleOf};
+ghost use Rattle.fingerprints.specs.Tables.{tableIn};
 use crate::own_table::fold_stored;
 use crate::own_table::has_own;
 use crate::own_table::stored_table;
@@ -278,7 +278,7 @@ const TABLE: [u8; 256] = [
 
 // The paper's table, as a value. A constant is laid out anew wherever it is indexed: whoever folds many frames lays it out
 // once, and lends it.
-fn table() -> [u8; 256]
+pub fn table() -> [u8; 256]
     ensures { λ r. ⌜ r ≡ theTable ⌝ }
 {
     TABLE
@@ -295,12 +295,11 @@ pub fn table_in(image: &[u64]) -> [u8; 256]
     table()
 }
 
-// How many bytes of a frame the image's edition folds: edition 1 the four low ones, edition 2 all eight.
-fn bytes_folded(image: &[u64]) -> u32
-    requires { ⌜ 64 ≤ length (now image) ⌝ }
-    ensures { λ r. ⌜ (r ≡ bytesFolded (reads (now (image .entry)))) × (4 ≤ r) × (r ≤ 8) ⌝ }
+// How many bytes of a frame an edition folds: 1 the four low ones, 2 all eight.
+fn bytes_folded(edition: u64) -> u32
+    ensures { λ r. ⌜ (r ≡ ruleFor edition .bytes) × (4 ≤ r) × (r ≤ 8) ⌝ }
 {
-    if edition(image) == 1 {
+    if edition == 1 {
         return LOW_BYTES;
     }
     ALL_BYTES
@@ -322,14 +321,22 @@ fn fold_on(table: &[u8], h: u64, frame: u64, from: u32, to: u32) -> u64
     h
 }
 
-// A frame's fingerprint in an image, by the image's table, which is lent. The low bytes are a fixed number of steps, which the
-// compiler unrolls; what the edition adds comes after.
+// A frame's fold by a table that is lent, over as many bytes as an edition folds. The low bytes are a fixed number of steps,
+// which the compiler unrolls; what the edition adds comes after.
+pub fn fold_for(edition: u64, table: &[u8], frame: u64) -> u64
+    requires { ⌜ length (now table) ≡ 256 ⌝ }
+    ensures { λ r. ⌜ r ≡ folded (entryIn (now (table .entry))) (ruleFor edition .bytes) frame ⌝ }
+{
+    let low = fold_on(table, 0, frame, 0, LOW_BYTES);
+    fold_on(table, low, frame, LOW_BYTES, bytes_folded(edition))
+}
+
+// A frame's fingerprint in an image, by the image's table, which is lent.
 pub fn fold(image: &[u64], table: &[u8], frame: u64) -> u64
     requires { ⌜ (64 ≤ length (now image)) × (now table ≡ tableIn (reads (now image))) ⌝ }
     ensures { λ r. ⌜ r ≡ fingerprint (ruleOf (reads (now (image .entry)))) frame ⌝ }
 {
-    let low = fold_on(table, 0, frame, 0, LOW_BYTES);
-    fold_on(table, low, frame, LOW_BYTES, bytes_folded(image))
+    fold_for(edition(image), table, frame)
 }
 
 // An entry of the paper's table, by its rule.
@@ -364,7 +371,7 @@ pub fn fingerprint(image: &[u64], frame: u64) -> u64
         return fold_stored(image, frame);
     }
     let low = fold_on_by_rule(0, frame, 0, LOW_BYTES);
-    fold_on_by_rule(low, frame, LOW_BYTES, bytes_folded(image))
+    fold_on_by_rule(low, frame, LOW_BYTES, bytes_folded(edition(image)))
 }
 
 // The fingerprint word of a place with the frame's fingerprint in it, its seven other bytes kept.

@@ -1,2 +1,3 @@
 pub mod Formatting
 pub mod Recovering
+pub mod Converting

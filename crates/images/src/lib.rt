@@ -1,4 +1,5 @@
-// The operations that write the image themselves: Format, Recover and Carry out.
+// The operations on whole images: Format, Recover and Carry out, which write the image themselves, and Convert, which writes another.
 pub mod apply;
+pub mod convert;
 pub mod format;
 pub mod recover;

@@ -16,10 +16,11 @@ use Rattle.tree.specs.declared.layout.Geometry.{Geometry}
 use Rattle.tree.specs.Layout.{badImage, mapWords, geometryOf, badEdition}
 use Rattle.tree.specs.Subtree.{listed}
 use Rattle.tree.proofs.Memory.{script-laws, segment-laws}
-use Rattle.tree.proofs.Cases.{test}
+use Rattle.tree.proofs.Cases.{test, not-false}
+use Rattle.tree.proofs.Laws.{pool-laws}
 use Rattle.book.specs.Refusals.{refusal}
 use Rattle.tree.specs.Fingerprint.{isGiven}
-use Rattle.book.specs.State.{State, Operation, format, recover, openReel, claim, fill, commit, abandon, remove, retire, query, has, list, Work, scratchAfter}
+use Rattle.book.specs.State.{State, Operation, format, recover, openReel, claim, fill, commit, abandon, remove, retire, query, has, list, convert, Work, scratchAfter, copyAfter}
 use Rattle.book.specs.Checks.{refusals}
 use Rattle.book.specs.Perform.{granted, leaves, clears, leftBy, perform}
 use Rattle.book.specs.CarryOut.{carry}
@@ -31,7 +32,7 @@ use Rattle.book.proofs.Demands.{demand1, demand2, scripts}
 use Rattle.book.proofs.Done.{done-same}
 use Rattle.book.proofs.Performed.{answer-is, work-granted, work-refused}
 use Rattle.operations.specs.Ends.{Buffers, state, Ends, ended, found, ends}
-use Rattle.operations.specs.Chain.{Counted, nothing, script-words, number-alone, frames, counted, wordsIn, framesIn, valueIn, next, Answered, Refused, OtherMap, by-format, by-recover, by-open, by-claim, by-retire, Unread, Fits, OtherBuffer, another-length, to-format, Called, with-its-map, with-another, afterCall, GoesOn, Chain}
+use Rattle.operations.specs.Chain.{Counted, nothing, script-words, number-alone, frames, counted, wordsIn, framesIn, valueIn, next, Answered, Refused, OtherMap, by-format, by-recover, by-open, by-claim, by-retire, Cleared, Clears, Unread, Fits, OtherBuffer, another-length, to-format, Called, with-its-map, with-another, afterCall, GoesOn, Chain}
 use Rattle.operations.proofs.Endings.{refused as ends-refused, done as ends-done}
 
 -- ---- what is handed back
@@ -70,6 +71,7 @@ granted-over (abandon script h) s b = (script-laws .take-written _ _, refl, refl
 granted-over (remove script reel f) s b = (script-laws .take-written _ _, refl, refl)
 granted-over (query (has reel f)) s b = (no-words, refl, refl)
 granted-over (query (list scratch room reel)) s b = (no-words, refl, take-append-seam _ _)
+granted-over (query (convert scratch copy)) s b = (no-words, refl, refl)
 granted-over (retire words scratch script reel) s b = (script-laws .take-written _ _, refl, refl)
 
 -- and nothing where the count is 0
@@ -92,6 +94,10 @@ module _ (op : Operation) (s : State) (b : Buffers) where
   unfolding ends found
   left-ends = refl
 
+  pub copy-ends : ends op s b .buffers .copy ≡ copyAfter (perform op s .work .handed .copy) (b .copy)
+  unfolding ends found
+  copy-ends = refl
+
 -- ---- answered
 
 module _ (op : Operation) (s : State) (b : Buffers) (h : perform op s .answer ≡ 0) where
@@ -110,6 +116,7 @@ module _ (op : Operation) (s : State) (b : Buffers) (h : perform op s .answer �
         pool = ap (λ (x : State). x .pool) (after-ends op s b);
         heads = ap (λ (x : State). x .heads) (after-ends op s b);
         places-left = left-ends op s b;
+        copied = λ ws e. copy-ends op s b ∙ ap (λ o. copyAfter o (b .copy)) e;
       }
 
 -- ---- refused
@@ -131,10 +138,28 @@ module _ (op : Operation) (s : State) (b : Buffers) (h : perform op s .answer �
         places-left = d .places-left;
         script = rw (d .no-store) (segment-laws .none-written (b .script));
         list = rw (d .none-handed) refl;
+        copy = rw (d .none-handed) refl;
         after = rw (d .no-store) (ap (λ (im : List ℕ). state im (perform op s .work .after .pool) (perform op s .work .after .heads))
             (sym (segment-laws .apply-none (perform op s .work .after .image))));
         left = d .left;
       }
+
+-- ---- the scratch map
+
+module _ (op : Operation) (s : State) (b : Buffers) where
+  scratch-ends : ends op s b .buffers .scratch ≡ scratchAfter (perform op s .cleared) (b .scratch)
+  unfolding ends found
+  scratch-ends = refl
+
+  scratch-cleared : Clears op (ends op s b) → Cleared (b .scratch) (ends op s b .buffers .scratch)
+  unfolding scratchAfter
+  scratch-cleared c =
+      rw (scratch-ends, demand1 .scratch op s .1 (rw answer-ends at c))
+      (record { same-length = pool-laws .length-clear (length (b .scratch)); zeros = pool-laws .clear-word (length (b .scratch)) })
+
+  scratch-left : (Clears op (ends op s b) → ⊥) → ends op s b .buffers .scratch ≡ b .scratch
+  unfolding scratchAfter
+  scratch-left n = rw (scratch-ends, not-false (λ e. n (rw answer-ends (demand1 .scratch op s .0 e)))) refl
 
 -- ---- a map of another length
 
@@ -375,6 +400,8 @@ pub chain : Chain
 chain = record {
   answered = λ op s b e fit q h. rw q (answered op s b (sym (answer-ends op s b) ∙ sym (ap (λ (x : Ends). x .answer) q) ∙ h) fit);
   refused = λ op s b e q h. rw q (refused op s b (λ z. h (ap (λ (x : Ends). x .answer) q ∙ answer-ends op s b ∙ z)));
+  scratch-cleared = λ op s b e q c. rw q (scratch-cleared op s b (rw q at c));
+  scratch-left = λ op s b e q n. rw q (scratch-left op s b (rw q at n));
   other-map = λ op image pool heads b e o q. rw q (unread op image pool heads b o);
   starts = λ words table slots nodes s b e fit q h.
       let op = format words table slots nodes in

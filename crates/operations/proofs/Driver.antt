@@ -13,13 +13,14 @@ use Rattle.tree.proofs.Memory.{segment-laws}
 use Rattle.tree.proofs.Cases.{some-inj, test}
 use Rattle.tree.proofs.Laws.{pool-laws}
 use Rattle.book.specs.Refusals.{refusal}
-use Rattle.book.specs.State.{State, Operation, recover, Work}
+use Rattle.book.specs.State.{State, Operation, recover, query, convert, Work, copyAfter}
 use Rattle.book.specs.Checks.{refusals}
 use Rattle.book.specs.Perform.{granted, leaves, perform}
 use Rattle.book.specs.Table.{Table}
+use Rattle.book.specs.Conversions.{Writes, written}
 use Rattle.book.specs.Histories.{carriedOut, done, replied, Steady, answered-format, Interrupted, Attempts, Recovered, Follows, found, started, before, after}
 use Rattle.book.specs.Histories.{none-yet as no-attempt, refused as refused-attempt, interrupted as interrupted-attempt}
-use Rattle.book.proofs.Demands.{demand1, demand2, demand3, placed, growth}
+use Rattle.book.proofs.Demands.{demand1, demand2, demand3, placed, growth, conversions}
 use Rattle.book.proofs.Performed.{work-granted}
 use Rattle.book.proofs.Done.{refused-image}
 use Rattle.book.proofs.Recovery.{recover-writes}
@@ -27,7 +28,7 @@ use Rattle.book.proofs.Held.{idle-held}
 use Rattle.operations.specs.Ends.{Buffers, noBuffers, state, Ends, ends}
 use Rattle.operations.specs.Chain.{counted, wordsIn, Fits, OtherBuffer, another-length, to-format, Called, with-its-map, with-another}
 use Rattle.operations.specs.Driver.{CutShort, RecoverEnds, Retries, none-yet, refused, cut-short, Recovers, Whole, as-before, as-after, Driven, formats, finds, calls, loses-power, Survives, Stands, Driver}
-use Rattle.operations.proofs.Chain.{no-entries, nothing-over, answer-ends, after-ends, one-to-three, sent-back, chain}
+use Rattle.operations.proofs.Chain.{no-entries, nothing-over, answer-ends, after-ends, copy-ends, one-to-three, sent-back, chain}
 
 -- ---- power lost
 
@@ -261,12 +262,22 @@ recovered-recovers r =
       is = r .is ∙ sym (same-done words s (r .answered)) ∙ sym (recover-after words (lent words s) noBuffers);
     }
 
+-- the words that a conversion writes
+copy-of : {op : Operation} {s : State} {ws : List ℕ} → Writes op s ws → perform op s .work .handed .copy ≡ some ws
+copy-of (written h c) = c
+
 pub driver : Driver
 driver = record {
   stands = stands;
   starts-on = λ image map heads e fit q h s r.
       let answered = sym (answer-ends (recover (length map)) (state image map heads) noBuffers) ∙ sym (ap (λ (x : Ends). x .answer) q) ∙ h in
       subst (Driven s) (idle-held image) (finds (demand2 .shown (length map) (state image map heads) fit answered) r);
+  converts = λ scratch copy s s' t b e d q h r.
+      let op = query (convert scratch copy) in
+      let answered = sym (answer-ends op s b) ∙ sym (ap (λ (x : Ends). x .answer) q) ∙ h in
+      let w = conversions .answered scratch copy s answered in
+      let copied = ap (λ (x : Ends). x .buffers .copy) q ∙ copy-ends op s b ∙ ap (λ o. copyAfter o (b .copy)) (copy-of (w .1)) in
+      finds (conversions .shows s t (w .0) (stands s t d .follows) (record { by = op; writes = w .1 })) (rw copied at r);
   accepted = λ m m' map heads t e v r q.
       ap (λ (x : Ends). x .answer) q ∙ answer-ends (recover (length map)) (state m' map heads) noBuffers
       ∙ demand2 .accepted m m' t v (retries-attempts r) (length map) (state m' map heads) refl;

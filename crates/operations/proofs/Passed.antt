@@ -30,7 +30,7 @@ use Rattle.operations.specs.declared.answer.Refusal as enums
 use Rattle.operations.specs.declared.answer.Refusal.the-variants as enum
 use Rattle.operations.specs.Answers.{numberOf}
 use Rattle.operations.specs.Checked.{mapBad, scriptBad, firstChecks}
-use Rattle.operations.specs.Ends.{Buffers, buffers, ended, ends}
+use Rattle.operations.specs.Ends.{Buffers, allBuffers, ended, ends}
 use Rattle.operations.proofs.Endings.{refused-any}
 
 passed-refused : {X : Type 0} {g : Geometry} {why : enums.Refusal} → Passed g ≡ Refused why → X
@@ -59,6 +59,7 @@ number-some enum.HeadState = omega arith
 number-some enum.Busy = omega arith
 number-some enum.ListShort = omega arith
 number-some enum.GivenTable = omega arith
+number-some enum.OwnTable = omega arith
 
 -- the checks go by what a test computes
 pub same-checks : (image : List ℕ) (bad bad' : Test) (rest : List Refusal) → holds bad ≡ holds bad'
@@ -211,7 +212,7 @@ module _ (image : List ℕ) (map scratch script : Buffer) (g : Geometry) (is : g
 pub ended-early : (op : Operation) (s : State) (b : Buffers) (map scratch script : Buffer) (rest : List Refusal) {v : Verdict} {why : enums.Refusal}
     → refusal (refusals op s) ≡ refusal (checked (s .image) (buffersBad (s .image) map scratch script) rest)
     → v ≡ firstChecks (s .image) map scratch script → v ≡ Refused why
-    → ended (numberOf why) 0 (leaves op s (numberOf why)) (buffers (scratchAfter (clears op (numberOf why)) (b .scratch)) (b .script) (b .list))
+    → ended (numberOf why) 0 (leaves op s (numberOf why)) (allBuffers (scratchAfter (clears op (numberOf why)) (b .scratch)) (b .script) (b .list) (b .copy))
     ≡ ends op s b
 ended-early op s b map scratch script rest {why = why} same is told =
     let r = refused-first (s .image) map scratch script (sym told ∙ is) in

@@ -24,7 +24,7 @@ use Rattle.operations.specs.declared.checks.Verdict.{Verdict}
 use Rattle.operations.specs.declared.checks.Verdict.the-variants.{Refused}
 use Rattle.operations.specs.declared.answer.Refusal as enums
 use Rattle.operations.specs.Answers.{numberOf}
-use Rattle.operations.specs.Ends.{Buffers, buffers, ended, found, ends}
+use Rattle.operations.specs.Ends.{Buffers, allBuffers, ended, found, ends}
 use Rattle.operations.proofs.Endings.{refused, done}
 use Rattle.operations.proofs.Passed.{number-some, buffersBad, refused-first, byLength, checksOn, Checked, tests-left, ended-early, past-is-4}
 
@@ -37,7 +37,7 @@ pub record Tested (op : Operation) (s : State) (map scratch script : Option (Lis
 
 -- the buffers as they are left where nothing is written
 abbrev pub leftAs : Bool → Buffers → Buffers
-leftAs cleared b = buffers (cond cleared (clearMap (length (b .scratch))) (b .scratch)) (b .script) (b .list)
+leftAs cleared b = allBuffers (cond cleared (clearMap (length (b .scratch))) (b .scratch)) (b .script) (b .list) (b .copy)
 
 module _ {op : Operation} {s : State} {map scratch script : Option (List ℕ)} {cleared : Bool} {rest : Geometry → List Refusal}
     (o : Tested op s map scratch script cleared rest) (b : Buffers) where
@@ -49,7 +49,7 @@ module _ {op : Operation} {s : State} {map scratch script : Option (List ℕ)} {
       let n = numberOf why in
       let most = refused-first (s .image) (byLength map) (byLength scratch) (byLength script) (sym told ∙ is) .most in
       let past : clears op n ≡ cleared && eqb n 4 = o .clears-past n ∙ ap (λ c. cleared && c) (past-is-4 n (number-some why) most) in
-      let left : ended n 0 (leaves op s n) (buffers (scratchAfter (clears op n) (b .scratch)) (b .script) (b .list))
+      let left : ended n 0 (leaves op s n) (allBuffers (scratchAfter (clears op n) (b .scratch)) (b .script) (b .list) (b .copy))
       ≡ ended n 0 s (leftAs (cleared && eqb n 4) b) = rw (o .leaves-all n, past) refl in
       sym left ∙ ended-early op s b (byLength map) (byLength scratch) (byLength script) _ (o .tests) is told
 

@@ -2,22 +2,22 @@
 -- demands speak of histories, whose steps are `done op s`. A driver that carries out the words that it was handed makes that step.
 use mathlib.Core.Path.{_≡_}
 use mathlib.Core.Bool.{cond}
-use mathlib.Core.Logic.{_≢_}
+use mathlib.Core.Logic.{_⊎_, _≢_}
 use mathlib.Core.Option.{some}
 use mathlib.Core.List.{List, [], _∷_, List·Memᴰ}
-use Prim.Native.Nat.{ℕ}
+use Prim.Native.Nat.{ℕ, _<_}
 use lib.ListN.{length, take}
 use lib.Dec.{eqb}
 use Rattle.tree.specs.Memory.{reads, segmented, decode, Fit}
 use Rattle.tree.specs.Layout.{mapWords, geometryOf}
 use Rattle.tree.specs.Fingerprint.{isGiven}
-use Rattle.book.specs.State.{State, Operation, format, recover, openReel, claim, fill, commit, abandon, remove, retire, query, Query, has, list, arguments}
+use Rattle.book.specs.State.{State, Operation, format, recover, openReel, claim, fill, commit, abandon, remove, retire, query, Query, has, list, convert, arguments}
 use Rattle.book.specs.Perform.{perform}
 use Rattle.book.specs.CarryOut.{carry, carried}
 use Rattle.book.specs.Table.{Table, emptyTable}
 use Rattle.book.specs.Agrees.{EachOnce}
 use Rattle.book.specs.Held.{tableOf}
-use Rattle.book.specs.Demands.{Leaves}
+use Rattle.book.specs.Demands.{BorrowsScratch, Leaves}
 use Rattle.book.specs.Histories.{done, replied, Follows}
 use Rattle.operations.specs.Ends.{Buffers, state, Ends, ended, ends}
 
@@ -30,6 +30,7 @@ pub data Counted : Type 0 where
 abbrev pub queryCounted : Query → Counted
 queryCounted (has reel f) = number-alone
 queryCounted (list scratch room reel) = frames
+queryCounted (convert scratch copy) = nothing
 
 abbrev pub counted : Operation → Counted
 counted (format words table slots nodes) = nothing
@@ -79,15 +80,26 @@ pub record Answered (op : Operation) (s : State) (e : Ends) : Type 0 where
   pub heads : e .after .heads ≡ done op s .heads
   -- of places left the driver is told what `PlacesLeft` (book, specs) says of that image and these heads
   pub places-left : e .places-left ≡ perform op s .places-left
+  -- and in the second image it finds the words of which `Conversions` (book, specs) speaks
+  pub copied : (ws : List ℕ) → perform op s .work .handed .copy ≡ some ws → e .buffers .copy ≡ ws
 
 pub record Refused (op : Operation) (s : State) (b : Buffers) (e : Ends) : Type 0 where
   pub count : e .count ≡ 0
   pub places-left : e .places-left ≡ 0
   pub script : e .buffers .script ≡ b .script
   pub list : e .buffers .list ≡ b .list
+  pub copy : e .buffers .copy ≡ b .copy
   pub after : e .after ≡ done op s
   -- whatever map it was lent: everything is as before, but for the map that a recovery refused 4 clears
   pub left : Leaves s op (e .answer) (e .after)
+
+-- the scratch map is all 0, after any end but 1, 2 or 3 of an operation that borrows one
+pub record Cleared (scratch scratch' : List ℕ) : Type 0 where
+  pub same-length : length scratch' ≡ length scratch
+  pub zeros : (i : ℕ) → reads scratch' i ≡ 0
+
+abbrev pub Clears : Operation → Ends → Type 0
+Clears op e = BorrowsScratch op × ((e .answer ≡ 0) ⊎ (3 < e .answer))
 
 -- ---- a map of another length
 
@@ -138,6 +150,10 @@ pub record GoesOn (op : Operation) (s : State) (t : Table) (e : Ends) (s' : Stat
 pub record Chain : Type 0 where
   pub answered : (op : Operation) (s : State) (b : Buffers) (e : Ends) → Fits op s → e ≡ ends op s b → e .answer ≡ 0 → Answered op s e
   pub refused : (op : Operation) (s : State) (b : Buffers) (e : Ends) → e ≡ ends op s b → e .answer ≢ 0 → Refused op s b e
+  pub scratch-cleared : (op : Operation) (s : State) (b : Buffers) (e : Ends) → e ≡ ends op s b → Clears op e
+      → Cleared (b .scratch) (e .buffers .scratch)
+  pub scratch-left : (op : Operation) (s : State) (b : Buffers) (e : Ends) → e ≡ ends op s b → (Clears op e → ⊥)
+      → e .buffers .scratch ≡ b .scratch
   pub other-map : (op : Operation) (image pool heads : List ℕ) (b : Buffers) (e : Ends) → OtherMap image op
       → e ≡ ends op (state image pool heads) b → Unread op image heads b e
   pub starts : (words : ℕ) (table : List ℕ) (slots nodes : ℕ) (s : State) (b : Buffers) (e : Ends) → Fits (format words table slots nodes) s

@@ -11,7 +11,7 @@ use lib.Dec.{eqb}
 use Rattle.tree.specs.Memory.{reads, Entry, decode, CrashImage, passed, Fit}
 use Rattle.tree.specs.Layout.{mapWords, geometryOf}
 use Rattle.tree.specs.Fingerprint.{isGiven}
-use Rattle.book.specs.State.{State, Operation, format, recover, arguments}
+use Rattle.book.specs.State.{State, Operation, format, recover, query, convert, arguments}
 use Rattle.book.specs.Table.{Table, emptyTable, allIdle}
 use Rattle.book.specs.Agrees.{Shows, Agrees}
 use Rattle.book.specs.Held.{tableOf}
@@ -122,6 +122,9 @@ pub record Driver : Type 0 where
   -- where it finds an image that recover accepts, it may start there, with the one that ends, from the frames held there
   pub starts-on : (image map heads : List ℕ) (e : Ends) → Fit image → RecoverEnds image map heads e → e .answer ≡ 0
       → (s : State) → Recovers image s → Driven s (tableOf image)
+  -- where it has its book converted, it may go on with the copy: an image that shows the same table
+  pub converts : (scratch copy : ℕ) (s s' : State) (t : Table) (b : Buffers) (e : Ends) → Driven s t
+      → e ≡ ends (query (convert scratch copy)) s b → e .answer ≡ 0 → Recovers (e .buffers .copy) s' → Driven s' (allIdle t)
   -- and however often recover was refused or cut short there, it comes to answer 0
   pub accepted : (m m' map heads : List ℕ) (t : Table) (e : Ends) → Shows m t → Retries m m' → RecoverEnds m' map heads e
       → e .answer ≡ cond (eqb (length map) (mapWords (geometryOf (reads m')))) 0 3

@@ -4,17 +4,22 @@ use Prim.Native.Nat.{ℕ, _*_}
 use lib.ListN.{length}
 use Rattle.tree.specs.Memory.{segmented, written}
 use Rattle.tree.specs.Subtree.{listed}
-use Rattle.book.specs.State.{State, Operation, format, recover, openReel, claim, fill, commit, abandon, remove, retire, query, Work, Outcome, scratchAfter}
+use Rattle.book.specs.State.{State, Operation, format, recover, openReel, claim, fill, commit, abandon, remove, retire, query, Work, Outcome, scratchAfter, copyAfter}
 use Rattle.book.specs.Perform.{perform}
 
--- what an operation may borrow beside the state
+-- what an operation may borrow beside the state; the copy is Convert's second image
 pub record Buffers : Type 0 where
   pub scratch : List ℕ
   pub script : List ℕ
   pub list : List ℕ
+  pub copy : List ℕ
 
+abbrev pub allBuffers : (scratch script list copy : List ℕ) → Buffers
+allBuffers scratch words frames copy = record { scratch = scratch; script = words; list = frames; copy = copy }
+
+-- without a copy: every operation but Convert
 abbrev pub buffers : (scratch script list : List ℕ) → Buffers
-buffers scratch words frames = record { scratch = scratch; script = words; list = frames }
+buffers scratch words frames = allBuffers scratch words frames []
 
 abbrev pub noBuffers : Buffers
 noBuffers = buffers [] [] []
@@ -36,7 +41,7 @@ endedLeft answer count left after b = record { answer = answer; count = count; p
 abbrev pub ended : (answer count : ℕ) → State → Buffers → Ends
 ended answer count after b = endedLeft answer count 0 after b
 
--- the count handed back: Has's yes or no, List's frames, else the script's words
+-- the count handed back: Has's yes or no, List's frames, 0 of Convert, else the script's words
 abbrev pub countIn : Operation → Work → ℕ
 countIn (query q) w = w .handed .value
 countIn (format map table slots nodes) w = 0
@@ -53,7 +58,8 @@ countIn (retire map scratch script reel) w = 2 * length (segmented (w .script))
 unfoldable pub found : Operation → Outcome → Buffers → Ends
 found op o b =
     endedLeft (o .answer) (countIn op (o .work)) (o .places-left) (o .work .after)
-    (buffers (scratchAfter (o .cleared) (b .scratch)) (written (segmented (o .work .script)) (b .script)) (listed (o .work .handed .listing) (b .list)))
+    (allBuffers (scratchAfter (o .cleared) (b .scratch)) (written (segmented (o .work .script)) (b .script))
+    (listed (o .work .handed .listing) (b .list)) (copyAfter (o .work .handed .copy) (b .copy)))
 
 unfoldable pub ends : Operation → State → Buffers → Ends
 ends op s b = found op (perform op s) b

@@ -18,6 +18,7 @@ pub enum Refusal {
     Busy,
     ListShort,
     GivenTable,
+    OwnTable,
 }
 
 // Done, with the count that is handed back (the script's words, Has's yes or no, List's frames), or refused.

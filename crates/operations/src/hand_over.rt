@@ -31,6 +31,7 @@ pub fn number(why: Refusal) -> u64
         Refusal::Busy => 13,
         Refusal::ListShort => 14,
         Refusal::GivenTable => 16,
+        Refusal::OwnTable => 17,
     }
 }
 

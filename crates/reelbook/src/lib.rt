@@ -9,11 +9,12 @@ ghost use mathlib.Core.List.{List, []};
 ghost use Prim.Native.Nat.{ℕ};
 ghost use lib.ListN.{length};
 ghost use Rattle.book.specs.State.{format, recover, openReel, claim, fill, commit, abandon, remove, retire};
-ghost use Rattle.book.specs.State.{query, has, list as list-reel};
+ghost use Rattle.book.specs.State.{query, has, list as list-reel, convert};
 ghost use Rattle.book.specs.CarryOut.{carry, carried};
-ghost use Rattle.operations.specs.Ends.{buffers, noBuffers, state, ended, endedLeft, ends};
+ghost use Rattle.operations.specs.Ends.{allBuffers, buffers, noBuffers, state, ended, endedLeft, ends};
 use claims::claim;
 use images::apply;
+use images::convert;
 use images::format;
 use images::recover;
 use lookups::frames;
@@ -255,6 +256,19 @@ pub extern "C" fn reelbook_retire(
         retire::retire(image, map, read_heads(heads), scratch, script, reel),
         used,
     )
+}
+
+// Writes the image of the other edition to a second image of the same length. The image is only read.
+#[no_mangle]
+pub extern "C" fn reelbook_convert(image: &[u64], copy: &mut [u64], scratch: &mut [u64]) -> u64
+    ensures { λ r. ⌜
+        ((pool heads : List ℕ)
+        → ended r 0 (state (now (image .entry)) pool heads) (allBuffers (now (scratch .exit)) [] [] (now (copy .exit)))
+        ≡ ends (query (convert (length (now (scratch .entry))) (length (now (copy .entry)))))
+        (state (now (image .entry)) pool heads) (allBuffers (now (scratch .entry)) [] [] (now (copy .entry))))
+        ⌝ }
+{
+    answer_number(convert::convert(image, copy, scratch))
 }
 
 // Carries a script out on the image, barriers skipped.

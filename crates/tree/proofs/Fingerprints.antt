@@ -165,11 +165,16 @@ pub our-rule : (m : Memory) → hasOwn m ≡ false → ruleOf m ≡ ruleFor (m e
 unfolding ruleOf
 our-rule m e = rw e refl
 
+-- by an edition's rule, and by an image's, it is a byte
+pub edition-lt : (e f : ℕ) → fingerprint (ruleFor e) f < 256
+unfolding fingerprint ruleFor
+edition-lt e f = folded-lt table-once _ f
+
 rule-lt : (m : Memory) (f : ℕ) → fingerprint (ruleOf m) f < 256
-unfolding fingerprint ruleFor ownRule
+unfolding fingerprint ownRule
 rule-lt m f = elim (test (hasOwn m)) [
   | inl e ↦ rw (own-rule m e) (bytes-lt (unpacked-bytes m tableAt) 8 f)
-  | inr e ↦ rw (our-rule m e) (folded-lt table-once _ f)
+  | inr e ↦ rw (our-rule m e) (edition-lt _ f)
 ]
 
 pub fingerprint-laws : FingerprintLaws

@@ -1,4 +1,4 @@
--- The laws that specs/Laws.antt states, by their names.
+-- The laws that specs/Laws.antt and specs/ConvertLaws.antt state, by their names.
 use Rattle.memory.specs.Words.{Memory}
 use Rattle.tree.specs.declared.layout.Geometry.{Geometry}
 use Rattle.tree.specs.Fingerprint.{Rule}
@@ -25,6 +25,7 @@ pub use Rattle.tree.proofs.Pigeon.{room}
 pub use Rattle.tree.proofs.Pool.{pool-laws}
 pub use Rattle.tree.proofs.Level.{level-laws}
 pub use Rattle.tree.proofs.Same.{same-laws}
+pub use Rattle.tree.proofs.ConvertedBook.{convert-laws, converted-image}
 
 pub child-laws : ChildLaws
 child-laws = record { below = child-lt; digit = child-base; remainder = child-remainder; same-way = same-way; length-way = length-way }

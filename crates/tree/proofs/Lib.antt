@@ -24,6 +24,8 @@ pub mod Decide
 pub mod Pigeon
 pub mod Fingerprints
 pub mod OwnTables
+pub mod Convert
+pub mod ConvertedBook
 pub mod Ones
 pub mod PlacesLeft
 pub mod Level

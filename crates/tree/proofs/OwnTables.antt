@@ -15,7 +15,7 @@ use Rattle.memory.proofs.Laws.{byte-laws}
 use Rattle.tree.specs.Test.{lt, eq, ne, is, _and_, _or_, holds}
 use Rattle.tree.specs.Layout.{editionAt, ownAt, tableAt}
 use Rattle.tree.specs.Lists.{upTo, every, hasKey}
-use Rattle.tree.specs.Fingerprint.{Rule, fingerprint, theTable, ruleFor, entryIn, ownRule, hasOwn, unpacked, storedTable, ruleOf, hasEvery, badOwn, isGiven, badGiven, packedTo, packed, OnceEach, GoodTable, LacksByte, BadOwn}
+use Rattle.tree.specs.Fingerprint.{Rule, fingerprint, theTable, ruleFor, entryIn, ownRule, hasOwn, unpacked, storedTable, ruleOf, hasEvery, badOwn, isGiven, badGiven, bytesTo, packed, OnceEach, GoodTable, LacksByte, BadOwn}
 use Rattle.tree.specs.Laws.{TableLaws, RuleLaws}
 use Rattle.tree.proofs.Cases.{test, not-false, true-not-false}
 use Rattle.tree.proofs.Tests.{says, said}
@@ -156,22 +156,25 @@ given t = (
       | inr q ↦ true-not-false q (rw (lacks-none t (a .entries) .1 (a .once-each)) refl)
     ])
 
--- ---- packed
+-- ---- bytes in a word, and a table's words
+
+module _ (b : ℕ → ℕ) (small : (k : ℕ) → k < 8 → b k < 256) where
+  pub bytes-fit : (k : ℕ) → k ≤ 8 → bytesTo b k < 2 ^ 64
+  unfolding bytesTo
+  bytes-fit zero l = omega arith
+  bytes-fit (suc k) l = byte-laws .with-fits (bytesTo b k) k (b k) 64 (small k (omega arith)) (omega arith) (bytes-fit k (omega arith))
+
+  pub bytes-at : (k i : ℕ) → k ≤ 8 → i < k → byte (bytesTo b k) i ≡ b i
+  unfolding bytesTo
+  bytes-at zero i l h = absurd (omega arith)
+  bytes-at (suc k) i l h = let w = small k (omega arith) in elim (ℕ-discrete i k) [
+    | yes q ↦ rw q (byte-laws .with-puts (bytesTo b k) k (b k) w)
+    | no q ↦ byte-laws .with-keeps (bytesTo b k) k (b k) i w q ∙ bytes-at k i (omega arith) (omega arith)
+  ]
 
 module _ (t : List ℕ) (bytes : (i : ℕ) → i < 256 → getD t i 0 < 256) where
-  packed-fits : (j k : ℕ) → j < 32 → k ≤ 8 → packedTo t j k < 2 ^ 64
-  unfolding packedTo
-  packed-fits j zero h l = omega arith
-  packed-fits j (suc k) h l =
-      byte-laws .with-fits (packedTo t j k) k (getD t (8 * j + k) 0) 64 (bytes (8 * j + k) (omega arith)) (omega arith) (packed-fits j k h (omega arith))
-
-  packed-byte : (j k i : ℕ) → j < 32 → k ≤ 8 → i < k → byte (packedTo t j k) i ≡ getD t (8 * j + i) 0
-  unfolding packedTo
-  packed-byte j zero i h l b = absurd (omega arith)
-  packed-byte j (suc k) i h l b = let w = bytes (8 * j + k) (omega arith) in elim (ℕ-discrete i k) [
-    | yes q ↦ rw q (byte-laws .with-puts (packedTo t j k) k (getD t (8 * j + k) 0) w)
-    | no q ↦ byte-laws .with-keeps (packedTo t j k) k (getD t (8 * j + k) 0) i w q ∙ packed-byte j k i h (omega arith) (omega arith)
-  ]
+  in-word : (j : ℕ) → j < 32 → (k : ℕ) → k < 8 → getD t (8 * j + k) 0 < 256
+  in-word j h k l = bytes (8 * j + k) (omega arith)
 
   -- read back, for any table of bytes
   pub packed-back : length t ≡ 256 → (m : Memory) (from : ℕ) → ((j : ℕ) → j < 32 → m (from + j) ≡ packed t j) → unpacked m from ≡ t
@@ -181,12 +184,12 @@ module _ (t : List ℕ) (bytes : (i : ℕ) → i < 256 → getD t i 0 < 256) whe
       let q : 8 * (i / 8) + i % 8 ≡ i = omega arith in
       unpacked-at m from i b
       ∙ ap (λ w. byte w (i % 8)) (h (i / 8) (omega arith))
-      ∙ packed-byte (i / 8) 8 (i % 8) (omega arith) (omega arith) (omega arith)
+      ∙ bytes-at (λ k. getD t (8 * (i / 8) + k) 0) (in-word (i / 8) (omega arith)) 8 (i % 8) (omega arith) (omega arith)
       ∙ ap (λ j. getD t j 0) q)
 
 word-fits : {t : List ℕ} → GoodTable t → (j : ℕ) → j < 32 → packed t j < 2 ^ 64
 unfolding packed
-word-fits {t} a j h = packed-fits t (a .once-each .entries) j 8 h (omega arith)
+word-fits {t} a j h = bytes-fit (λ k. getD t (8 * j + k) 0) (in-word t (a .once-each .entries) j h) 8 (omega arith)
 
 -- ---- the table of an image
 
@@ -273,7 +276,7 @@ ours-alike f = same-table (ours .once-each .entries) table-at 8 f
 
 -- ---- the rule, by words
 
-has-own : (m : Memory) → (hasOwn m ≡ true) ↔ ((m 0 ≡ 2) × (m 3 ≡ 1))
+pub has-own : (m : Memory) → (hasOwn m ≡ true) ↔ ((m 0 ≡ 2) × (m 3 ≡ 1))
 unfolding hasOwn
 has-own m = (says (eq (m editionAt) 2 and eq (m ownAt) 1), said (eq (m editionAt) 2 and eq (m ownAt) 1))
 

@@ -52,6 +52,6 @@ module _ {r : Rule} {g : Geometry} {m m' : Memory} {s : ℕ} (d : Sound r g m) (
       reaches = reaches-back;
       formed = λ {w = w} {n = n} x. sym (same-formed (node n) (length w)) ∙ d .well-formed (reaches-back x);
       holds = holds-back;
-      fingerprints = λ {n = n} {p = p} x. let y = holds-back x in same-frames (node n) .fingerprints p (y .place) (y .set);
+      fingerprints = λ {n = n} {p = p} x e. let y = holds-back x in sym (same-frames (node n) .fingerprints p (y .place) (y .set)) ∙ e;
     });
   }

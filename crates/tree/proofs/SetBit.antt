@@ -99,7 +99,7 @@ module _ {r : Rule} {g : Geometry} {m m' : Memory} {s : ℕ} {w : List ℕ} {n p
       reaches = reaches-back same-links;
       formed = λ x. formed (o .bits) t d (reaches-back same-links x);
       holds = back;
-      fingerprints = λ {n = k} {p = q} x. same-fingerprint (o .bits) t k q (x .place);
+      fingerprints = λ {n = k} {p = q} x e. sym (same-fingerprint (o .bits) t k q (x .place)) ∙ e;
     });
   }
 

@@ -18,7 +18,7 @@ use Rattle.tree.specs.Sound.{SoundTree}
 use Rattle.tree.specs.Subtree.{Visit, visit, children, subtree, tree, allTrees}
 use Rattle.tree.specs.Check.{walkable, isSoundTree}
 use Rattle.tree.proofs.Cases.{and-true, true-and}
-use Rattle.tree.proofs.Lists.{Within, within, together, upTo-members, every-at, at-every}
+use Rattle.tree.proofs.Lists.{within, together, upTo-members, every-at, at-every}
 use Rattle.tree.proofs.Distinct.{distinct-says, distinct-said, same-element, distinct-part, same-part, distinct-parts, distinct-upTo}
 use Rattle.tree.proofs.Slots.{filled-slots, distinct-slots}
 use Rattle.tree.proofs.Reach.{slot-filled}
@@ -87,6 +87,17 @@ module _ (g : Geometry) (m : Memory) where
     λ a. walks (tree g m s) (λ v x. a .well-formed (visited g m b (v .way) (v .node) .0 x)) (distinct-tree a b),
   )
 
+  -- the nodes of all trees are those that some slot reaches
+  pub in-trees : {s : ℕ} {w : List ℕ} {n : ℕ} → Reaches g m s w n → List·Memᴰ (visit w n) (allTrees g m)
+  unfolding allTrees
+  in-trees {w = w} {n = n} r = let b = slot-filled r in together (tree g m) (filled-slots g m .1 b) (visited g m b w n .1 r)
+
+  pub trees-reach : {v : Visit} → List·Memᴰ v (allTrees g m) → (s : ℕ) × Reaches g m s (v .way) (v .node)
+  unfolding allTrees
+  trees-reach {v} x =
+      let t = within (tree g m) (filledSlots g m) x in
+      (t .from, visited g m (filled-slots g m .0 (t .member)) (v .way) (v .node) .0 (t .inside))
+
   -- all trees together: the first two clauses of soundness
   pub record SoundTrees : Type 0 where
     pub well-formed : {s : ℕ} {w : List ℕ} {n : ℕ} → Reaches g m s w n → wellFormed g m (length w) n ≡ true
@@ -108,10 +119,10 @@ module _ (g : Geometry) (m : Memory) where
   unfolding allTrees
   decides-trees = (
     λ h. record {
-      well-formed = λ r. formed-at h (together (tree g m) (slot r) (here r));
+      well-formed = λ r. formed-at h (in-trees r);
       once = λ {s} {s'} {w} {w'} {n} r r'. same s s' w w' n h r r' (same-part (tree g m) (walked-once h) (slot r) (here r) (slot r') (here r') refl);
     },
-    λ a. walks (allTrees g m) (λ v x. let t = within (tree g m) (filledSlots g m) x in a .well-formed (there t)) (distinct-trees a),
+    λ a. walks (allTrees g m) (λ v x. a .well-formed (trees-reach x .1)) (distinct-trees a),
   )
     where
       slot : {s : ℕ} {w : List ℕ} {n : ℕ} → Reaches g m s w n → List·Memᴰ s (filledSlots g m)
@@ -119,9 +130,6 @@ module _ (g : Geometry) (m : Memory) where
 
       here : {s : ℕ} {w : List ℕ} {n : ℕ} → Reaches g m s w n → List·Memᴰ (visit w n) (tree g m s)
       here {s} {w} {n} r = visited g m (slot-filled r) w n .1 r
-
-      there : {v : Visit} (t : Within (tree g m) (filledSlots g m) v) → Reaches g m (t .from) (v .way) (v .node)
-      there {v} t = visited g m (filled-slots g m .0 (t .member)) (v .way) (v .node) .0 (t .inside)
 
       same : (s s' : ℕ) (w w' : List ℕ) (n : ℕ) → walkable g m (flatMap (tree g m) (filledSlots g m)) ≡ true → Reaches g m s w n
           → Reaches g m s' w' n → s ≡ s' → (s ≡ s') × (w ≡ w')

@@ -55,13 +55,14 @@ hasOwn m = holds (eq (m editionAt) 2 and eq (m ownAt) 1)
 unfoldable pub unpacked : Memory → (from : ℕ) → List ℕ
 unpacked m from = map (λ i. byte (m (from + i / 8)) (i % 8)) (upTo 256)
 
--- the other way round: the first k bytes of word j of a table's 32, and the whole word
-unfoldable pub packedTo : List ℕ → (j k : ℕ) → ℕ
-packedTo table j zero = 0
-packedTo table j (suc k) = withByte (packedTo table j k) k (entryIn table (8 * j + k))
+-- bytes in a word, lowest first: the first k of them
+unfoldable pub bytesTo : (ℕ → ℕ) → (k : ℕ) → ℕ
+bytesTo b zero = 0
+bytesTo b (suc k) = withByte (bytesTo b k) k (b k)
 
+-- the other way round: word j of a table's 32
 unfoldable pub packed : List ℕ → (j : ℕ) → ℕ
-packed table j = packedTo table j 8
+packed table j = bytesTo (λ k. entryIn table (8 * j + k)) 8
 
 -- the table stored in words 8 to 39
 abbrev pub storedTable : Memory → List ℕ

@@ -12,9 +12,11 @@ pub mod Room
 pub mod Subtree
 pub mod Check
 pub mod Recovery
+pub mod Convert
 pub mod Same
 pub mod Changes
 pub mod Laws
+pub mod ConvertLaws
 pub mod Memory
 pub mod MemoryComputed
 pub mod Pool

@@ -13,7 +13,9 @@ fingerprint-spec =
     (λ c. by-own _ _ (sym (c .before .before .has-own .ensures) ∙ c .before .if1 .taken) (c .fold-stored .ensures))
     (λ c κs. (search needs, search needs, begun _ _))
     (λ c κs. search needs)
-    (λ c κs. (search needs, search needs, c .before .fold-on-by-rule .ensures))
+    (λ c κs. search needs)
+    (λ c κs. (search needs, search needs, c .before .before .fold-on-by-rule .ensures))
     (λ c.
-    let own = c .before .before .before in
-    by-rule _ _ (sym (own .before .has-own .ensures) ∙ own .if1 .left) (c .before .bytes-folded .ensures .0) (c .fold-on-by-rule2 .ensures)))
+    let own = c .before .before .before .before in
+    by-rule _ _ (sym (own .before .has-own .ensures) ∙ own .if1 .left) (c .before .before .edition .ensures)
+    (rw (c .before .bytes-folded .ensures .0) at (c .fold-on-by-rule2 .ensures))))

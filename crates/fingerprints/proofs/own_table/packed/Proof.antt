@@ -4,12 +4,12 @@ use native.Mathlib.Omega.{arith}
 use native.Mathlib.Numerals.{add-one}
 use lib.ListN.{getD}
 use borrow.Author.Needs.{needs}
-use Rattle.tree.specs.Fingerprint.{packedTo, packed}
+use Rattle.tree.specs.Fingerprint.{bytesTo, packed}
 use Rattle.fingerprints.proofs.own_table.packed.Statement.{statement}
 use Rattle.fingerprints.proofs.own_table.packed.Tie as tie
 
 abbrev Inv-loop : tie.InvT-loop
-Inv-loop table j w₀ k₀ w k = (k ≤ 8) × (w ≡ packedTo table j k)
+Inv-loop table j w₀ k₀ w k = (k ≤ 8) × (w ≡ bytesTo (λ i. getD table (8 * j + i) 0) k)
 
 abbrev μ-loop : tie.MeasureT-loop
 μ-loop table j w₀ k₀ w k = 8 - k
@@ -23,11 +23,11 @@ cast : tie.Need-cast-with-byte-2 Inv-loop μ-loop
 cast c = let l = entry c in search needs
 
 loop-holds : tie.Need-loop-holds Inv-loop μ-loop
-unfolding packedTo
+unfolding bytesTo
 loop-holds c = (search needs, refl)
 
 loop-again : tie.Need-loop-again Inv-loop μ-loop
-unfolding packedTo
+unfolding bytesTo
 loop-again c =
     let l = c .before .before .before .loop in
     (search needs, rw (add-one (l .k), ← l .inv .1) (c .with-byte .ensures))

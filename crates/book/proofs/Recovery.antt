@@ -17,19 +17,19 @@ use Rattle.tree.specs.Layout.{badImage, inRange, mapWords, geometryOf, locateAt
 use Rattle.tree.specs.Fingerprint.{Rule, ruleOf, badOwn}
 use Rattle.tree.specs.Sound.{Sound, SoundImage}
 use Rattle.tree.specs.Lists.{Distinct}
-use Rattle.tree.specs.Slots.{filledSlots}
-use Rattle.tree.specs.Subtree.{Visit, visit, tree, allTrees}
+use Rattle.tree.specs.Subtree.{Visit, allTrees}
 use Rattle.tree.specs.Pool.{mapOf}
 use Rattle.tree.proofs.Cases.{test}
 use Rattle.tree.proofs.Tests.{said}
-use Rattle.tree.proofs.Lists.{within, together, keeps}
+use Rattle.tree.proofs.Lists.{keeps}
 use Rattle.tree.proofs.Lists as Lists
 use Rattle.tree.proofs.Distinct.{distinct-by, distinct-keep, distinct-made}
 use Rattle.tree.proofs.Trees.{distinct-trees}
 use Rattle.tree.proofs.Memory.{apply-laws, settles, torn-whole, crash-none}
 use Rattle.tree.proofs.OwnTables.{bad-or-not}
 use Rattle.tree.proofs.Pool.{pool-laws}
-use Rattle.tree.proofs.Laws.{slot-laws, tree-laws, reach-laws, sound-laws, node-laws}
+use Rattle.tree.proofs.Laws.{sound-laws, node-laws}
+use Rattle.tree.proofs.Trees.{in-trees, trees-reach}
 use Rattle.book.specs.Heads.{idleHeads}
 use Rattle.book.specs.Refusals.{_gives_}
 use Rattle.book.specs.State.{State, recover, Work, leaving}
@@ -53,22 +53,13 @@ use Rattle.book.proofs.Settled.{idleTable, Settled, agrees-settled}
 
 module _ (g : Geometry) (m : Memory) where
   reached-in : (v : Visit) → List·Memᴰ v (allTrees g m) → Reached g m (v .node)
-  unfolding allTrees
-  reached-in v x =
-      let t = within (tree g m) (filledSlots g m) x in
-      record { slot = t .from; way = v .way; there = tree-laws (slot-laws g m .listed .0 (t .member)) .visited (v .way) (v .node) .0 (t .inside) }
-
-  in-reached : {n : ℕ} → (r : Reached g m n) → List·Memᴰ (visit (r .way) n) (allTrees g m)
-  unfolding allTrees
-  in-reached {n} r =
-      let b = reach-laws g m .slot-filled (r .there) in
-      together (tree g m) (slot-laws g m .listed .1 b) (tree-laws b .visited (r .way) n .1 (r .there))
+  reached-in v x = let t = trees-reach g m x in record { slot = t .0; way = v .way; there = t .1 }
 
   pub nodes-reached : (n : ℕ) → List·Memᴰ n (nodesOf (allTrees g m)) ↔ Reached g m n
   unfolding nodesOf
   nodes-reached n = (
     λ x. let t = Memᴰ·of-map (λ v. v .node) (allTrees g m) x in rw (← t .2) (reached-in (t .0) (t .1)),
-    λ r. Memᴰ·map (λ v. v .node) (in-reached r),
+    λ r. Memᴰ·map (λ v. v .node) (in-trees g m (r .there)),
   )
 
   -- ---- its stores: differing locate words of reached nodes, each to the node's set word
@@ -87,7 +78,7 @@ module _ (g : Geometry) (m : Memory) where
           is = sym (ap (λ s. s .1) (t .2));
         },
     λ c. Memᴰ·cast (ap₂ (λ i v. (i, v)) (c .at) (c .is))
-        (Memᴰ·map (λ v. (locateAt g (v .node), m (setAt g (v .node)))) (keeps _ (in-reached (c .reached)) (rw (ne-eqb _ _ (c .differs)) refl))),
+        (Memᴰ·map (λ v. (locateAt g (v .node), m (setAt g (v .node)))) (keeps _ (in-trees g m (c .reached .there)) (rw (ne-eqb _ _ (c .differs)) refl))),
   )
 
   -- no word twice

@@ -1,4 +1,5 @@
-// The operations on whole images: Format, Recover and Carry out, which write the image themselves, and Convert, which writes another.
+// The operations on whole images: Format, Recover and Carry out, which write the image themselves, and Convert, which writes a
+// second one.
 pub mod apply;
 pub mod convert;
 pub mod format;

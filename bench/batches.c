@@ -26,6 +26,13 @@ __asm__(".text\n.p2align 12\n.skip " TEXT(AT) "\n");
 #define TABLE b->table, b->table_bytes,
 #endif
 
+/* Builds before 5.0 do not tell the nodes on a path. */
+#if REELBOOK_VERSION_MAJOR < 5
+#define PATH_NODES
+#else
+#define PATH_NODES , &b->nodes
+#endif
+
 BATCH(format, reelbook_format(IMAGE, MAP, c->heads, TABLE SLOTS, NODES))
 BATCH(recover, reelbook_recover(IMAGE, MAP, c->heads))
 BATCH(open_reel, reelbook_open(IMAGE, MAP, SCRIPT, b->reel, &b->number))
@@ -34,11 +41,12 @@ BATCH(fill, reelbook_fill(IMAGE, c->heads, SCRIPT, 0, &b->number))
 BATCH(commit, reelbook_commit(IMAGE, c->heads, SCRIPT, 0, &b->number))
 BATCH(abandon, reelbook_abandon(IMAGE, c->heads, SCRIPT, 0, &b->number))
 BATCH(take_out, reelbook_remove(IMAGE, c->heads, SCRIPT, b->reel, c->frame, &b->number))
-BATCH(has, reelbook_has(IMAGE, b->reel, c->frame, &b->number))
+BATCH(has, reelbook_has(IMAGE, b->reel, c->frame, &b->number PATH_NODES))
 BATCH(list, reelbook_list(IMAGE, SCRATCH, b->list, LIST_WORDS, b->reel, &b->number))
 BATCH(retire, reelbook_retire(IMAGE, MAP, c->heads, SCRATCH, SCRIPT, b->reel, &b->number))
 
 const struct build build = {
     .run = {[FORMAT] = format, [RECOVER] = recover, [OPEN] = open_reel, [CLAIM] = claim, [FILL] = fill, [COMMIT] = commit,
             [ABANDON] = abandon, [REMOVE] = take_out, [HIT] = has, [MISS] = has, [LIST] = list, [RETIRE] = retire},
+    .tells_nodes = REELBOOK_VERSION_MAJOR >= 5,
 };

@@ -26,12 +26,13 @@ struct batch {
     uint64_t scratch[MAP_WORDS];
     uint64_t script[REELBOOK_SCRIPT_WORDS];
     uint64_t list[LIST_WORDS];
-    uint64_t number, left; /* what the last call handed back */
+    uint64_t number, left, nodes; /* what the last call handed back */
 };
 
 /* A batch hands back all answers in one: 0 if every call was done. */
 struct build {
     uint64_t (*run[OPERATIONS])(struct batch *batch);
+    int tells_nodes; /* on a path, when a frame is looked up */
 };
 
 /* Each build four times, by where its code starts in a line of the cache. */

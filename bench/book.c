@@ -130,12 +130,18 @@ static size_t take_out(void *state, const struct op *ops, size_t count) {
     return count;
 }
 
+#if REELBOOK_VERSION_MAJOR < 5
+#define PATH_NODES
+#else
+#define PATH_NODES , &b->nodes
+#endif
+
 static size_t look_up(void *state, const struct op *ops, size_t count) {
-    const struct book *b = state;
+    struct book *b = state;
     size_t found = 0;
     uint64_t yes;
     for (size_t i = 0; i < count; i++) {
-        expect_done("has", reelbook_has(b->medium.words, b->image_words, ops[i].reel, ops[i].frame, &yes));
+        expect_done("has", reelbook_has(b->medium.words, b->image_words, ops[i].reel, ops[i].frame, &yes PATH_NODES));
         found += (size_t)yes;
     }
     return found;

@@ -15,7 +15,8 @@ struct book {
     uint64_t *list;
     uint64_t heads[REELBOOK_HEADS_WORDS];
     uint64_t script[REELBOOK_SCRIPT_WORDS];
-    uint64_t left; /* places left in the node of the last claim */
+    uint64_t left;  /* places left in the node of the last claim */
+    uint64_t nodes; /* on the path of the last lookup; builds before 5.0 do not tell */
 };
 
 void *book_open(const struct column *column, const char *path);

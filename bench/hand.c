@@ -1,7 +1,8 @@
 /* The reel book written by hand in C: the same image, the same walk with the same checks of a node, the same stores and barriers,
  * and nothing between them: no scripts, no answers, no heads, no buffers that a caller lends. Insert is claim, fill and commit in
- * one, and tells the places left as Claim does. What a plain program would do is done so: a list copies place by place, and
- * recovery looks every frame up from its root, which is how the paper says what a sound image is. */
+ * one, and tells the places left as Claim does; a lookup tells the nodes on the path as Has does. What a plain program would do is
+ * done so: a list copies place by place, and recovery looks every frame up from its root, which is how the paper says what a sound
+ * image is. */
 #include "book.h"
 
 #include <stdlib.h>
@@ -23,7 +24,8 @@ struct hand {
     const uint8_t *table; /* the image's own, or the library's */
     struct slot *slots;
     struct node *nodes;
-    uint64_t left; /* places left in the node of the last insert */
+    uint64_t left;    /* places left in the node of the last insert */
+    uint64_t on_path; /* nodes on the path of the last lookup */
 };
 
 struct place {
@@ -213,8 +215,11 @@ static size_t take_out(void *state, const struct op *ops, size_t count) {
 static size_t look_up(void *state, const struct op *ops, size_t count) {
     struct hand *h = state;
     size_t found = 0;
-    for (size_t i = 0; i < count; i++)
-        found += walk(h, root_of(h, ops[i].reel), ops[i].frame).held.node != NULL;
+    for (size_t i = 0; i < count; i++) {
+        struct path path = walk(h, root_of(h, ops[i].reel), ops[i].frame);
+        found += path.held.node != NULL;
+        h->on_path = path.level + 1;
+    }
     return found;
 }
 

@@ -119,6 +119,7 @@ static void prepare_calls(uint64_t frames) {
 
 static void prepare_batch(enum operation o, int own, size_t count) {
     memcpy(b.calls, fresh[o], sizeof b.calls);
+    b.number = b.left = b.nodes = 0;
     b.count = count;
     b.reel = o == OPEN ? OTHER_REEL : REEL;
     b.image = o == FORMAT ? formatted : image;
@@ -195,7 +196,7 @@ static uint64_t count_steps(enum operation o, const struct build *build, int own
     return steps;
 }
 
-/* Every column is to do the same, for the fingerprints are the same. */
+/* Every column is to do the same, for the fingerprints are the same. What the build of the first does not tell is left out. */
 static void count(results instructions[OPERATIONS]) {
     static struct batch first;
     for (enum operation o = 0; o < OPERATIONS; o++)
@@ -206,6 +207,7 @@ static void count(results instructions[OPERATIONS]) {
                 instructions[o][c][place] = (double)(with - without) / COUNTED;
             b.table = NULL;
             b.table_bytes = 0;
+            b.nodes = columns[0].builds[0]->tells_nodes ? b.nodes : 0;
             if (c == 0)
                 first = b;
             else if (memcmp(&first, &b, sizeof b) != 0)

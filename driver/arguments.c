@@ -16,6 +16,7 @@ static const struct {
 } options[OPTIONS] = {
     [OPTION_REELS] = {"--reels", NULL, WITH, "R", 1, "room for R reels"},
     [OPTION_NODES] = {"--nodes", NULL, WITH, "N", 1, "a pool of N nodes"},
+    [OPTION_PATH_NODES] = {"--nodes", NULL, WITHOUT, NULL, 0, "tell the number of nodes on the frame's path too"},
     [OPTION_TABLE] = {"--table", NULL, WITH, "TABLE", 0,
                       "fingerprints go by the 256 bytes in the file TABLE, each value once; - is standard input"},
     [OPTION_FORCE] = {"--force", NULL, WITHOUT, NULL, 0, "overwrite a file that is there, a book or not"},
@@ -66,12 +67,10 @@ static int is_option(int option, const char *word) {
 }
 
 static int find_option(const struct command *c, const char *word) {
-    int option = 0;
-    while (option < OPTIONS && !is_option(option, word))
-        option++;
-    if (option < OPTIONS && allowed(c, option))
-        return option;
-    say("%s: %s", word, option == OPTION_CRASH_AFTER && c->steady ? c->steady : "no such option");
+    for (int option = 0; option < OPTIONS; option++)
+        if (allowed(c, option) && is_option(option, word))
+            return option;
+    say("%s: %s", word, c->steady && is_option(OPTION_CRASH_AFTER, word) ? c->steady : "no such option");
     return -1;
 }
 

@@ -7,6 +7,7 @@
 enum option {
     OPTION_REELS,
     OPTION_NODES,
+    OPTION_PATH_NODES, /* --nodes too, of another command: no command has both */
     OPTION_TABLE,
     OPTION_FORCE,
     OPTION_SKIP_HELD,

@@ -53,7 +53,7 @@ uint64_t book_open_reel(struct book *b, uint64_t reel);
 uint64_t book_add(struct book *b, uint64_t reel, uint64_t frame); /* claim, fill, commit */
 uint64_t book_remove(struct book *b, uint64_t reel, uint64_t frame);
 uint64_t book_retire(struct book *b, uint64_t reel);
-uint64_t book_has(const struct book *b, uint64_t reel, uint64_t frame, uint64_t *yes);
+uint64_t book_has(const struct book *b, uint64_t reel, uint64_t frame, uint64_t *yes, uint64_t *nodes);
 
 /* The caller frees *frames. */
 uint64_t book_list(struct book *b, uint64_t reel, uint64_t **frames, uint64_t *count);

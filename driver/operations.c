@@ -46,8 +46,8 @@ uint64_t book_retire(struct book *b, uint64_t reel) {
     return carry(b, reelbook_retire(IMAGE, MAP, b->heads, SCRATCH, SCRIPT, reel, &b->used));
 }
 
-uint64_t book_has(const struct book *b, uint64_t reel, uint64_t frame, uint64_t *yes) {
-    return own_table_answer(b->image, reelbook_has(IMAGE, reel, frame, yes));
+uint64_t book_has(const struct book *b, uint64_t reel, uint64_t frame, uint64_t *yes, uint64_t *nodes) {
+    return own_table_answer(b->image, reelbook_has(IMAGE, reel, frame, yes, nodes));
 }
 
 uint64_t book_list(struct book *b, uint64_t reel, uint64_t **frames, uint64_t *count) {

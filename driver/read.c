@@ -15,16 +15,19 @@
 
 int run_has(const struct arguments *a) {
     struct book b;
-    uint64_t reel, frame, yes;
+    uint64_t reel, frame, yes, nodes;
     if (arguments_number(a->operands[1], &reel) != 0 || arguments_number(a->operands[2], &frame) != 0)
         return STATUS_USAGE;
     int status = begin(&b, a, BOOK_READ);
     if (status != STATUS_DONE)
         return status;
-    uint64_t answer = book_has(&b, reel, frame, &yes);
+    uint64_t answer = book_has(&b, reel, frame, &yes, &nodes);
     if (answer != REELBOOK_DONE)
         return finish(&b, a, refuse_reel(answer, reel));
-    puts(yes ? "yes" : "no");
+    fputs(yes ? "yes" : "no", stdout);
+    if (a->values[OPTION_PATH_NODES])
+        printf(" %" PRIu64, nodes);
+    putchar('\n');
     return finish(&b, a, yes ? STATUS_DONE : STATUS_NO);
 }
 

@@ -32,6 +32,16 @@ struct survey {
     struct tally total;
 };
 
+/* How many nodes are on the longest path of a frame: each node is on some frame's, and the deepest ends it. */
+static inline uint64_t survey_path(const struct survey_reel *r) {
+    return r->deepest + UINT64_C(1);
+}
+
+/* The same over all reels; 0 if there are none. */
+static inline uint64_t survey_longest_path(const struct survey *s) {
+    return s->count > 0 ? s->deepest + UINT64_C(1) : 0;
+}
+
 /* REELBOOK_MALFORMED if the trees cannot be walked through; book_check() finds the rest. */
 uint64_t survey_take(struct survey *s, const struct book *b);
 

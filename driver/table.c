@@ -56,10 +56,19 @@ static const struct command commands[] = {
      .more = STREAM,
      .run = run_remove},
     {.name = "has",
-     .operands = "FILE REEL FRAME",
+     .operands = "FILE REEL FRAME [--nodes]",
      .about = "Says whether a reel holds a frame: yes, with exit status 0, or no, with 1.",
+     .more =
+         "With --nodes the line is 'yes 2' or 'no 2': the number, from 1 to 32, is how many nodes are on the frame's path. A\n"
+         "lookup reads all of them, whether it finds the frame or not, so that a display can plan its refresh by it.\n\n"
+         "The number is 1 for a reel opened in this run that since then never had more than 64 frames held, claimed and filled\n"
+         "taken together, a claim that a power failure cut short counted in. The run goes on from format or load through all\n"
+         "commands and power failures; reels that a conversion found in the old book were not opened in it. Once a reel has\n"
+         "had more, its paths stay as long as they are, whatever is removed, until it is retired. stat tells the longest one\n"
+         "of a book.",
      .least = 3,
      .most = 3,
+     .options = BIT(OPTION_PATH_NODES),
      .run = run_has},
     {.name = "list",
      .operands = "FILE REEL [--json | --csv]",
@@ -84,8 +93,10 @@ static const struct command commands[] = {
      .run = run_reels},
     {.name = "stat",
      .operands = "FILE [--by-reel] [--json | --csv]",
-     .about = "Counts reels, frames, nodes and places, and tells the book's edition and table.",
-     .more = "In edition 1 the fingerprints in a book are of the four low bytes of each frame, in edition 2 of all eight. Every\n"
+     .about = "Counts reels, frames, nodes and places, and tells the book's longest path, edition and table.",
+     .more = "The longest path, over all reels, is the most nodes that a lookup reads in this book, whatever the frame; it is 0\n"
+             "where no reel is open. has --nodes tells the number for one frame.\n\n"
+             "In edition 1 the fingerprints in a book are of the four low bytes of each frame, in edition 2 of all eight. Every\n"
              "command reads both and leaves a book in its edition; format and load make books of edition 2, convert makes one\n"
              "of the other edition. Versions before 3.1 make books of edition 1, and refuse those of edition 2. The table is\n"
              "the library's, or the book's own if it was made with --table.",

@@ -121,13 +121,13 @@ static int report(const struct job *j, const struct frames *f, uint64_t answer) 
 static int on_frames(const struct arguments *a, struct job j) {
     struct book b;
     struct frames f;
-    uint64_t yes;
+    uint64_t yes, nodes;
     if (arguments_number(a->operands[1], &j.reel) != 0 || frames_begin(&f, a->operands + 2, a->count - 2) != 0)
         return STATUS_USAGE;
     int status = begin(&b, a, BOOK_WRITE);
     if (status != STATUS_DONE)
         return status;
-    uint64_t answer = book_has(&b, j.reel, 0, &yes);
+    uint64_t answer = book_has(&b, j.reel, 0, &yes, &nodes);
     if (answer != REELBOOK_DONE)
         return finish(&b, a, refuse_reel(answer, j.reel));
     frames_catch_interrupt();

@@ -8,6 +8,11 @@
 
 using Words = std::vector<uint64_t>;
 
+struct Lookup {
+    bool held;
+    uint64_t nodes; // on the frame's path, held or not: so many the lookup has read
+};
+
 class Refused : public std::runtime_error {
 public:
     explicit Refused(uint64_t number) : std::runtime_error(reelbook_answer_text(number)), answer(number) {}
@@ -37,6 +42,12 @@ public:
         carry_out(reelbook_fill(image.data(), image.size(), heads.data(), script.data(), script.size(), 0, &used));
         carry_out(reelbook_commit(image.data(), image.size(), heads.data(), script.data(), script.size(), 0, &used));
         return left;
+    }
+
+    Lookup has(uint64_t reel, uint64_t frame) const {
+        uint64_t yes = 0, nodes = 0;
+        done(reelbook_has(image.data(), image.size(), reel, frame, &yes, &nodes));
+        return {yes != 0, nodes};
     }
 
     Words frames(uint64_t reel) {
@@ -73,10 +84,14 @@ int main() {
     std::printf("reel 7:");
     for (uint64_t frame : book.frames(7))
         std::printf(" %" PRIu64, frame);
-    std::printf("; places left: %" PRIu64, left);
+    std::printf("; places left: %" PRIu64 "\n", left);
+    for (unsigned frame : {5u, 6u}) {
+        Lookup found = book.has(7, frame);
+        std::printf("frame %u: %s, nodes on its path: %" PRIu64 "\n", frame, found.held ? "held" : "not held", found.nodes);
+    }
     try {
         book.add(7, 5);
     } catch (const Refused &refused) {
-        std::printf("\nframe 5: %s (%" PRIu64 ")\n", refused.what(), refused.answer);
+        std::printf("frame 5: %s (%" PRIu64 ")\n", refused.what(), refused.answer);
     }
 }

@@ -12,7 +12,7 @@ TABLE = [ctypes.c_char_p, ctypes.c_size_t]
 ARRAY = COUNT = [ctypes.POINTER(ctypes.c_uint64)]
 NUMBER = [ctypes.c_uint64]
 
-library = ctypes.CDLL("libreelbook.so.4")
+library = ctypes.CDLL("libreelbook.so.5")
 for name, arguments in {
     "format": 2 * SLICE + ARRAY + TABLE + 2 * NUMBER,
     "recover": 2 * SLICE + ARRAY,
@@ -20,6 +20,7 @@ for name, arguments in {
     "claim": 2 * SLICE + ARRAY + SLICE + 3 * NUMBER + 2 * COUNT,
     "fill": SLICE + ARRAY + SLICE + NUMBER + COUNT,
     "commit": SLICE + ARRAY + SLICE + NUMBER + COUNT,
+    "has": SLICE + 2 * NUMBER + 2 * COUNT,
     "list": 3 * SLICE + NUMBER + COUNT,
 }.items():
     function = getattr(library, "reelbook_" + name)
@@ -75,6 +76,12 @@ class Book:
         self.operate("fill", self.image, self.heads, self.script, 0)
         self.operate("commit", self.image, self.heads, self.script, 0)
 
+    def has(self, reel, frame):
+        """Whether it is held, and how many nodes are on its path."""
+        yes, nodes = ctypes.c_uint64(), ctypes.c_uint64()
+        self.call("has", self.image, reel, frame, ctypes.byref(yes), ctypes.byref(nodes))
+        return yes.value == 1, nodes.value
+
     def list(self, reel):
         frames, count = words(64 * self.image[2]), ctypes.c_uint64()
         self.call("list", self.image, words(len(self.map)), frames, reel, ctypes.byref(count))
@@ -109,6 +116,11 @@ def main():
     for frame in 12, 5, 2**64 - 1:
         book.add(7, frame)
     print("reel 7:", *book.list(7), "places left:", book.left.value)
+    for frame in range(100, 165):
+        book.add(7, frame)
+    for frame in 5, 6:
+        held, nodes = book.has(7, frame)
+        print("65 frames later: frame", frame, "held," if held else "not held,", "nodes on its path:", nodes)
     own = Book(table=bytes(range(255, -1, -1)))
     own.open(7)
     own.add(7, 12)

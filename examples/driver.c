@@ -63,7 +63,7 @@ int main(void) {
     b.map = calloc(b.map_words, sizeof *b.map);
     if (!b.image || !b.map)
         return 1;
-    uint64_t yes = 0, answer = reelbook_format(b.image, b.image_words, b.map, b.map_words, b.heads, NULL, 0, 4, 16);
+    uint64_t yes = 0, nodes = 0, answer = reelbook_format(b.image, b.image_words, b.map, b.map_words, b.heads, NULL, 0, 4, 16);
     barrier(); /* over the whole image; if power fails before it, format again */
     if (answer == REELBOOK_DONE)
         answer = open_reel(&b, 7);
@@ -72,7 +72,7 @@ int main(void) {
     if (answer == REELBOOK_DONE)
         answer = recover(&b);
     if (answer == REELBOOK_DONE)
-        answer = reelbook_has(b.image, b.image_words, 7, 12, &yes);
-    printf("answer %d, %s\n", (int)answer, yes ? "held" : "not held");
+        answer = reelbook_has(b.image, b.image_words, 7, 12, &yes, &nodes);
+    printf("answer %d, %s; nodes on its path: %d\n", (int)answer, yes ? "held" : "not held", (int)nodes);
     return 0;
 }

@@ -26,10 +26,10 @@
 
 /* The version of this header, and of the library beside which it is installed. With another major number the interface is
  * another: a program has to be compiled anew, and the shared object has another name. */
-#define REELBOOK_VERSION_MAJOR 4
-#define REELBOOK_VERSION_MINOR 1
+#define REELBOOK_VERSION_MAJOR 5
+#define REELBOOK_VERSION_MINOR 0
 #define REELBOOK_VERSION_PATCH 0
-#define REELBOOK_VERSION "4.1.0"
+#define REELBOOK_VERSION "5.0.0"
 
 #ifdef __cplusplus
 extern "C" {
@@ -196,8 +196,12 @@ uint64_t reelbook_abandon(const uint64_t *image, size_t image_words, uint64_t he
 uint64_t reelbook_remove(const uint64_t *image, size_t image_words, const uint64_t heads[REELBOOK_HEADS_WORDS], uint64_t *script,
                          size_t script_words, uint64_t reel, uint64_t frame, uint64_t *used);
 
-/* Does a reel hold a frame? 1 or 0 in *yes. Refusals 1, 2, 4 for the table, 5, 4. */
-uint64_t reelbook_has(const uint64_t *image, size_t image_words, uint64_t reel, uint64_t frame, uint64_t *yes);
+/* Does a reel hold a frame? 1 or 0 in *yes. Refusals 1, 2, 4 for the table, 5, 4; both numbers are then 0. *nodes is how many
+ * nodes are on the frame's path, from 1 to 32, and so how many the lookup reads: the whole path, also where the frame is found
+ * above its end, and whatever *yes says. It is 1 for a reel opened in this run that since then never had more than 64 frames
+ * held, claimed and filled taken together, a claim that a power failure cut short counted in. A run is the work on an image from
+ * reelbook_format on, or from the first reelbook_recover of one that was found; power failures do not end it. */
+uint64_t reelbook_has(const uint64_t *image, size_t image_words, uint64_t reel, uint64_t frame, uint64_t *yes, uint64_t *nodes);
 
 /* Writes a reel's frames to the list's start, each once, and their number to *count. Refusals 1, 2, 3, 4 for the table, 5, 4,
  * 14; nothing is written to the list then. The scratch map is all 0 after any end but 1, 2 or 3. */

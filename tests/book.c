@@ -94,6 +94,18 @@ unsigned fingerprint(unsigned rule, uint64_t frame) {
     return h;
 }
 
+uint64_t fanout(uint64_t level) {
+    return level == LAST_LEVEL ? 0 : level < 3 ? 2 : 4;
+}
+
+uint64_t child_of(uint64_t level, uint64_t frame) {
+    return level < 3 ? frame >> level & 1 : (frame >> (2 * level - 3) & 1) + 2 * (frame >> (2 * level - 2) & 1);
+}
+
+uint64_t frame_to(uint64_t level, uint64_t number) {
+    return number << (level < 3 ? level : 2 * level - 3);
+}
+
 void book_free(struct book *b) {
     free(b->image);
     free(b->map);
@@ -169,6 +181,35 @@ uint64_t book_remove(struct book *b, uint64_t reel, uint64_t frame) {
     return carried_out(b, reelbook_remove(IMAGE, b->heads, SCRIPT, reel, frame, fresh(&b->used)));
 }
 
+/* From the root in the reel's first filled slot down to a node without children; 0 if no such path is in the pool. */
+static uint64_t nodes_on_path(const struct book *b, uint64_t reel, uint64_t frame) {
+    uint64_t slot, next = 0, level;
+    for (slot = 0; slot < b->image[REELBOOK_SLOTS_AT] && next == 0; slot++) {
+        next = slot_word(b, slot, REELBOOK_SLOT_REEL) == reel ? slot_word(b, slot, REELBOOK_SLOT_ROOT) : 0;
+    }
+    for (level = 0; level <= LAST_LEVEL && next - 1 < b->image[REELBOOK_NODES_AT]; level++) {
+        uint64_t first = node_word(b, next - 1, REELBOOK_NODE_NEXT);
+        if (first == 0) {
+            return level + 1;
+        }
+        next = first + child_of(level, frame);
+    }
+    return 0;
+}
+
+/* The number is that of the frame's path, by the image's words, whether the frame is held or not. */
+uint64_t book_has(struct book *b, uint64_t reel, uint64_t frame) {
+    uint64_t answer = reelbook_has(IMAGE, reel, frame, fresh(&b->yes), fresh(&b->nodes));
+    if (answer != REELBOOK_DONE) {
+        equal(b->yes, 0, "yes after a refusal");
+        equal(b->nodes, 0, "nodes on a path after a refusal");
+        return answer;
+    }
+    equal(b->yes <= 1, 1, "a yes of 0 or 1");
+    equal(b->nodes, nodes_on_path(b, reel, frame), "nodes on a path");
+    return answer;
+}
+
 uint64_t book_retire(struct book *b, uint64_t reel) {
     return carried_out(b, reelbook_retire(IMAGE, MAP, b->heads, SCRATCH, SCRIPT, reel, fresh(&b->used)));
 }
@@ -195,7 +236,7 @@ void book_make_deep(struct book *b, unsigned rule) {
     book_format_as(b, rule, 1, DEEP_NODES);
     equal(book_open(b, 7), REELBOOK_DONE, "open");
     for (level = 0; level <= LAST_LEVEL; level++) {
-        uint64_t children = level == LAST_LEVEL ? 0 : level < 3 ? 2 : 4;
+        uint64_t children = fanout(level);
         for (child = 0; child < children; child++) {
             memset(&b->image[node_index(b, next + child, 0)], 0, REELBOOK_NODE_WORDS * sizeof *b->image);
             b->image[node_index(b, next + child, REELBOOK_NODE_LEVEL)] = level + 1;

@@ -13,7 +13,7 @@ struct book {
     uint64_t heads[REELBOOK_HEADS_WORDS];
     uint64_t script[REELBOOK_SCRIPT_WORDS];
     uint64_t list[LIST_WORDS];
-    uint64_t used, left, count;
+    uint64_t used, left, yes, nodes, count;
 };
 
 /* Checks, of which those that fail print a line. */
@@ -52,6 +52,12 @@ void book_go_by(struct book *b, unsigned rule);
 /* The specification's fingerprint of a frame. */
 unsigned fingerprint(unsigned rule, uint64_t frame);
 
+/* How many children a node of a level has, where it has any; the specification's child of a frame, bit by bit; and a frame that
+ * goes to this child of the level, and to the first one at every other. */
+uint64_t fanout(uint64_t level);
+uint64_t child_of(uint64_t level, uint64_t frame);
+uint64_t frame_to(uint64_t level, uint64_t number);
+
 /* The operations, by their answers. */
 uint64_t book_open(struct book *b, uint64_t reel);
 uint64_t book_claim(struct book *b, uint64_t head, uint64_t reel, uint64_t frame);
@@ -59,6 +65,7 @@ uint64_t book_fill(struct book *b, uint64_t head);
 uint64_t book_commit(struct book *b, uint64_t head);
 uint64_t book_abandon(struct book *b, uint64_t head);
 uint64_t book_remove(struct book *b, uint64_t reel, uint64_t frame);
+uint64_t book_has(struct book *b, uint64_t reel, uint64_t frame);
 uint64_t book_retire(struct book *b, uint64_t reel);
 uint64_t book_list(struct book *b, size_t room, uint64_t reel);
 uint64_t book_recover(struct book *b);

@@ -42,7 +42,7 @@ static void on_step(int number, siginfo_t *info, void *context) {
 typedef uint64_t call(uint64_t frame);
 
 static uint64_t has(uint64_t frame) {
-    return reelbook_has(b.image, b.image_words, REEL, frame, &b.count);
+    return reelbook_has(b.image, b.image_words, REEL, frame, &b.yes, &b.nodes);
 }
 
 static uint64_t take_out(uint64_t frame) {
@@ -87,15 +87,6 @@ __attribute__((noinline)) static void run_traced(void) {
     __asm__ volatile("int3" ::: "memory");
     answer = traced(traced_frame);
     tracing = 0;
-}
-
-static uint64_t fanout(uint64_t level) {
-    return level == LAST_LEVEL ? 0 : level < 3 ? 2 : 4;
-}
-
-/* The specification's child of a frame, bit by bit. */
-static uint64_t child(uint64_t level, uint64_t frame) {
-    return level < 3 ? frame >> level & 1 : (frame >> (2 * level - 3) & 1) + 2 * (frame >> (2 * level - 2) & 1);
 }
 
 /* By the image's rule. */
@@ -182,11 +173,6 @@ static uint64_t differing(call *made, uint64_t due) {
     return count;
 }
 
-/* A frame that goes to a child of a level, and to the first child at every other. */
-static uint64_t frame_to(uint64_t level, uint64_t number) {
-    return number << (level < 3 ? level : 2 * level - 3);
-}
-
 /* Every child to which a claim can go from a node of this level that has none yet. */
 static void check_claims(uint64_t level) {
     uint64_t above, number, used = 1, first = 0;
@@ -197,8 +183,8 @@ static void check_claims(uint64_t level) {
         uint64_t frame = frame_to(level, number), found = trace_on(level, claim, frame, REELBOOK_DONE);
         first = number == 0 ? found : first;
         equal(found, first, "trace of a claim that branches out");
-        equal(head_word(&b, 0, REELBOOK_HEAD_NODE_AT), used + child(level, frame), "the frame's new child");
-        equal(child(level, frame), number, "its number");
+        equal(head_word(&b, 0, REELBOOK_HEAD_NODE_AT), used + child_of(level, frame), "the frame's new child");
+        equal(child_of(level, frame), number, "its number");
     }
 }
 
@@ -218,6 +204,7 @@ static void check_rule(void) {
     uint64_t level;
     book_go_by(&b, rule);
     equal(differing(has, REELBOOK_DONE), 0, "frames for which Has goes another way");
+    equal(b.nodes, LAST_LEVEL + 1, "nodes on the path of the last of them");
     equal(differing(take_out, REELBOOK_NOT_HELD), 0, "frames for which Remove goes another way");
     equal(differing(claim, REELBOOK_MALFORMED), 0, "frames for which Claim goes another way");
     equal(differing(fill, REELBOOK_DONE), 0, "frames for which Fill goes another way");

@@ -26,7 +26,7 @@ check-header: build/header-c build/header-c++
 	build/header-c
 	build/header-c++
 
-HEADER_TESTS = $(patsubst %,tests/%.c,header convert converted lent book)
+HEADER_TESTS = $(patsubst %,tests/%.c,header convert converted lookups lent book)
 
 build/header-c: $(HEADER_TESTS) $(wildcard tests/*.h) include/reelbook.h $(LIBRARY)
 	$(HEADER_AS_C) -o $@ $(HEADER_TESTS) -x none $(LIBRARY)

@@ -1,6 +1,7 @@
 /* include/reelbook.h against the library: every constant by what the library does. Valid as C99 and as C++11. */
 #include "book.h"
 #include "convert.h"
+#include "lookups.h"
 
 #include <stdio.h>
 #include <stdlib.h>
@@ -278,10 +279,10 @@ static void check_refusals_of_frames(void) {
     equal(b.count, 0, "the count of a refused list");
     equal(book_list(&b, 64, 7), REELBOOK_DONE, "list");
     equal(b.count, 64, "the count of a list");
-    equal(reelbook_has(b.image, b.image_words, 7, 63, &b.count), REELBOOK_DONE, "has");
-    equal(b.count, 1, "yes of has");
-    equal(reelbook_has(b.image, b.image_words, 7, 64, &b.count), REELBOOK_DONE, "has");
-    equal(b.count, 0, "no of has");
+    equal(book_has(&b, 7, 63), REELBOOK_DONE, "has");
+    equal(b.yes, 1, "yes of has");
+    equal(book_has(&b, 7, 64), REELBOOK_DONE, "has");
+    equal(b.yes, 0, "no of has");
     book_free(&b);
 }
 
@@ -322,8 +323,8 @@ static void check_rule(unsigned rule, uint64_t prints, unsigned other) {
     book_go_by(&b, other);
     equal(book_recover(&b), REELBOOK_MALFORMED, "recover by another rule");
     for (i = 0; i < 3; i++) {
-        equal(reelbook_has(b.image, b.image_words, 7, frames[i], &b.count), REELBOOK_DONE, "has by another rule");
-        equal(b.count, 0, "no of has by another rule");
+        equal(book_has(&b, 7, frames[i]), REELBOOK_DONE, "has by another rule");
+        equal(b.yes, 0, "no of has by another rule");
         equal(book_remove(&b, 7, frames[i]), REELBOOK_NOT_HELD, "remove by another rule");
     }
     book_go_by(&b, rule);
@@ -345,8 +346,7 @@ static void check_refused(struct book *b, uint64_t reel, uint64_t answer, const 
     equal(book_commit(b, 0), answer, what);
     equal(book_abandon(b, REELBOOK_HEADS), answer, what);
     equal(book_remove(b, reel, 1), answer, what);
-    equal(reelbook_has(b->image, b->image_words, reel, 1, &b->count), answer, what);
-    equal(b->count, 0, "the count of a refused call");
+    equal(book_has(b, reel, 1), answer, what);
     equal(book_list(b, 0, reel), answer, what);
     equal(b->count, 0, "the count of a refused call");
     equal(book_retire(b, reel), answer, what);
@@ -426,8 +426,8 @@ static void check_editions(void) {
 
 static void check_version(void) {
     char version[64];
-    equal(REELBOOK_VERSION_MAJOR, 4, "REELBOOK_VERSION_MAJOR");
-    equal(REELBOOK_VERSION_MINOR, 1, "REELBOOK_VERSION_MINOR");
+    equal(REELBOOK_VERSION_MAJOR, 5, "REELBOOK_VERSION_MAJOR");
+    equal(REELBOOK_VERSION_MINOR, 0, "REELBOOK_VERSION_MINOR");
     equal(REELBOOK_VERSION_PATCH, 0, "REELBOOK_VERSION_PATCH");
     snprintf(version, sizeof version, "%d.%d.%d", REELBOOK_VERSION_MAJOR, REELBOOK_VERSION_MINOR, REELBOOK_VERSION_PATCH);
     same_text(REELBOOK_VERSION, version, "REELBOOK_VERSION");
@@ -470,6 +470,7 @@ int main(void) {
     check_editions();
     check_bad_tables();
     check_conversions();
+    check_lookups();
     printf("header: %u checks, %u failures\n", checks, failures);
     return failures != 0;
 }

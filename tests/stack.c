@@ -61,7 +61,7 @@ CALL(fill, IMAGE, b->heads, SCRIPT, 0, &b->used)
 CALL(commit, IMAGE, b->heads, SCRIPT, 0, &b->used)
 CALL(abandon, IMAGE, b->heads, SCRIPT, 0, &b->used)
 CALL(remove, IMAGE, b->heads, SCRIPT, 7, UINT64_C(31) << 59, &b->used)
-CALL(has, IMAGE, 7, UINT64_C(31) << 59, &b->count)
+CALL(has, IMAGE, 7, UINT64_C(31) << 59, &b->yes, &b->nodes)
 CALL(list, IMAGE, SCRATCH, b->list, LIST_WORDS, 7, &b->count)
 CALL(retire, IMAGE, MAP, b->heads, SCRATCH, SCRIPT, 7, &b->used)
 CALL(convert, IMAGE, copy, b->image_words, SCRATCH)
@@ -113,7 +113,8 @@ int main(int count, char **words) {
     book_make_deep(b, rule);
     line("recover", measured(call_recover, 0));
     line("has", measured(call_has, 0));
-    equal(b->count, 1, "the deepest frame is held");
+    equal(b->yes, 1, "the deepest frame is held");
+    equal(b->nodes, LAST_LEVEL + 1, "a node at each level");
     line("list", measured(call_list, 0));
     equal(b->count, LAST_LEVEL + 1, "a frame at each level");
     measure_convert();

@@ -23,6 +23,7 @@ try_commands() {
 frames   6
 nodes    2 used, 14 free
 deepest  level 0
+longest  path of 1 node
 places   32, 6 used, 6 located
 edition  2
 table    the library'\''s' stat book
@@ -33,7 +34,7 @@ table    the library'\''s' stat book
     warns 7 109 '161 frames added' add book 7
     input=/dev/null
     run stat book --by-reel
-    holds test "$(sed -n '$s/  */ /gp' out)" = ' 7 0 0 167 3 1 192 167'
+    holds test "$(sed -n '$s/  */ /gp' out)" = ' 7 0 0 167 3 1 192 167 2'
     does "$sound" check book
 }
 
@@ -56,7 +57,7 @@ try_help() {
     done
     for number in 0 1 2 3 4; do holds grep -q "^  $number  " all; done
     holds test "$(grep -c '^  reelbook ' all)" = "$(echo $names help --version | wc -w)"
-    does 'reelbook 4.1.0' --version
+    does 'reelbook 5.0.0' --version
     misused 'a command is missing; reelbook --help tells them'
     misused 'burn: no such command; reelbook --help tells them' burn book
     misused 'burn: no such command; reelbook --help tells them' help burn
@@ -137,7 +138,7 @@ try_refusals() {
 }
 
 try_arguments() {
-    misused 'has: too few arguments: reelbook has FILE REEL FRAME' has book 7
+    misused 'has: too few arguments: reelbook has FILE REEL FRAME [--nodes]' has book 7
     misused 'list: too many arguments: reelbook list FILE REEL [--json | --csv]' list book 7 8
     misused 'remove: too few arguments: reelbook remove FILE REEL FRAME..' remove book 7
     misused 'list: --burn: no such option' list book 7 --burn

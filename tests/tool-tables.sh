@@ -51,9 +51,9 @@ has_own() { # FILE TABLE
     run stat "$1"
     holds test "$(tail -n 1 out)" = "table    the book's own"
     run stat "$1" --json
-    holds grep -q '"edition":2,"own_table":1}$' out
+    holds grep -q '"edition":2,"own_table":1,"longest_path"' out
     run stat "$1" --csv
-    holds test "$(sed 's/.*,//' out | tr '\n' ' ')" = 'own_table 1 '
+    holds test "$(cut -d , -f 10 out | tr '\n' ' ')" = 'own_table 1 '
     "$tool" table "$1" >written 2>err
     holds test "$?$(cat err)" = 0
     holds cmp -s written "$2"
@@ -70,7 +70,7 @@ has_none() { # FILE
     run stat "$1"
     holds test "$(tail -n 1 out)" = "table    the library's"
     run stat "$1" --json
-    holds grep -q '"edition":2,"own_table":0}$' out
+    holds grep -q '"edition":2,"own_table":0,"longest_path"' out
     rm -f written
     run table "$1" -o written
     expect 1 '' "table: $1: no table of its own"

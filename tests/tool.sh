@@ -100,11 +100,13 @@ map_at=16384
 sound='sound; closed cleanly; locate words that differ: 0'
 range="a number from 0 to $most in decimal without leading zeros"
 
-for part in commands pictures dumps files damage failures editions tables convert barriers; do . "$here/tool-$part.sh"; done
+for part in commands lookups pictures dumps files damage failures editions tables convert barriers; do
+    . "$here/tool-$part.sh"
+done
 
 echo "tool: seed $seed, $rounds rounds"
-for part in commands pictures help full refusals arguments numbers forms dumps files streams reading locks waiting recovery \
-    damage mixtures power_failures editions tables convert barriers; do
+for part in commands pictures help full lookups refusals arguments numbers forms dumps files streams reading locks waiting \
+    recovery damage mixtures power_failures editions tables convert barriers; do
     "try_$part"
 done
 echo "$checks checks, $failures power failures, $cuts recoveries cut short, $chains pairs of barriers; all as they should be"

@@ -20,8 +20,9 @@ pub type Claimed = (u64, u64, u64);
 pub struct Book {
     pub subject: Subject,
     pub lent: Lent,
-    /// The places left that the last call handed back.
+    /// The places left that the last call handed back, and the nodes on the path.
     pub left: u64,
+    pub path_nodes: u64,
 }
 
 impl Book {
@@ -41,7 +42,7 @@ impl Book {
             list: junk(1024),
             table: None,
         };
-        let mut book = Book { subject, lent, left: 0 };
+        let mut book = Book { subject, lent, left: 0, path_nodes: 0 };
         book.format(slots, nodes, table);
         book
     }
@@ -78,8 +79,8 @@ impl Book {
     /// Answer, count, and the entries handed out, which are not carried out.
     pub fn hold(&mut self, head: u64, function: Function, reel: u64, frame: u64) -> (u64, u64, Vec<Entry>) {
         let call = Call { function, slots: 0, nodes: 0, head, reel, frame };
-        let Handed { answer, count, left } = self.subject.perform(&call, &mut self.lent, JUNK);
-        self.left = left;
+        let Handed { answer, count, left, path_nodes } = self.subject.perform(&call, &mut self.lent, JUNK);
+        (self.left, self.path_nodes) = (left, path_nodes);
         let scripted = answer == 0 && !matches!(function, Has | List | Recover);
         let used = if scripted { (count as usize).min(SCRIPT_WORDS) } else { 0 };
         (answer, count, script::read(&self.lent.script[..used]))

@@ -110,6 +110,9 @@ impl Case {
     /// Counts what is reached, by what the call is about to be lent.
     fn count(&self, call: &Call, outcome: &Outcome, coverage: &mut Coverage) {
         coverage.call(call.function, &self.found.image, outcome.ending);
+        if call.function == Function::Has {
+            coverage.paths.called(call, &self.found.image);
+        }
         if BAD_TABLES.contains(&outcome.ending) {
             let otherwise = operations::perform(call, &mut self.found.clone(), Fault::BadTableTaken);
             coverage.bad_table(call.function, otherwise.ending.answer);

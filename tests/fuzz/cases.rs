@@ -8,33 +8,40 @@ use crate::model::image::*;
 use crate::model::node::{FINGERPRINTS, LOCATE, SET, SIZE_AT};
 use crate::model::rule::*;
 use crate::model::script;
+use crate::path_cases::path_cases;
 use crate::subject::Subject;
 use crate::table_cases::table_cases;
 
 /// A reel of frames that agree in their low bits: each node of one path is full, down to the level named; then some frames.
-fn below_full_path(subject: Subject, nodes: u64, full: impl Iterator<Item = u64>, frames: &[u64]) -> Vec<Claimed> {
+fn below_full_path(subject: Subject, nodes: u64, full: impl Iterator<Item = u64>, frames: &[u64]) -> (Book, Vec<Claimed>) {
     let mut book = Book::formatted(subject, 1, nodes);
     book.call(Open, 7, 0);
     for frame in full {
         book.add(7, frame);
     }
-    frames.iter().map(|&frame| book.add(7, frame)).collect()
+    let claimed = frames.iter().map(|&frame| book.add(7, frame)).collect();
+    (book, claimed)
 }
 
 /// Frames 8, 16 and 24 go to children 1, 2 and 3 of level 3. Its node is 5, and the next run of four free nodes begins at 7.
 fn children_of_level_3(subject: Subject) -> bool {
     let full = (1..=4 * 64).map(|number| 32 * number);
-    below_full_path(subject, 11, full, &[8, 16, 24]) == [(0, 8, 0), (0, 9, 0), (0, 10, 0)]
+    below_full_path(subject, 11, full, &[8, 16, 24]).1 == [(0, 8, 0), (0, 9, 0), (0, 10, 0)]
 }
 
-/// Frames 2^57 and 2^58 go to children 1 and 2 of level 30. Its node is 111, the last of 31 on a path, and its children follow.
-fn children_of_level_30(subject: Subject) -> bool {
+/// Frames 2^57 and 2^58 below a full path to level 30.
+pub fn to_level_31(subject: Subject) -> (Book, Vec<Claimed>) {
     let frames = |low: u64, bits: u64, count: u64| (0..count).map(move |high| low << (bits - 2) | high << bits);
     let down_to_27 = frames(1, 53, 28 * 64);
     let levels_28_and_29 = frames(1, 55, 64).chain(frames(1, 57, 64));
     let level_30 = frames(3, 59, 32).chain(frames(0, 59, 32));
     let full = down_to_27.chain(levels_28_and_29).chain(level_30);
-    below_full_path(subject, 119, full, &[1 << 57, 1 << 58]) == [(0, 116, 0), (0, 117, 0)]
+    below_full_path(subject, 119, full, &[1 << 57, 1 << 58])
+}
+
+/// They go to children 1 and 2 of level 30. Its node is 111, the last of 31 on a path, and its children follow.
+fn children_of_level_30(subject: Subject) -> bool {
+    to_level_31(subject).1 == [(0, 116, 0), (0, 117, 0)]
 }
 
 /// Bytes 0 to 3 of the root's first fingerprint word, the others as they were. In edition 1 frames that agree in their low four
@@ -153,11 +160,11 @@ fn four_heads(subject: Subject) -> bool {
 }
 
 /// Reel 7 with frames from 0 on.
-fn reel_7(subject: Subject, slots: u64, nodes: u64, frames: u64) -> Book {
+pub fn reel_7(subject: Subject, slots: u64, nodes: u64, frames: u64) -> Book {
     with_frames(Book::formatted(subject, slots, nodes), frames)
 }
 
-fn with_frames(mut book: Book, frames: u64) -> Book {
+pub fn with_frames(mut book: Book, frames: u64) -> Book {
     book.call(Open, 7, 0);
     for frame in 0..frames {
         book.add(7, frame);
@@ -306,7 +313,7 @@ pub fn check(name: &str, subject: Subject) -> bool {
         ("case A on edition 2", case_a(subject, SECOND)),
         ("case A on an own table", case_a(subject, OWN)),
     ];
-    let results = [&results[..], &table_cases(subject), &convert_cases(subject)].concat();
+    let results = [&results[..], &table_cases(subject), &convert_cases(subject), &path_cases(subject)].concat();
     for (case, _) in results.iter().filter(|(_, right)| !right) {
         println!("{}: not as specified: {}", name, case);
     }

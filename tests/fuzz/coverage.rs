@@ -1,7 +1,7 @@
 //! What the fuzzing has reached: by each rule of the fingerprint, each way in which a function can end, each answer in a history,
 //! a crash of each function that stores; bad tables, and such as are not read; each way to start a history, and each format in
 //! one; each moment of a script for a crash, a crash of each function that stores with a claim of every head open, and with
-//! several in one tree; what claims leave of their nodes. Conversions have a file of their own.
+//! several in one tree; what claims leave of their nodes. Conversions and the paths of lookups have files of their own.
 use crate::conversions::Conversions;
 use crate::goals::*;
 use crate::model::call::{Call, Function, Function::*};
@@ -13,6 +13,7 @@ use crate::model::left::Claimed;
 use crate::model::node::LAST_LEVEL;
 use crate::model::rule::*;
 use crate::model::table::Table;
+use crate::paths::Paths;
 use std::collections::BTreeMap;
 
 /// The claims open: in all, the most in one tree, and in the tree of the call's reel.
@@ -43,6 +44,7 @@ impl Claims {
 #[derive(Default)]
 pub struct Coverage {
     pub conversions: Conversions,
+    pub paths: Paths,
     /// By the image's rule too, where that counts.
     endings: BTreeMap<(Function, Ending, Option<Rule>), u64>,
     /// Of calls on images with a bad table: the answers, and where that is 4 for the table, those without it.
@@ -245,6 +247,7 @@ impl Coverage {
         println!("{} crashes with several claims in one tree, {} of them in a branch-out of it", together, branched);
         println!("where before and after differ: {} mixtures before, {} after", self.undone, self.completed);
         self.conversions.print();
+        self.paths.print();
     }
 
     /// What should have been reached by calls and was not, and what was and should not.
@@ -263,6 +266,7 @@ impl Coverage {
         let all: Vec<_> = SIZES.iter().flat_map(|&size| LEFTS.iter().map(move |&kind| (size, kind))).collect();
         lines.extend(missed(&all, &self.lefts, |key| format!("claim in a node of size {} that leaves {}", key.0, key.1)));
         lines.extend(self.conversions.calls_missed());
+        lines.extend(self.paths.calls_missed());
         lines
     }
 
@@ -303,6 +307,7 @@ impl Coverage {
             lines.push(format!("never reached: level {} in a history", LAST_LEVEL));
         }
         lines.extend(self.conversions.histories_missed());
+        lines.extend(self.paths.histories_missed());
         lines
     }
 }

@@ -10,7 +10,7 @@ const BASE: u64 = 2;
 
 /// Cases in which a fault has to be found: ten times as many as any of them needs.
 const MOST_CALLS: u64 = 30_000;
-const MOST_HISTORIES: u64 = 1000;
+const MOST_HISTORIES: u64 = 1100;
 
 /// After how many cases there is a difference, if there is one.
 fn find(subject: Subject, kind: Kind, most: u64) -> Option<u64> {

@@ -8,6 +8,7 @@ use crate::model::fault::Fault;
 use crate::model::format::header;
 use crate::model::image::*;
 use crate::model::left::Claimed;
+use crate::model::loads::Loads;
 use crate::model::rule::*;
 use crate::model::script::{self, Entry, BARRIER};
 use crate::model::table::{Fed, Reply, Table, Value};
@@ -25,6 +26,8 @@ pub struct History<'a> {
     pub coverage: &'a mut Coverage,
     pub lent: Lent,
     pub table: Table,
+    /// How full the reels have been that were opened in the run.
+    pub loads: Loads,
     pub plan: Plan,
     /// The header that the image is to have: as it was found, or as the last format has to write it.
     pub header: [u64; HEADER_WORDS as usize],
@@ -34,12 +37,15 @@ pub struct History<'a> {
 
 pub fn case(seed: u64, subject: Subject, coverage: &mut Coverage) -> Result<(), String> {
     let mut history = start(Random::new(seed), subject, coverage)?;
+    if history.plan.brim {
+        history.fill_to_the_brim().map_err(|text| format!("to the brim: {}", text))?;
+    }
     for step in 1..=history.plan.steps {
         let mut call = history.plan.call(&mut history.random, &history.table);
         history.step(&mut call).map_err(|text| format!("step {}, {}: {}", step, describe(&call), text))?;
     }
     history.coverage.history(deepest(&history.lent));
-    history.check_book().map_err(|text| format!("after the last step: {}", text))
+    history.check_book().and_then(|_| history.ask_nodes()).map_err(|text| format!("after the last step: {}", text))
 }
 
 /// A buffer that a call may be lent in a wrong length.
@@ -85,7 +91,9 @@ impl History<'_> {
         let steady = call.function == Function::Format && answer == 0;
         let converted = call.function == Function::Convert && answer == 0;
         let branch = call.function == Function::Claim && entries.len() > 2;
-        if steady || before.is_none() && !(branch && self.random.one_in(2)) {
+        let cut = !steady && (before.is_some() || branch && self.random.one_in(2));
+        self.note(call, answer, cut);
+        if !cut {
             script::carry_out(&mut self.lent.image, &entries);
             if converted && self.random.one_in(2) {
                 return self.go_on_with_copy();
@@ -100,12 +108,12 @@ impl History<'_> {
         if call.function == Function::Recover {
             self.crash_in_recover(&image, &reels, claims)
         } else {
-            self.crash_in_script(call.function, &entries, &reels, claims)
+            self.crash_in_script(call, &entries, &reels, claims)
         }
     }
 
     /// Calls book and table, and compares. The answer, and the entries handed out.
-    fn perform(&mut self, call: &mut Call) -> Result<(u64, Vec<Entry>), String> {
+    pub fn perform(&mut self, call: &mut Call) -> Result<(u64, Vec<Entry>), String> {
         let own = self.lend(call);
         let due = self.due(call);
         let rule = self.rule();
@@ -121,8 +129,10 @@ impl History<'_> {
         }
         self.compare(handed.answer, handed.count, &reply)?;
         before.map_or(Ok(()), |before| self.check_convert(before, handed.answer))?;
-        if call.function == Function::Claim {
-            self.compare_claim(call, &handed, due)?;
+        match call.function {
+            Function::Claim => self.compare_claim(call, &handed, due)?,
+            Function::Has => self.compare_has(call, &handed)?,
+            _ => (),
         }
         let scripted = reply == Ok(Value::None);
         let entries = if scripted { script::read(&self.lent.script[..handed.count as usize]) } else { Vec::new() };
@@ -151,7 +161,7 @@ impl History<'_> {
     pub fn format_header(&mut self, call: &Call) {
         self.header = header(call.slots, call.nodes, self.lent.table());
         self.copied = false;
-        if let Subject::Faulty(Fault::OwnForgotten) = self.subject {
+        if self.subject.fault() == Fault::OwnForgotten {
             self.table.own = false;
         }
     }
@@ -159,7 +169,7 @@ impl History<'_> {
     /// What is due to a claim that comes as far, where the table takes the book's word: 13 if another head has the frame, or is
     /// at the node that this claim would use; else 8 if it uses none; else 0. In a history no two reels share a node. With it
     /// that node.
-    fn due(&self, call: &Call) -> (u64, Option<u64>) {
+    pub fn due(&self, call: &Call) -> (u64, Option<u64>) {
         if call.function != Function::Claim {
             return (0, None);
         }

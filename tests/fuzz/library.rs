@@ -25,7 +25,7 @@ extern "C" {
     fn reelbook_remove(
         image: Read, words: usize, heads: Read, script: Words, room: usize, reel: u64, frame: u64, used: Words,
     ) -> u64;
-    fn reelbook_has(image: Read, words: usize, reel: u64, frame: u64, yes: Words) -> u64;
+    fn reelbook_has(image: Read, words: usize, reel: u64, frame: u64, yes: Words, nodes: Words) -> u64;
     fn reelbook_list(
         image: Read, words: usize, scratch: Words, scratch_words: usize, list: Words, room: usize, reel: u64, count: Words,
     ) -> u64;
@@ -43,8 +43,8 @@ fn slice(buffer: &mut Buffer) -> (Words, usize) {
     (buffer.as_mut_ptr(), buffer.len())
 }
 
-/// The answer. What is handed back besides, where there is such, is written to `count` and `left`.
-pub fn perform(call: &Call, lent: &mut Lent, count: &mut u64, left: &mut u64) -> u64 {
+/// The answer. What is handed back besides, where there is such, is written to `count`, `left` and `path_nodes`.
+pub fn perform(call: &Call, lent: &mut Lent, count: &mut u64, left: &mut u64, path_nodes: &mut u64) -> u64 {
     let (image, words) = slice(&mut lent.image);
     let (copy, copy_words) = slice(&mut lent.copy);
     let (map, map_words) = slice(&mut lent.map);
@@ -66,7 +66,7 @@ pub fn perform(call: &Call, lent: &mut Lent, count: &mut u64, left: &mut u64) ->
             Function::Commit => reelbook_commit(image, words, heads, script, room, head, count),
             Function::Abandon => reelbook_abandon(image, words, heads, script, room, head, count),
             Function::Remove => reelbook_remove(image, words, heads, script, room, reel, frame, count),
-            Function::Has => reelbook_has(image, words, reel, frame, count),
+            Function::Has => reelbook_has(image, words, reel, frame, count, path_nodes),
             Function::List => reelbook_list(image, words, scratch, scratch_words, list, list_room, reel, count),
             Function::Retire => {
                 reelbook_retire(image, words, map, map_words, heads, scratch, scratch_words, script, room, reel, count)

@@ -1,6 +1,7 @@
 //! Fuzzing of the library against the model: a number of cases, one case again, or the deliberate faults.
 //! A case is known by its seed: an even one is some calls on one image, an odd one a history with crashes.
 mod book;
+mod brim;
 mod calls;
 mod cases;
 mod conversions;
@@ -13,9 +14,12 @@ mod goals;
 mod history;
 mod lending;
 mod library;
+mod lookups;
 #[path = "../model/mod.rs"]
 mod model;
 mod moving;
+mod path_cases;
+mod paths;
 mod plan;
 mod random;
 mod recovery;

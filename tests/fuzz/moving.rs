@@ -58,6 +58,8 @@ impl History<'_> {
         self.header = self.copied_header();
         self.lent.image = std::mem::replace(&mut self.lent.copy, Buffer::of([]));
         self.table.heads = [Head::Idle; HEADS as usize];
+        // A run starts on it: no reel is opened in that.
+        self.loads.found(&self.table, self.subject.fault());
         self.copied = true;
         let (refused, cut) = self.power_up()?;
         self.coverage.conversions.moved(rule, attempts(refused, cut), self.table.holds_frames(), claims);

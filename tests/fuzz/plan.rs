@@ -28,6 +28,8 @@ pub struct Plan {
     /// Those claims are in the first reel, from so many frames in it on: till then one head works alone. Else each is in a reel
     /// of its own where one is left.
     one_tree: Option<u64>,
+    /// It begins with a reel that is filled to the brim of its root, and beyond.
+    pub brim: bool,
     others: &'static [Function],
     /// The depths of the trees that it starts with, where it starts on an image that has some.
     pub depths: &'static [u64],
@@ -60,11 +62,12 @@ fn few_frames(random: &mut Random, bounds: &[u64], shifts: &[u64]) -> Frames {
 
 impl Plan {
     pub fn draw(random: &mut Random) -> Plan {
-        match random.below(40) {
+        match random.below(42) {
             0 => Plan::deep(random),
             1..=12 => Plan::growing(random),
             13..=19 => Plan::one_tree(random),
             20..=26 => Plan::together(random),
+            27 | 28 => Plan::brim(random),
             _ => Plan::few(random),
         }
     }
@@ -83,6 +86,7 @@ impl Plan {
             other: random.pick(&[2, 6, 40]),
             together: false,
             one_tree: None,
+            brim: false,
             others: &OTHERS,
             depths: &DEPTHS,
             reels: REELS[..slots as usize + 2].to_vec(),
@@ -112,11 +116,20 @@ impl Plan {
             other: 60,
             together: slots == HEADS,
             one_tree: None,
+            brim: false,
             others: &OTHERS,
             depths: &DEPTHS,
             reels: (7..7 + slots.max(2)).collect(),
             frames: few_frames(random, &[10_000], &[0, 3]),
         }
+    }
+
+    /// To the brim of a root, with a slot more than there are nodes, so that reels can take all of these.
+    fn brim(random: &mut Random) -> Plan {
+        let nodes = random.between(5, 12);
+        let slots = nodes + 1;
+        let reels = (7..7 + slots + 2).collect();
+        Plan { slots, nodes, steps: 60, crash: 24, mixtures: 16, brim: true, reels, ..Plan::few(random) }
     }
 
     /// All heads at work in one tree, with nodes for several of them: below the root, of level 2, or below a path to level 3.
@@ -133,6 +146,7 @@ impl Plan {
             other: 8,
             together: true,
             one_tree: Some(alone),
+            brim: false,
             others: &OTHERS_BESIDE,
             depths: &DEPTHS,
             reels: vec![7, 8, 9],
@@ -152,6 +166,7 @@ impl Plan {
             other: 30,
             together: false,
             one_tree: None,
+            brim: false,
             others: &OTHERS_DEEP,
             depths: &[0],
             reels: vec![0],

@@ -8,12 +8,14 @@ use crate::model::call::{Call, Function, Lent};
 use crate::model::ending::Ending;
 use crate::model::fault::Fault;
 use crate::model::image::*;
+use crate::model::loads::load;
 use crate::model::node::{LEVEL_AT, LOCATE, PLACES, SET};
 use crate::model::operations::check_image;
 use crate::model::rule::{Rule, OWN};
 use crate::model::script::{carry_out, Entry, BARRIER};
 use crate::model::table::{self, Reels, Table};
 use crate::model::tree;
+use crate::paths::Cut;
 use crate::report::reels_differ;
 use std::collections::{BTreeSet, HashSet};
 
@@ -116,25 +118,21 @@ impl History<'_> {
     }
 
     /// In a script, with so many claims open: at every moment of it, or at one.
-    pub fn crash_in_script(
-        &mut self,
-        function: Function,
-        entries: &[Entry],
-        before: &Reels,
-        claims: Claims,
-    ) -> Result<(), String> {
+    pub fn crash_in_script(&mut self, call: &Call, entries: &[Entry], before: &Reels, claims: Claims) -> Result<(), String> {
         let image = self.lent.image.clone();
         let before = Contents { reels: before.clone(), nodes: contents(&image)?.nodes };
         let mut carried = image.clone();
         carry_out(&mut carried, entries);
         let after = Contents { reels: self.table.reels.clone(), nodes: contents(&carried)?.nodes };
+        let load = load(&self.table, call.reel).iter().sum();
         let moments = entries.len() as u64 + 1;
         let first = self.random.below(moments);
         for moment in first..first + if self.plan.every_moment { moments } else { 1 } {
             let (done, left) = entries.split_at((moment % moments) as usize);
             let passed = !left.contains(&BARRIER);
-            self.coverage.crash(function, entries.len(), done.len(), claims, self.rule());
-            self.crash(&Crash::after(&image, done), &before, &after, passed)
+            self.coverage.crash(call.function, entries.len(), done.len(), claims, self.rule());
+            let cut = Cut { call, load, entries: entries.len(), moment: done.len() };
+            self.crash(&Crash::after(&image, done), &before, &after, passed, Some(&cut))
                 .map_err(|text| format!("crash after {} of {} entries: {}", done.len(), entries.len(), text))?;
         }
         Ok(())
@@ -144,22 +142,37 @@ impl History<'_> {
     pub fn crash_in_recover(&mut self, image: &Buffer, reels: &Reels, claims: Claims) -> Result<(), String> {
         self.coverage.crash(Function::Recover, 0, 0, claims, self.rule());
         let both = Contents { reels: reels.clone(), nodes: contents(image)?.nodes };
-        self.crash(&Crash::in_recover(image, &self.lent.image), &both, &both, false)
+        self.crash(&Crash::in_recover(image, &self.lent.image), &both, &both, false, None)
     }
 
-    /// Tries what the crash can leave, and goes on from the last one tried. `passed`: the script's last barrier has passed.
-    fn crash(&mut self, crash: &Crash, before: &Contents, after: &Contents, passed: bool) -> Result<(), String> {
+    /// Tries what the crash can leave, and goes on from the last one tried. `passed`: the script's last barrier has passed. Has is
+    /// asked in the reel of the call cut short each time, in the others at last.
+    fn crash(
+        &mut self,
+        crash: &Crash,
+        before: &Contents,
+        after: &Contents,
+        passed: bool,
+        cut: Option<&Cut>,
+    ) -> Result<(), String> {
         let mixtures = crash.mixtures();
         let all = mixtures <= self.plan.mixtures;
         let first = self.random.below(mixtures);
-        for tried in 0..if all { mixtures } else { SOME_MIXTURES } {
-            let number = if all { (first + tried) % mixtures } else { self.random.below(mixtures) };
+        // The last number is that with every store kept.
+        let kept = u64::from(self.plan.brim);
+        for tried in 0..if all { mixtures } else { kept + SOME_MIXTURES } {
+            let number = match tried {
+                _ if all => (first + tried) % mixtures,
+                _ if tried < kept => mixtures - 1,
+                _ => self.random.below(mixtures),
+            };
             self.lent.image = crash.mixture(number);
-            let undone =
-                self.recovered(before, after, passed).map_err(|text| format!("mixture {} of {}: {}", number, mixtures, text))?;
+            let named = |text: String| format!("mixture {} of {}: {}", number, mixtures, text);
+            let undone = self.recovered(before, after, passed).map_err(named)?;
             self.coverage.mixture(undone, before.reels != after.reels);
+            cut.map_or(Ok(()), |cut| self.ask_after(cut)).map_err(named)?;
         }
-        Ok(())
+        self.ask_recovered()
     }
 
     /// Recovers, and takes the table of before or after, whichever the image then is, whole. True if it is before's.

@@ -41,8 +41,8 @@ pub fn difference(call: &Call, heads: &[u64], expected: (Handed, &Lent), found: 
     let table = found.1.table.as_ref().map_or("none".to_string(), |table| format!("{} bytes", table.len()));
     lines.push(format!("words: {}; table: {}", lengths.join(", "), table));
     lines.push(format!("image begins {:?}; heads were {:x?}", header, heads));
-    for (what, Handed { answer, count, left }) in [("expected", expected.0), ("found", found.0)] {
-        lines.push(format!("{} answer {}, count {}, places left {}", what, answer, count, left));
+    for (what, Handed { answer, count, left, path_nodes }) in [("expected", expected.0), ("found", found.0)] {
+        lines.push(format!("{} answer {}, count {}, places left {}, nodes {}", what, answer, count, left, path_nodes));
     }
     if expected.1.table != found.1.table {
         lines.push("table: it is written".to_string());

@@ -21,7 +21,7 @@ const fn after(function: Function, answer: u64, text: &'static str, change: Chan
 }
 
 /// Found by single calls, where every word is compared with the model's.
-pub static OF_CALLS: [Spoil; 61] = [
+pub static OF_CALLS: [Spoil; 68] = [
     after(Retire, 13, "retire answers 5 for 13", |_, _, handed| handed.answer = 5),
     after(List, 14, "list hands back a count with 14", |_, _, handed| handed.count = 1),
     after(Commit, 0, "commit hands back two words more", |_, _, handed| handed.count += 2),
@@ -68,6 +68,13 @@ pub static OF_CALLS: [Spoil; 61] = [
     after(Format, 0, "format writes to the table that it is given", |_, lent, _| write_to_table(lent)),
     after(Claim, 2, "claim hands back places left with 2", |_, _, handed| handed.left = 1),
     after(Fill, 0, "fill folds the other edition's bytes", |call, lent, _| fold_as_other_edition(call, lent)),
+    after(Has, 0, "has hands back a node more", |_, _, handed| handed.path_nodes += 1),
+    after(Has, 0, "has hands back its two numbers the other way round", |_, _, handed| swap_numbers(handed)),
+    after(Has, 1, "has hands back nodes with 1", |_, _, handed| handed.path_nodes = 1),
+    after(Has, 2, "has hands back nodes with 2", |_, _, handed| handed.path_nodes = 1),
+    after(Has, 4, "has hands back nodes with 4", |_, lent, handed| handed.path_nodes = 1 - bad(lent)),
+    after(Has, 4, "has hands back nodes with 4 for the table", |_, lent, handed| handed.path_nodes = bad(lent)),
+    after(Has, 5, "has hands back nodes with 5", |_, _, handed| handed.path_nodes = 1),
     after(Convert, 17, "convert answers 4 for 17", |_, _, handed| handed.answer = 4),
     after(Convert, 0, "convert stores to the image", |_, lent, _| last_word(lent)),
     after(Convert, 1, "convert stores to the second image with 1", |_, lent, _| last_of_copy(lent)),
@@ -86,8 +93,10 @@ pub static OF_CALLS: [Spoil; 61] = [
 ];
 
 /// Found by histories, held against the plain table alone.
-pub static OF_HISTORIES: [Spoil; 46] = [
-    after(Commit, 0, "commit answers 12 and is done", |_, _, handed| *handed = Handed { answer: 12, count: 0, left: 0 }),
+pub static OF_HISTORIES: [Spoil; 51] = [
+    after(Commit, 0, "commit answers 12 and is done", |_, _, handed| {
+        *handed = Handed { answer: 12, count: 0, left: 0, path_nodes: 0 }
+    }),
     after(Claim, 9, "claim hands back a count with 9", |_, _, handed| handed.count = 2),
     after(Claim, 0, "claim hands back a place left less", |_, _, handed| handed.left = handed.left.saturating_sub(1)),
     after(Claim, 8, "claim hands back places left with 8", |_, _, handed| handed.left = 1),
@@ -122,6 +131,13 @@ pub static OF_HISTORIES: [Spoil; 46] = [
     after(Recover, 0, "recover of edition 1 loses a frame", |_, lent, _| lose_frame_of_edition_1(lent)),
     after(Has, 0, "has of edition 1 says no above 2^32", |call, lent, handed| handed.count &= !above_2_32(call, lent)),
     after(Fill, 0, "fill folds the other edition's bytes", |call, lent, _| fold_as_other_edition(call, lent)),
+    after(Has, 0, "has hands back a node more", |_, _, handed| handed.path_nodes += 1),
+    after(Has, 0, "has hands back a node more for a full root", |call, lent, handed| {
+        handed.path_nodes += u64::from(is_full(call, lent));
+    }),
+    after(Has, 0, "has hands back its two numbers the other way round", |_, _, handed| swap_numbers(handed)),
+    after(Has, 1, "has hands back nodes with 1", |_, _, handed| handed.path_nodes = 1),
+    after(Has, 5, "has hands back nodes with 5", |_, _, handed| handed.path_nodes = 1),
     after(Convert, 17, "convert answers 0 for 17", |_, _, handed| handed.answer = 0),
     after(Convert, 0, "convert stores to the image", |_, lent, _| last_word(lent)),
     after(Convert, 1, "convert stores to the second image with 1", |_, lent, _| last_of_copy(lent)),
@@ -231,6 +247,18 @@ fn above_2_32(call: &Call, lent: &Lent) -> u64 {
 
 fn swap_counts(handed: &mut Handed) {
     std::mem::swap(&mut handed.count, &mut handed.left);
+}
+
+fn swap_numbers(handed: &mut Handed) {
+    std::mem::swap(&mut handed.count, &mut handed.path_nodes);
+}
+
+/// Is each of the 64 places of the reel's root taken, and has it no children?
+fn is_full(call: &Call, lent: &mut Lent) -> bool {
+    let slots = (0..lent.image[1]).map(|slot| slot_index(slot) as usize);
+    let slot = slots.rev().find(|&slot| lent.image[slot + 1] != 0 && lent.image[slot] == call.reel);
+    let root = slot.map(|slot| lent.image[slot + 1] - 1);
+    root.map_or(false, |root| *node_word(lent, root, LOCATE) == u64::MAX && *node_word(lent, root, NEXT) == 0)
 }
 
 fn mark_last(lent: &mut Lent) {

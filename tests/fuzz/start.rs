@@ -7,6 +7,7 @@ use crate::model::call::{Call, Function, Lent};
 use crate::model::fault::Fault;
 use crate::model::format::header;
 use crate::model::image::*;
+use crate::model::loads::Loads;
 use crate::model::rule::*;
 use crate::model::script::SCRIPT_WORDS;
 use crate::model::table::{Fed, Reels, Table};
@@ -21,7 +22,8 @@ pub fn start(mut random: Random, subject: Subject, coverage: &mut Coverage) -> R
     let table = Table::formatted(plan.slots, plan.nodes, false);
     let formats = random.one_in(2);
     let header = header(plan.slots, plan.nodes, &[]);
-    let mut history = History { random, subject, coverage, lent, table, plan, header, copied: false };
+    let loads = Loads::default();
+    let mut history = History { random, subject, coverage, lent, table, loads, plan, header, copied: false };
     let started = if formats { history.format_first() } else { history.recover_first() };
     started.map_err(|text| format!("start: {}", text))?;
     Ok(history)
@@ -84,9 +86,10 @@ impl History<'_> {
         let built = trees::found(&mut self.random, rule, geometry, &self.plan.reels, self.plan.depths);
         (self.lent.image, self.table.reels, self.table.own) = (built.image, built.reels, rule.own);
         self.header.copy_from_slice(&self.lent.image[..HEADER_WORDS as usize]);
-        if let Subject::Faulty(Fault::HeldForgotten) = self.subject {
+        if self.subject.fault() == Fault::HeldForgotten {
             forget_frames(&mut self.table.reels);
         }
+        self.loads.found(&self.table, self.subject.fault());
         let image = self.lent.image.clone();
         let (refused, cut) = self.power_up()?;
         self.coverage.found_start(rule, refused, cut && image != self.lent.image, self.table.holds_frames());

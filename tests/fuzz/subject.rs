@@ -13,15 +13,24 @@ pub enum Subject {
 }
 
 impl Subject {
+    /// The fault, of those that the model makes, or that what it is held against does.
+    pub fn fault(self) -> Fault {
+        match self {
+            Subject::Faulty(fault) => fault,
+            _ => Fault::None,
+        }
+    }
+
     /// Makes the call. `junk`, and another word made of it, are what the places of the counts hold before.
     pub fn perform(self, call: &Call, lent: &mut Lent, junk: u64) -> Handed {
         match self {
             Subject::Library => {
                 let none = matches!(call.function, Function::Format | Function::Recover | Function::Convert | Function::Apply);
                 let mut count = if none { 0 } else { junk };
-                let mut left = if call.function == Function::Claim { !junk } else { 0 };
-                let answer = library::perform(call, lent, &mut count, &mut left);
-                Handed { answer, count, left }
+                let second = |function: Function| if call.function == function { !junk } else { 0 };
+                let (mut left, mut path_nodes) = (second(Function::Claim), second(Function::Has));
+                let answer = library::perform(call, lent, &mut count, &mut left, &mut path_nodes);
+                Handed { answer, count, left, path_nodes }
             }
             Subject::Faulty(fault) => operations::perform(call, lent, fault).handed,
             Subject::Spoilt(spoil) => {

@@ -51,13 +51,14 @@ pub struct Call {
     pub frame: u64,
 }
 
-/// What a call hands back: its answer; words of script, frames listed, or Has's yes or no; Claim's places left. A count is 0
-/// after a refusal, and where a function has none.
+/// What a call hands back: its answer; words of script, frames listed, or Has's yes or no; Claim's places left; the nodes on the
+/// path that Has goes. A count is 0 after a refusal, and where a function has none.
 #[derive(Clone, Copy, PartialEq, Eq, Debug)]
 pub struct Handed {
     pub answer: u64,
     pub count: u64,
     pub left: u64,
+    pub path_nodes: u64,
 }
 
 /// Every buffer there is; a function is lent those that it has.

@@ -49,6 +49,9 @@ pub fn claim(call: &Call, lent: &mut Lent, fault: Fault) -> Ended {
     }?;
     let mut taken = taken?;
     taken.entries.extend([(taken.node.at(LOCATE), taken.locate | 1 << taken.place), BARRIER]);
+    if fault == Fault::EarlyChildren {
+        branch_early(image, &mut taken, &lent.map);
+    }
     for &number in &taken.new {
         mark_used(&mut lent.map, number);
     }
@@ -111,6 +114,19 @@ fn doubled(root: Node, fault: Fault) -> Taken {
 /// Refusal 8 if there is no run of free nodes for the children.
 fn branched<'a>(image: Image<'a>, parent: Node<'a>, frame: u64, map: &[u64]) -> Result<Taken<'a>, Ending> {
     let level = parent.word(LEVEL_AT);
+    let (entries, new) = branch_out(image, parent, map)?;
+    let ending = match level {
+        0..=2 => BRANCHED_2,
+        30 => BRANCHED_LAST,
+        _ => BRANCHED_4,
+    };
+    let node = Node::of(image, new[image.child(level, frame) as usize]);
+    Ok(Taken { ending, node, place: 0, entries, locate: 0, new })
+}
+
+/// The entries that give a node its children, and these.
+fn branch_out(image: Image, parent: Node, map: &[u64]) -> Result<(Vec<Entry>, Vec<u64>), Ending> {
+    let level = parent.word(LEVEL_AT);
     let count = children(level);
     let first = run(image, map, count)?;
     let new: Vec<u64> = (first..first + count).collect();
@@ -123,13 +139,18 @@ fn branched<'a>(image: Image<'a>, parent: Node<'a>, frame: u64, map: &[u64]) -> 
         entries.push(BARRIER);
     }
     entries.extend([(parent.at(NEXT), first + 1), BARRIER]);
-    let ending = match level {
-        0..=2 => BRANCHED_2,
-        30 => BRANCHED_LAST,
-        _ => BRANCHED_4,
-    };
-    let node = Node::of(image, first + image.child(level, frame));
-    Ok(Taken { ending, node, place: 0, entries, locate: 0, new })
+    Ok((entries, new))
+}
+
+/// A fault: the claim of a root's last place gives it children, if there is a run.
+fn branch_early(image: Image, taken: &mut Taken, map: &[u64]) {
+    let (root, full) = (taken.node, (taken.locate | 1 << taken.place) == u64::MAX);
+    if full && root.word(LEVEL_AT) == 0 && root.word(NEXT) == 0 {
+        if let Ok((entries, new)) = branch_out(image, root, map) {
+            taken.entries.extend(entries);
+            taken.new.extend(new);
+        }
+    }
 }
 
 /// The first of the lowest run of free nodes. Refusal 8 exactly if there is none.

@@ -129,11 +129,30 @@ pub enum Fault {
     StaleFramesKept,
     StalePrintsKept,
     OldRuleKept,
+    SoundNodesTold,
+    OneAlways,
+    LevelForNodes,
+    EndUncounted,
+    ChildAsParent,
+    NoneForAbsent,
+    DownToPlace,
+    PastTheEnd,
+    LastLevelUncounted,
+    LongestPath,
+    AllNodes,
+    EarlyChildren,
+    CutClaimUncounted,
+    ClaimUncounted,
+    FilledUncounted,
+    HeldAlone,
+    PresentLoad,
+    BrimOf65,
+    FoundIsOpened,
 }
 
 impl Fault {
     /// Found by single calls alone: one buffer or answer differs from the sound model's.
-    pub const BY_CALLS: [(Fault, &'static str); 63] = [
+    pub const BY_CALLS: [(Fault, &'static str); 64] = [
         (Fault::NoSlots, "an image without slots is taken"),
         (Fault::EmptySlotRead, "an empty slot's reel number counts as open"),
         (Fault::HighestSlot, "a reel is the highest filled slot with its number"),
@@ -197,10 +216,11 @@ impl Fault {
         (Fault::UnreadKept, "convert keeps words 5 to 7"),
         (Fault::StaleFramesKept, "convert keeps the frame words of places not held"),
         (Fault::StalePrintsKept, "convert keeps the fingerprints of places not held"),
+        (Fault::SoundNodesTold, "a refused has tells the nodes above the malformed one"),
     ];
 
     /// Found by histories with crashes alone, held against the plain table.
-    pub const BY_HISTORIES: [(Fault, &'static str); 13] = [
+    pub const BY_HISTORIES: [(Fault, &'static str); 21] = [
         (Fault::LocateTrusted, "recover takes locate for the truth"),
         (Fault::RootUnordered, "open stores the root before the barrier"),
         (Fault::ReelUnordered, "open stores the reel number after the barrier"),
@@ -214,10 +234,18 @@ impl Fault {
         (Fault::OneMendedInReel, "recover mends one locate word of each reel"),
         (Fault::HeldForgotten, "the table of a start forgets frames that the image holds"),
         (Fault::OwnForgotten, "the table of reels forgets that a table was given"),
+        (Fault::EarlyChildren, "the claim that fills a root makes its children too"),
+        (Fault::CutClaimUncounted, "a claim cut short does not count among a reel's 64"),
+        (Fault::ClaimUncounted, "frames claimed do not count among a reel's 64"),
+        (Fault::FilledUncounted, "frames filled do not count among a reel's 64"),
+        (Fault::HeldAlone, "frames held alone count among a reel's 64"),
+        (Fault::PresentLoad, "a reel's 64 are those that it has now"),
+        (Fault::BrimOf65, "a reel's 64 are 65"),
+        (Fault::FoundIsOpened, "a reel found on an image counts as opened in the run"),
     ];
 
     /// Found by either.
-    pub const BY_BOTH: [(Fault, &'static str); 50] = [
+    pub const BY_BOTH: [(Fault, &'static str); 60] = [
         (Fault::AnyClaimBusy, "claim answers 13 for any open claim on the reel"),
         (Fault::FrameShared, "claim takes a frame that another head has"),
         (Fault::NodeShared, "claim takes a place in a node that another head is at"),
@@ -268,5 +296,15 @@ impl Fault {
         (Fault::LocateKept, "convert copies the locate word"),
         (Fault::ClaimsHeld, "convert makes held what is claimed"),
         (Fault::OldRuleKept, "convert makes the fingerprints by the rule of before"),
+        (Fault::OneAlways, "has tells one node always"),
+        (Fault::LevelForNodes, "has tells the level of the path's last node"),
+        (Fault::EndUncounted, "has does not count the path's last node but the root"),
+        (Fault::ChildAsParent, "a node and its child on the path count as one"),
+        (Fault::NoneForAbsent, "has tells 0 nodes for a frame that is not there"),
+        (Fault::DownToPlace, "has tells the nodes down to the one that it finds the frame in"),
+        (Fault::PastTheEnd, "has counts on past the path's end"),
+        (Fault::LastLevelUncounted, "has counts 31 nodes at most"),
+        (Fault::LongestPath, "has tells the nodes on the reel's longest path"),
+        (Fault::AllNodes, "has tells all nodes of the reel"),
     ];
 }

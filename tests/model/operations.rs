@@ -9,6 +9,7 @@ use super::format::format;
 use super::image::*;
 use super::left::left;
 use super::node::*;
+use super::path_nodes::path_nodes;
 use super::rule::Rule;
 use super::script::{self, Entry, BARRIER, SCRIPT_WORDS};
 use super::tree::{self, Reached};
@@ -41,7 +42,8 @@ pub fn perform(call: &Call, lent: &mut Lent, fault: Fault) -> Outcome {
     let (ending, count) = ended.unwrap_or_else(|refusal| (refusal, 0));
     let claimed = call.function == Function::Claim && ending.answer == 0;
     let left = if claimed { left(call.head, lent, count, fault) } else { 0 };
-    Outcome { ending, handed: Handed { answer: ending.answer, count, left } }
+    let path_nodes = if call.function == Function::Has { path_nodes(call, &lent.image, fault) } else { 0 };
+    Outcome { ending, handed: Handed { answer: ending.answer, count, left, path_nodes } }
 }
 
 /// Refusals 1 and 2.
@@ -261,12 +263,18 @@ fn remove(call: &Call, lent: &mut Lent, fault: Fault) -> Ended {
     Ok((ending, script::write(&mut lent.script, &entries)))
 }
 
-fn has(call: &Call, lent: &mut Lent, fault: Fault) -> Ended {
-    let image = check_image(&lent.image, fault)?;
+/// Has's refusals up to 5, then the image and the root of the reel in it.
+pub fn looked_up<'a>(call: &Call, words: &'a [u64], fault: Fault) -> Result<(Image<'a>, u64), Ending> {
+    let image = check_image(words, fault)?;
     image.check_table_unless(Fault::TableAfterReel)?;
     let slot = image.slot_of(call.reel).ok_or(NO_REEL)?;
     image.check_table_if(Fault::TableAfterReel)?;
-    let path = image.path(image.root(slot), call.frame)?;
+    Ok((image, image.root(slot)))
+}
+
+fn has(call: &Call, lent: &mut Lent, fault: Fault) -> Ended {
+    let (image, root) = looked_up(call, &lent.image, fault)?;
+    let path = image.path(root, call.frame)?;
     Ok(match tree::lookup(&path, call.frame) {
         Some(_) => (HAS_YES, 1),
         None if tree::held_by_other_rule(&path, call.frame) => (HAS_OTHER, 0),

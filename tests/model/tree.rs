@@ -24,12 +24,19 @@ impl<'a> Image<'a> {
 
     /// The nodes on a frame's path, the root first. Refusal 4 if one is malformed.
     pub fn path(&self, root: u64, frame: u64) -> Result<Vec<Node<'a>>, Ending> {
-        let mut path = vec![self.node(root - 1, 0)?];
+        let mut path = Vec::new();
+        self.descend(root, frame, &mut path)?;
+        Ok(path)
+    }
+
+    /// The same, node by node: those above a malformed one are there when it is met.
+    pub fn descend(&self, root: u64, frame: u64, path: &mut Vec<Node<'a>>) -> Result<(), Ending> {
+        path.push(self.node(root - 1, 0)?);
         loop {
             let level = path.len() as u64 - 1;
             let next = path[path.len() - 1].word(NEXT);
             if next == 0 {
-                return Ok(path);
+                return Ok(());
             }
             path.push(self.node(next - 1 + self.child(level, frame), level + 1)?);
         }
@@ -80,7 +87,10 @@ impl<'a> Image<'a> {
             if self.fault != Fault::FrameInTwoReels {
                 frames.clear();
             }
-            for reached in self.walk(self.root(slot), &mut seen)? {
+            let walk = self.walk(self.root(slot), &mut seen)?;
+            // Growing by and by takes longer than all else here.
+            frames.reserve(walk.iter().map(|reached| reached.node.word(SET).count_ones() as usize).sum());
+            for reached in walk {
                 check_frames(&reached, &mut frames)?;
                 numbers.push(reached.node.number);
             }

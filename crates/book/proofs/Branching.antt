@@ -16,6 +16,7 @@ use Rattle.tree.specs.Reach.{Reaches}
 use Rattle.tree.specs.Same.{Same, SameWords, Stores}
 use Rattle.tree.specs.Changes.{Fresh, Links, NewChild, Grown}
 use Rattle.tree.proofs.Lists.{in-range, range-has}
+use Rattle.tree.proofs.Reach.{slot-filled}
 use Rattle.tree.proofs.Laws.{child-laws, node-laws, same-laws, change-laws}
 use Rattle.tree.proofs.Memory.{torn-whole}
 use Rattle.book.specs.Perform.{group}
@@ -194,6 +195,7 @@ module _ {g : Geometry} {o : Bool} {im : List ℕ} {rs : List Reel} {slot f d st
   -- made, torn or whole, they are not reached yet
   pub nodes-made : {im' : List ℕ} → Torn im (newNodes g (suc d) 64 ns) im' → SameNodes im im'
   nodes-made t = links-nodes (v .header .geometry) (still-made t .view .header .geometry) (same-torn g (suc d) 64 ns v unreached level-fits t .links)
+      (λ i b. same-torn g (suc d) 64 ns v unreached level-fits t .reels b)
       (λ i n w y. words-torn g (suc d) 64 ns v unreached level-fits t y .words (sizeAt g n) (omega arith) (omega arith))
 
   sizes-kept : {i n : ℕ} {w : List ℕ} → Reaches g m i w n → m2 (sizeAt g n) ≡ m (sizeAt g n)
@@ -205,4 +207,5 @@ module _ {g : Geometry} {o : Bool} {im : List ℕ} {rs : List Reel} {slot f d st
     ways = rw (v .header .geometry, header2 .header .geometry) (branches .reaches);
     sizes = rw (v .header .geometry, header2 .header .geometry) sizes-kept;
     new-sizes = rw (header2 .header .geometry) (λ y. rw (y .is) (branches .size (y .child) (rw (child-laws .length-way d f) at (y .low))));
+    reels = rw (v .header .geometry) (λ y. sym (branches .reels (slot-filled y)));
   }

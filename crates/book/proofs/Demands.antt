@@ -1,6 +1,7 @@
 -- The demands, proved: a proof for each statement of specs/Demands.antt, and for those beside it.
 use Rattle.book.specs.Demands.{Demand2, Demand3, Placed}
 use Rattle.book.specs.Growth.{Growth}
+use Rattle.book.specs.PathNodes.{PathNodes}
 use Rattle.book.specs.OwnTables.{OwnTables}
 use Rattle.book.specs.Conversions.{Conversions}
 pub use Rattle.book.proofs.Demand1.{demand1}
@@ -21,6 +22,7 @@ use Rattle.book.proofs.StepRetire.{step-retire}
 use Rattle.book.proofs.ClaimPlaced.{claim-placed}
 use Rattle.book.proofs.Placed.{placed-from}
 use Rattle.book.proofs.Growth.{growth-from}
+use Rattle.book.proofs.PathNodes.{path-nodes-from}
 use Rattle.book.proofs.OwnTables.{own-tables-from}
 use Rattle.book.proofs.Conversions.{conversions-from}
 use Rattle.book.proofs.Witnesses.{witnesses-from}
@@ -57,6 +59,9 @@ placed = placed-from steps (record { placed = claim-placed })
 
 pub growth : Growth
 growth = growth-from steps
+
+pub path-nodes : PathNodes
+path-nodes = path-nodes-from steps growth demand3
 
 pub own-tables : OwnTables
 own-tables = own-tables-from demand3

@@ -59,6 +59,8 @@ pub mod StepBranch
 pub mod StepClaim
 pub mod ClaimPlaced
 pub mod Growth
+pub mod InUse
+pub mod PathNodes
 pub mod OwnTables
 pub mod Conversions
 pub mod Demands

@@ -1,4 +1,4 @@
--- Images with the same nodes: by links and sizes, through recoveries, and through scripts that store to neither.
+-- Images with the same nodes: by links, reels and sizes, through recoveries, and through scripts that store to neither.
 use mathlib.Core.Path.{_≡_, refl, sym, _∙_, ap}
 use mathlib.Core.Logic.{_⊎_, inl, inr, _≢_}
 use mathlib.Core.List.{List, [], _∷_}
@@ -8,10 +8,12 @@ use lib.ListN.{length, set}
 use lib.Seq.{take-length}
 use Rattle.tree.specs.Memory.{Memory, reads, Store, stores, segmented, apply, CrashImage, Torn, single}
 use Rattle.tree.specs.declared.layout.Geometry.{Geometry}
-use Rattle.tree.specs.Layout.{slotsAt, nodesAt, geometryOf, rootAt, nodeAt, nextAt, sizeAt}
+use Rattle.tree.specs.Layout.{slotsAt, nodesAt, geometryOf, reelAt, rootAt, nodeAt, nextAt, sizeAt}
+use Rattle.tree.specs.Slots.{Filled}
 use Rattle.tree.specs.Reach.{Reaches}
 use Rattle.tree.specs.Same.{SameLinks}
 use Rattle.tree.proofs.Memory.{crash-laws, apply-none, torn-whole, apply-single}
+use Rattle.tree.proofs.Reach.{slot-filled}
 use Rattle.tree.proofs.Same.{reaches-on, reaches-back}
 use Rattle.book.specs.State.{State, recover}
 use Rattle.book.specs.Perform.{perform}
@@ -24,7 +26,7 @@ use Rattle.book.proofs.Mended.{Mended, kept, mended-same}
 use Rattle.book.proofs.Recovery.{recover-writes, interrupted-mended}
 
 pub nodes-itself : (im : List ℕ) → SameNodes im im
-nodes-itself im = record { ways = (λ x. x, λ x. x); sizes = λ x. refl }
+nodes-itself im = record { ways = (λ x. x, λ x. x); sizes = λ x. refl; reels = λ x. refl }
 
 pub nodes-equal : {im im' : List ℕ} → im' ≡ im → SameNodes im im'
 nodes-equal {im} q = rw q (nodes-itself im)
@@ -33,22 +35,32 @@ pub nodes-on : {im im' im'' : List ℕ} → SameNodes im im' → SameNodes im' i
 nodes-on a b = record {
   ways = (λ x. a .ways .0 (b .ways .0 x), λ x. b .ways .1 (a .ways .1 x));
   sizes = λ x. b .sizes (a .ways .1 x) ∙ a .sizes x;
+  reels = λ x. b .reels (a .ways .1 x) ∙ a .reels x;
 }
 
 pub nodes-back : {im im' : List ℕ} → SameNodes im im' → SameNodes im' im
-nodes-back a = record { ways = (λ x. a .ways .1 x, λ x. a .ways .0 x); sizes = λ x. sym (a .sizes (a .ways .0 x)) }
+nodes-back a = record {
+  ways = (λ x. a .ways .1 x, λ x. a .ways .0 x);
+  sizes = λ x. sym (a .sizes (a .ways .0 x));
+  reels = λ x. sym (a .reels (a .ways .0 x));
+}
 
--- by links and sizes
+-- by links, reels and sizes
 pub links-nodes : {g : Geometry} {im im' : List ℕ} → geometryOf (reads im) ≡ g → geometryOf (reads im') ≡ g → SameLinks g (reads im) (reads im')
+    → ((slot : ℕ) → Filled g (reads im) slot → reads im (reelAt slot) ≡ reads im' (reelAt slot))
     → ((slot n : ℕ) (w : List ℕ) → Reaches g (reads im) slot w n → reads im (sizeAt g n) ≡ reads im' (sizeAt g n)) → SameNodes im im'
-links-nodes p q a h = record { ways = rw (p, q) (reaches-back a, reaches-on a); sizes = rw (p, q) (λ x. sym (h _ _ _ x)) }
+links-nodes p q a r h = record {
+  ways = rw (p, q) (reaches-back a, reaches-on a);
+  sizes = rw (p, q) (λ x. sym (h _ _ _ x));
+  reels = rw p (λ x. sym (r _ (slot-filled x)));
+}
 
 -- ---- recovery, answered, refused or interrupted
 
 mended-nodes : {im im' : List ℕ} → Mended (geometryOf (reads im)) (reads im) (reads im') → SameNodes im im'
 mended-nodes {im} {im'} a =
     let q = same-geometry (reads im) (reads im') (kept a slotsAt (λ k. omega arith)) (kept a nodesAt (λ k. omega arith)) in
-    links-nodes refl (sym q) (mended-same a .links) (λ slot n w x. kept a (sizeAt (geometryOf (reads im)) n) (λ k. omega arith))
+    links-nodes refl (sym q) (mended-same a .links) (λ slot b. mended-same a .reels b) (λ slot n w x. kept a (sizeAt (geometryOf (reads im)) n) (λ k. omega arith))
 
 pub recovered-nodes : (words : ℕ) (r : State) → SameNodes (r .image) (done (recover words) r .image)
 recovered-nodes words r =
@@ -93,7 +105,8 @@ record Spares (g : Geometry) (m m' : Memory) : Type 0 where
 spares-nodes : {im im' : List ℕ} → Spares (geometryOf (reads im)) (reads im) (reads im') → SameNodes im im'
 spares-nodes {im} {im'} a =
     let q = same-geometry (reads im) (reads im') (a .low slotsAt (omega arith)) (a .low nodesAt (omega arith)) in
-    links-nodes refl (sym q) (record { roots = λ s h. a .low (rootAt s) (omega arith); next = λ {n = n} x. a .next n }) (λ slot n w x. a .size n)
+    links-nodes refl (sym q) (record { roots = λ s h. a .low (rootAt s) (omega arith); next = λ {n = n} x. a .next n })
+    (λ slot b. a .low (reelAt slot) (omega (arith, b .inside))) (λ slot n w x. a .size n)
 
 spares-torn : {g : Geometry} {m : Memory} {im im' : List ℕ} {seg : List Store} → Each (Quiet g) seg → Spares g m (reads im) → Torn im seg im'
     → Spares g m (reads im')
@@ -150,6 +163,7 @@ doubles-on a x b = record {
   ways = (λ y. a .ways .0 (b .ways .0 y), λ y. b .ways .1 (a .ways .1 y));
   doubled = b .sizes (a .ways .1 x) ∙ a .doubled;
   sizes = λ y d. b .sizes (a .ways .1 y) ∙ a .sizes y d;
+  reels = λ y. b .reels (a .ways .1 y) ∙ a .reels y;
 }
 
 pub adds-on : {im im' im'' : List ℕ} {size : ℕ} {New : ℕ → List ℕ → ℕ → Type 0} → Adds im im' size New → SameNodes im' im'' → Adds im im'' size New
@@ -157,4 +171,5 @@ adds-on a b = record {
   ways = (λ y. a .ways .0 (b .ways .0 y), λ y. b .ways .1 (a .ways .1 y));
   sizes = λ y. b .sizes (a .ways .1 (inl y)) ∙ a .sizes y;
   new-sizes = λ y. b .sizes (a .ways .1 (inr y)) ∙ a .new-sizes y;
+  reels = λ y. b .reels (a .ways .1 (inl y)) ∙ a .reels y;
 }

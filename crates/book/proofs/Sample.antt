@@ -67,7 +67,7 @@ unfoldable pub tableAfter : List Operation → State → Table → Table
 tableAfter [] s t = t
 tableAfter (op ∷ ops) s t = tableAfter ops (done op s) (replied op s t .work .after)
 
-pub run-follows : (ops : List Operation) → Each (λ op. Words (arguments op)) ops → {s : State} {t : Table} → Follows s t
+unfoldable pub run-follows : (ops : List Operation) → Each (λ op. Words (arguments op)) ops → {s : State} {t : Table} → Follows s t
     → Follows (run ops s) (tableAfter ops s t)
 unfolding run tableAfter
 run-follows [] w f = f

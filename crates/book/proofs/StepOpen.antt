@@ -21,6 +21,7 @@ use Rattle.tree.proofs.Cases.{true-not-false}
 use Rattle.tree.proofs.Words.{beside-nodes}
 use Rattle.tree.proofs.Memory.{no-bit, torn-whole}
 use Rattle.tree.proofs.Same.{filled-back}
+use Rattle.tree.proofs.Reach.{slot-filled}
 use Rattle.tree.proofs.Laws.{node-laws, same-laws, change-laws, pool-laws}
 use Rattle.book.specs.declared.Target.{Target}
 use Rattle.book.specs.State.{State, openReel, arguments}
@@ -260,7 +261,7 @@ module _ {s : State} {t : Table} {slot n reel : ℕ} (a : Agrees s t) (o : Openi
   -- ---- the nodes
 
   torn-nodes : {im : List ℕ} → Torn (s .image) first im → SameNodes (s .image) im
-  torn-nodes y = links-nodes (v .header .geometry) (torn-view y .header .geometry) (same-read (differ y) .links)
+  torn-nodes y = links-nodes (v .header .geometry) (torn-view y .header .geometry) (same-read (differ y) .links) (λ i b. same-read (differ y) .reels b)
       (λ i k w x. read-node (differ y) x .words (sizeAt g k) (omega arith) (omega arith))
 
   size-rooted : reads rooted (sizeAt g n) ≡ 16
@@ -280,6 +281,7 @@ module _ {s : State} {t : Table} {slot n reel : ℕ} (a : Agrees s t) (o : Openi
     ways = rw (header .header .geometry) reaches-rooted;
     sizes = rw (header .header .geometry) sizes-kept;
     new-sizes = rw (header .header .geometry) (λ y. rw (y .is) size-rooted);
+    reels = rw (v .header .geometry) (λ y. sym (reel-kept (slot-filled y)));
   }
 
   has-reel : SlotHas g (reads rooted) reel slot

@@ -164,6 +164,7 @@ module _ {s : State} {t : Table} (a : Agrees s t) (slot : ℕ) (b : Filled (size
   drops = record {
     ways = rw (header .header .geometry) (change .reaches);
     sizes = rw (header .header .geometry) sizes-kept;
+    reels = λ x. sym (reel-kept _);
   }
 
 pub grows-retire : {s : State} {t : Table} → Agrees s t → (words scratch script reel : ℕ) → perform (retire words scratch script reel) s .answer ≡ 0

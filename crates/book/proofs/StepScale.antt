@@ -13,6 +13,7 @@ use Rattle.tree.specs.Reach.{Reaches}
 use Rattle.tree.specs.Same.{Same, Stores}
 use Rattle.tree.specs.Laws.{WellFormed}
 use Rattle.tree.proofs.Memory.{bit-laws, apply-single}
+use Rattle.tree.proofs.Reach.{slot-filled}
 use Rattle.tree.proofs.Laws.{same-laws}
 use Rattle.book.specs.declared.Target.{Target}
 use Rattle.book.specs.declared.HeadState.the-variants.{Claimed}
@@ -137,6 +138,7 @@ module _ {s : State} {t : Table} {h reel f slot n : ℕ} (a : Asked s t h reel f
     ways = rw (makes .still .view .header .geometry) links-scaled;
     doubled = rw (makes .still .view .header .geometry) (stored .new);
     sizes = rw (makes .still .view .header .geometry) sizes-scaled;
+    reels = λ x. sym (same .reels (slot-filled x));
   }
 
   -- carried out, the root's size alone is doubled

@@ -1,5 +1,5 @@
--- Which nodes the slots reach, and how large these are: what each operation, and power lost in it, may change of that. Statements
--- alone.
+-- Which nodes the slots reach, of which reels, and how large these are: what each operation, and power lost in it, may change of that.
+-- Statements alone.
 use mathlib.Core.Path.{_≡_}
 use mathlib.Core.Bool.{false}
 use mathlib.Core.Logic.{_⊎_, _↔_, _≢_}
@@ -7,7 +7,7 @@ use mathlib.Core.List.{List, []}
 use Prim.Native.Nat.{ℕ, _*_, _<_}
 use Rattle.tree.specs.Memory.{reads, isSet, segmented, passed, Fit}
 use Rattle.tree.specs.declared.layout.Geometry.{Geometry}
-use Rattle.tree.specs.Layout.{geometryOf, nextAt, locateAt, sizeAt, rootAt}
+use Rattle.tree.specs.Layout.{geometryOf, nextAt, locateAt, sizeAt, reelAt, rootAt}
 use Rattle.tree.specs.Path.{fanout, wayOf}
 use Rattle.tree.specs.Reach.{Reaches}
 use Rattle.tree.specs.Changes.{NewRoot, NewChild}
@@ -29,29 +29,36 @@ module _ (im : List ℕ) where
   abbrev pub sizeIn : ℕ → ℕ
   sizeIn n = reads im (sizeAt shapeIn n)
 
+  abbrev pub reelIn : (slot : ℕ) → ℕ
+  reelIn slot = reads im (reelAt slot)
+
 -- ---- from one image to another
 
--- the same nodes by the same ways, of the same sizes
+-- the same nodes by the same ways, of the same sizes; the slots have the same reels
 pub record SameNodes (im im' : List ℕ) : Type 0 where
   pub ways : {slot n : ℕ} {w : List ℕ} → ReachesIn im' slot w n ↔ ReachesIn im slot w n
   pub sizes : {slot n : ℕ} {w : List ℕ} → ReachesIn im slot w n → sizeIn im' n ≡ sizeIn im n
+  pub reels : {slot n : ℕ} {w : List ℕ} → ReachesIn im slot w n → reelIn im' slot ≡ reelIn im slot
 
--- new nodes of one size, by new ways; the nodes there were as they were
+-- new nodes of one size, by new ways; the nodes and reels there were as they were
 pub record Adds (im im' : List ℕ) (size : ℕ) (New : (slot : ℕ) → List ℕ → (n : ℕ) → Type 0) : Type 0 where
   pub ways : {slot n : ℕ} {w : List ℕ} → ReachesIn im' slot w n ↔ (ReachesIn im slot w n ⊎ New slot w n)
   pub sizes : {slot n : ℕ} {w : List ℕ} → ReachesIn im slot w n → sizeIn im' n ≡ sizeIn im n
   pub new-sizes : {slot n : ℕ} {w : List ℕ} → New slot w n → sizeIn im' n ≡ size
+  pub reels : {slot n : ℕ} {w : List ℕ} → ReachesIn im slot w n → reelIn im' slot ≡ reelIn im slot
 
--- the same nodes by the same ways; of one, and of no other, the size is doubled
+-- the same nodes by the same ways, of the same reels; of one, and of no other, the size is doubled
 pub record Doubles (im im' : List ℕ) (k : ℕ) : Type 0 where
   pub ways : {slot n : ℕ} {w : List ℕ} → ReachesIn im' slot w n ↔ ReachesIn im slot w n
   pub doubled : sizeIn im' k ≡ 2 * sizeIn im k
   pub sizes : {slot n : ℕ} {w : List ℕ} → ReachesIn im slot w n → n ≢ k → sizeIn im' n ≡ sizeIn im n
+  pub reels : {slot n : ℕ} {w : List ℕ} → ReachesIn im slot w n → reelIn im' slot ≡ reelIn im slot
 
--- the nodes of one slot go, all of them; those of the others are as they were
+-- the nodes of one slot go, all of them; those of the others, and their reels, are as they were
 pub record Drops (im im' : List ℕ) (slot : ℕ) : Type 0 where
   pub ways : {slot' n : ℕ} {w : List ℕ} → ReachesIn im' slot' w n ↔ (ReachesIn im slot' w n × (slot' ≢ slot))
   pub sizes : {slot' n : ℕ} {w : List ℕ} → ReachesIn im' slot' w n → sizeIn im' n ≡ sizeIn im n
+  pub reels : {slot' n : ℕ} {w : List ℕ} → ReachesIn im' slot' w n → reelIn im' slot' ≡ reelIn im slot'
 
 -- ---- what an answered operation does
 

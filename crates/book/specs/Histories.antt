@@ -28,7 +28,7 @@ pub data Steady : Operation → ℕ → Type 0 where
   answered-format : {words slots nodes : ℕ} {table : List ℕ} → Steady (format words table slots nodes) 0
 
 -- the images that power lost within an operation can leave: of its script, after k entries; of one that writes the image
--- itself, each word old or new. Power lost between two operations is k = 0 of the next.
+-- itself, each word old or new. Power lost between two operations is k = 0 of any next one.
 pub record Interrupted (op : Operation) (s : State) (k : ℕ) (m' : List ℕ) : Type 0 where
   pub unsteady : Steady op (perform op s .answer) → ⊥
   pub itself : List ℕ

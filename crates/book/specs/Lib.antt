@@ -15,6 +15,7 @@ pub mod Ways
 pub mod Demands
 pub mod Growth
 pub mod Stores
+pub mod PathNodes
 pub mod Starred
 pub mod Witnesses
 pub mod Fixed

@@ -3,6 +3,7 @@ use mathlib.Core.Bool.{Bool, true, false, cond, _&&_, _||_}
 use mathlib.Core.Option.{Option, none, some}
 use mathlib.Core.List.{List, [], _∷_, _++_, map, flatMap}
 use Prim.Native.Nat.{ℕ, suc, _+_, _*_, _%_}
+use lib.ListN.{length}
 use lib.Dec.{eqb, ltb}
 use Rattle.tree.specs.Memory.{Memory, reads, withBit, withoutBit, withByte, Store, stores, apply, isSome}
 use Rattle.tree.specs.declared.layout.Geometry.{Geometry}
@@ -110,6 +111,11 @@ foundSpot (some t) = t
 abbrev pub oneIf : Bool → ℕ
 oneIf b = cond b 1 0
 
+-- the number of nodes on a frame's path, wherever on it the frame is found; 0 where a node of it is malformed: Has is refused 4 then
+abbrev pub nodesOn : Option (List ℕ) → ℕ
+nodesOn none = 0
+nodesOn (some ns) = length ns
+
 -- ---- what an answered operation does
 
 -- a script, and the state as it is left
@@ -125,7 +131,8 @@ abbrev pub queried : Query → List ℕ → Handed
 queried (has reel f) image =
     let m = reads image in
     let g = geometryOf m in
-    handing (oneIf (isSome (find (ruleOf m) g m (slotOf g m reel) f)))
+    let slot = slotOf g m reel in
+    handing (oneIf (isSome (find (ruleOf m) g m slot f))) (nodesOn (pathFrom g m slot f))
 queried (list scratch room reel) image =
     let m = reads image in
     let g = geometryOf m in

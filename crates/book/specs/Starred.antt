@@ -1,4 +1,4 @@
--- The starred cases of the paper, those of two heads on a reel, of places left and of own tables, in one table: what is computed beside what it should be.
+-- The starred cases of the paper, those of two heads on a reel, of places left, of nodes on a path and of own tables, in one table: what is computed beside what it should be.
 use mathlib.Core.Path.{_≡_}
 use mathlib.Core.Bool.{true}
 use mathlib.Core.List.{List, [], _∷_, _++_, map, flatMap}
@@ -12,7 +12,7 @@ use Rattle.tree.specs.Path.{child}
 use Rattle.tree.specs.Fingerprint.{fingerprint, ruleFor, ownRule}
 use Rattle.book.specs.declared.Target.{Target}
 use Rattle.book.specs.Heads.{headAt, targetOf}
-use Rattle.book.specs.State.{State, Operation, format, openReel, claim, fill, commit, retire, memory, shape}
+use Rattle.book.specs.State.{State, Operation, format, openReel, claim, fill, commit, retire, query, has, memory, shape}
 use Rattle.book.specs.Perform.{perform}
 use Rattle.book.specs.Histories.{done}
 
@@ -70,6 +70,13 @@ second n k f = perform (claimsBy 1 7 f) (next n k) .answer
 abbrev pub left : (n k : ℕ) → ℕ
 left n k = perform (claims 7 k) (withFrames n k) .places-left
 
+-- the number of nodes on the path of frame f, with frames 0 to k − 1 held, and once frame k is claimed too
+abbrev pub pathNodes : (n k f : ℕ) → ℕ
+pathNodes n k f = perform (query (has 7 f)) (withFrames n k) .work .handed .path-nodes
+
+abbrev pub nextNodes : (n k f : ℕ) → ℕ
+nextNodes n k f = perform (query (has 7 f)) (next n k) .work .handed .path-nodes
+
 -- frames 0 to 63, then 64 and 65 claimed by heads 0 and 1: what a claim of frame f by head 2 is answered
 abbrev pub third : (f : ℕ) → ℕ
 third f = perform (claimsBy 2 7 f) (done (claimsBy 1 7 65) (next 3 64)) .answer
@@ -114,6 +121,10 @@ starred =
     ∷ (left 1 0, 15) ∷ (left 1 15, 0) ∷ (left 1 16, 15)
     -- 63 after a branch-out; with N = 1 that is refused and carries 0
     ∷ (left 3 64, 63) ∷ (left 1 64, 0)
+    -- nodes on the path: 1 with 64 frames, of a frame held or not; with the 65th claimed 2, also of frame 0, which is found in the root
+    ∷ (pathNodes 3 64 0, 1) ∷ (pathNodes 3 64 64, 1) ∷ (nextNodes 3 64 64, 2) ∷ (nextNodes 3 64 0, 2) ∷ (nextNodes 3 64 65, 2)
+    -- with N = 1 the claim is refused, and it stays 1; of a reel that is not there Has is refused, and reports 0
+    ∷ (nextNodes 1 64 64, 1) ∷ (perform (query (has 8 0)) (withFrames 1 1) .work .handed .path-nodes, 0)
     ∷ []
 
 -- every row is as it should be

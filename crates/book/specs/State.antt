@@ -60,24 +60,25 @@ arguments (remove script reel frame) = reel ∷ frame ∷ []
 arguments (retire map scratch script reel) = reel ∷ []
 arguments (query q) = queryArguments q
 
--- what an operation hands back beside its script: Has's yes or no, List's count; List's frames; the words that Convert writes to
--- the second image
+-- what an operation hands back beside its script: Has's yes or no, List's count; the number of nodes on the path of Has's frame;
+-- List's frames; the words that Convert writes to the second image. The plain table knows neither paths nor copies: 0 and none there
 pub record Handed : Type 0 where
   pub value : ℕ
+  pub path-nodes : ℕ
   pub listing : List ℕ
   pub copy : Option (List ℕ)
 
 abbrev pub nothingHanded : Handed
-nothingHanded = record { value = 0; listing = []; copy = none }
+nothingHanded = record { value = 0; path-nodes = 0; listing = []; copy = none }
 
-abbrev pub handing : (value : ℕ) → Handed
-handing n = record { value = n; listing = []; copy = none }
+abbrev pub handing : (value path-nodes : ℕ) → Handed
+handing n d = record { value = n; path-nodes = d; listing = []; copy = none }
 
 abbrev pub handingFrames : List ℕ → Handed
-handingFrames fs = record { value = length fs; listing = fs; copy = none }
+handingFrames fs = record { value = length fs; path-nodes = 0; listing = fs; copy = none }
 
 abbrev pub handingCopy : List ℕ → Handed
-handingCopy ws = record { value = 0; listing = []; copy = some ws }
+handingCopy ws = record { value = 0; path-nodes = 0; listing = []; copy = some ws }
 
 -- what an operation does: a script in segments, what it hands back, and the state as it leaves it, before the script is carried out
 pub record Work : Type 0 where

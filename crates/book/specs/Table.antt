@@ -212,7 +212,7 @@ becoming t = record { handed = nothingHanded; after = t }
 
 -- the orders that only read
 abbrev pub tableQueried : Query → Table → Handed
-tableQueried (has reel f) t = handing (cond (isHeld t reel f) 1 0)
+tableQueried (has reel f) t = handing (cond (isHeld t reel f) 1 0) 0
 tableQueried (list scratch room reel) t = handingFrames (framesOf t reel)
 tableQueried (convert scratch copy) t = nothingHanded
 

@@ -6,7 +6,7 @@ use mathlib.Core.Logic.{_⊎_}
 use mathlib.Core.Option.{Option, some}
 use mathlib.Core.List.{List, [], _∷_, map}
 use Prim.Native.Nat.{ℕ, _+_, _*_, _^_, _<_}
-use lib.ListN.{length, set, replicate}
+use lib.ListN.{length, take, set, replicate}
 use Rattle.tree.specs.Memory.{reads, Store, stores, segmented, apply, passed, Fit}
 use Rattle.tree.specs.Layout.{editionAt, reelAt, locateAt}
 use Rattle.tree.specs.Slots.{emptySlot}
@@ -18,6 +18,7 @@ use Rattle.book.specs.Table.{Table, Reel, idle, claimed, filled, emptyTa
 use Rattle.book.specs.Agrees.{Agrees}
 use Rattle.book.specs.Held.{tableOf}
 use Rattle.book.specs.Histories.{done, replied, Interrupted, Attempts, Recovered, Follows}
+use Rattle.book.specs.PathNodes.{hasOf, inUse, Small}
 use Rattle.book.specs.Starred.{run, formatted, withFrames}
 
 -- ---- a crash in Commit
@@ -98,6 +99,24 @@ pub record TwoInTree : Type 0 where
   pub cut : (t : Table) → Follows twoInTree t → CommitCut twoInTree t 50 0
   pub told-apart : (t : Table) → Follows twoInTree t → (s' : State)
       → Agrees s' (allIdle t) → Agrees s' (allIdle (replied (commit 50 0) twoInTree t .work .after)) → ⊥
+
+-- ---- a claim cut short
+
+-- reel 7 holds frames 0 to 63, all in its root; power is lost in the claim of frame 64 after 13 entries, with all of them kept, and a
+-- recovery follows: the root has its children, and the claim is gone
+unfoldable pub cutClaim : State
+cutClaim =
+    let s = withFrames 3 64 in
+    let entries = take 13 (segmented (perform (claim 1 50 0 7 64) s .work .script)) in
+    done (recover 1) (record { image = apply (s .image) entries; pool = 9 ∷ []; heads = replicate 20 9 })
+
+-- reel 7 is small, with 64 frames; after the claim cut short its table has 64 still, and the path of frame 64 has two nodes. So the
+-- promise of `one` (PathNodes) would be false if a claim cut short were not counted in
+pub record CutClaim : Type 0 where
+  pub history : (t : Table) × (h : Follows (withFrames 3 64) t) × Small 7 h
+  pub cut : CutAt (claim 1 50 0 7 64) (withFrames 3 64) 13 cutClaim
+  pub goes-on : (t : Table) × Follows cutClaim t × (length (inUse t 7) ≡ 64)
+  pub two : hasOf 7 64 cutClaim .work .handed .path-nodes ≡ 2
 
 -- ---- a crash in Recover
 
@@ -189,7 +208,7 @@ pub record OtherGeometry : Type 0 where
   -- and the history goes on with the table of that geometry
   pub table : replied (format 1 [] 1 2) (formatted 41 1) (emptyTable false 41 1) .work .after ≡ emptyTable false 1 2
 
--- ---- all of them but TwoInTree, whose 64 inserts are computed in the crate `starred`
+-- ---- all of them but TwoInTree and CutClaim, whose 64 inserts are computed in the crate `starred`
 
 pub record Witnesses : Type 0 where
   -- an answered commit may be cut before and after, in every history

@@ -113,7 +113,8 @@ fn run_remove(image: &mut [u64], heads: &[u64; HEAD_WORDS], reel: u64, frame: u6
 
 fn run_has(image: &[u64], reel: u64, frame: u64) -> bool {
     let mut yes = 0;
-    let number = reelbook_has(image, reel, frame, &mut yes);
+    let mut nodes = 0;
+    let number = reelbook_has(image, reel, frame, &mut yes, &mut nodes);
     answer::answer(number, 0, yes)
 }
 

@@ -26,7 +26,7 @@ use reelbook::reelbook_recover;
 use reelbook::reelbook_remove;
 use reelbook::reelbook_retire;
 
-// What stands where a count is handed back, or the places left are, before they are.
+// What stands where a count is handed back, or the places left or the number of nodes on a path are, before they are.
 pub const NO_COUNT: u64 = 999;
 
 // Format, Recover, Carry out.
@@ -74,8 +74,12 @@ fn put_low_bytes(words: &[u64], bytes: &mut [u8]) {
 pub fn run_query(command: Command, image: &[u64], scratch: &mut [u64], list: &mut [u64]) {
     let name = command.name;
     let mut count = NO_COUNT;
+    let mut nodes = NO_COUNT;
     match name {
-        HAS => print::counted(reelbook_has(image, command.a, command.b, &mut count), count),
+        HAS => {
+            let number = reelbook_has(image, command.a, command.b, &mut count, &mut nodes);
+            print::told(number, count, nodes);
+        }
         _ => print::counted(
             reelbook_list(image, scratch, list, command.a, &mut count),
             count,

@@ -18,9 +18,9 @@ pub fn counted(number: u64, count: u64) {
     words(&[number, count]);
 }
 
-// The same of a claim, and the places left.
-pub fn claimed(number: u64, count: u64, left: u64) {
-    words(&[number, count, left]);
+// The same, and a number more: of a claim the places left, of a lookup the nodes on the path.
+pub fn told(number: u64, count: u64, more: u64) {
+    words(&[number, count, more]);
 }
 
 // Nothing came out, or the line is mistaken: it cannot be read, or names a place that is not there.

@@ -147,7 +147,7 @@ fn run_scripted(
 // What came out of it: of a claim alone the places left too.
 fn tell(name: u64, number: u64, used: u64, left: u64) {
     match name {
-        CLAIM => print::claimed(number, used, left),
+        CLAIM => print::told(number, used, left),
         _ => print::counted(number, used),
     }
 }

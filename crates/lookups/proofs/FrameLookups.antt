@@ -11,20 +11,23 @@ use Rattle.tree.specs.Test.{is}
 use Rattle.tree.specs.declared.layout.Geometry.{Geometry}
 use Rattle.tree.specs.declared.path.Spot.{Spot}
 use Rattle.tree.specs.Fingerprint.{ruleOf}
-use Rattle.tree.specs.Lookup.{pathFrom, lookup, find}
+use Rattle.tree.specs.Lookup.{pathFrom, find}
 use Rattle.tree.specs.Subtree.{listed}
+use Rattle.paths.specs.declared.descent.Seen.{Seen}
+use Rattle.paths.specs.declared.descent.Seen.the-variants.{Nothing, At}
 use Rattle.paths.specs.declared.descent.Found.{Found}
-use Rattle.paths.specs.declared.descent.Found.the-variants.{Malformed, Absent, At}
-use Rattle.paths.specs.Answers.{onPath, foundAs, foundFrom}
-use Rattle.paths.proofs.PathSteps.{spotIn, find-spot}
+use Rattle.paths.specs.declared.descent.Found.the-variants.{Malformed, Ended}
+use Rattle.paths.specs.Answers.{onPath, foundOn, foundFrom}
+use Rattle.paths.specs.Descent.{spotOf}
+use Rattle.paths.proofs.Trails.{spotIn, find-spot}
 use Rattle.book.specs.Heads.{busy}
 use Rattle.book.specs.Refusals.{Refusal, refusal, _gives_}
 use Rattle.book.specs.State.{State, Operation, remove, query, has, scratchAfter}
 use Rattle.book.specs.Checks.{checked, noPath, refusals}
-use Rattle.book.specs.Perform.{removeScript, foundSpot, oneIf, granted, leaves, clears}
+use Rattle.book.specs.Perform.{removeScript, foundSpot, oneIf, nodesOn, granted, leaves, clears}
 use Rattle.book.proofs.Refusals.{passed-all, refused-here, refused-later}
 use Rattle.book.proofs.Inside.{find-inside}
-use Rattle.operations.specs.Ends.{Buffers, buffers, noBuffers, ended, found, ends}
+use Rattle.operations.specs.Ends.{Buffers, buffers, noBuffers, endedPath, ended, found, ends}
 use Rattle.operations.proofs.ScriptWords.{words-of}
 use Rattle.operations.proofs.Endings.{no-script}
 use Rattle.operations.proofs.Passed.{same-checks}
@@ -34,8 +37,15 @@ use Rattle.operations.proofs.Tested.{OnReel, SlotRead, rest-bad, rest-done}
 
 abbrev pub isMalformed : Found → Bool
 isMalformed Malformed = true
-isMalformed Absent = false
-isMalformed (At t) = false
+isMalformed (Ended z k) = false
+
+abbrev nodesIn : Found → ℕ
+nodesIn Malformed = 0
+nodesIn (Ended z k) = k
+
+-- the path ended, with or without the frame: the code looks at that next
+pub ended-with : {x : Found} {z z' : Seen} {k : ℕ} → x ≡ Ended z k → z ≡ z' → x ≡ Ended z' k
+ended-with {k = k} q w = q ∙ ap (λ v. Ended v k) w
 
 -- x is what the lookup answered, and y what the code took it for
 module _ (g : Geometry) (m : Memory) (s f : ℕ) {x : Found} (e : x ≡ foundFrom g m s f) {y : Found} (q : x ≡ y) where
@@ -44,19 +54,24 @@ module _ (g : Geometry) (m : Memory) (s f : ℕ) {x : Found} (e : x ≡ foundFro
   unfolding foundFrom
   path-test = rw (sym q ∙ e) (on (pathFrom g m s f))
     where
-      as-found : (o : Option Spot) → false ≡ isMalformed (foundAs o)
-      as-found none = refl
-      as-found (some t) = refl
-
-      on : (o : Option (List ℕ)) → not (isSome o) ≡ isMalformed (onPath Malformed (λ ns. foundAs (lookup (ruleOf m) g m f ns)) o)
+      on : (o : Option (List ℕ)) → not (isSome o) ≡ isMalformed (onPath Malformed (foundOn g m f) o)
       on none = refl
-      on (some ns) = as-found (lookup (ruleOf m) g m f ns)
+      on (some ns) = refl
+
+  path-length : nodesOn (pathFrom g m s f) ≡ nodesIn y
+  unfolding foundFrom
+  path-length = rw (sym q ∙ e) (on (pathFrom g m s f))
+    where
+      on : (o : Option (List ℕ)) → nodesOn o ≡ nodesIn (onPath Malformed (foundOn g m f) o)
+      on none = refl
+      on (some ns) = refl
 
   found-spot : find (ruleOf m) g m s f ≡ spotIn y
   found-spot = rw (sym q ∙ e) (find-spot g m s f)
 
 -- a place that it found is inside
-pub found-inside : (g : Geometry) (m : Memory) (s f : ℕ) {x : Found} → x ≡ foundFrom g m s f → {t : Spot} → x ≡ At t
+pub found-inside : (g : Geometry) (m : Memory) (s f : ℕ) {x : Found} → x ≡ foundFrom g m s f
+    → {t : Spot} {k : ℕ} → x ≡ Ended (At t) k
     → (t .node < g .nodes) × (t .place < 64)
 found-inside g m s f e q =
     let there = found-spot g m s f e q in
@@ -85,11 +100,14 @@ module _ (s : State) (reel f : ℕ) where
     has-malformed q =
         rest-bad on-has noBuffers (p .slot-read) (p .present) 4 (refused-here _ _ (path-test g (reads (s .image)) slot f (p .answer) q)) (omega arith)
 
-    pub has-said : {y : Found} → x ≡ y → isMalformed y ≡ false → ended 0 (oneIf (isSome (spotIn y))) s noBuffers ≡ ends (query (has reel f)) s noBuffers
+    pub has-said : {z : Seen} {k : ℕ} → x ≡ Ended z k
+        → endedPath 0 (oneIf (isSome (spotOf z))) k s noBuffers ≡ ends (query (has reel f)) s noBuffers
     unfolding granted listed scratchAfter
-    has-said q w =
-        let none = refused-later _ _ (path-test g (reads (s .image)) slot f (p .answer) q ∙ w) ∙ passed-all [] tt in
-        rw (← found-spot g (reads (s .image)) slot f (p .answer) q, p .slot-read .slot-is, p .slot-read .checked .geometry)
+    has-said q =
+        let m = reads (s .image) in
+        let none = refused-later _ _ (path-test g m slot f (p .answer) q) ∙ passed-all [] tt in
+        let read = p .slot-read in
+        rw (← found-spot g m slot f (p .answer) q, ← path-length g m slot f (p .answer) q, read .slot-is, read .checked .geometry)
         (sym (rest-done on-has noBuffers (p .slot-read) (p .present) none ∙ no-script (query (has reel f)) _ noBuffers refl))
 
 -- ---- Remove
@@ -126,17 +144,20 @@ module _ (s : State) (script : List ℕ) (reel f : ℕ) where
           (past-busy ∙ refused-here _ _ (path-test g (reads (s .image)) slot f (p .answer) q)) (omega arith)
 
       -- 10, by what the code took x for
-      past-path : {y : Found} → x ≡ y → isMalformed y ≡ false
-          → refusal ((is (busy (s .heads) slot) gives 13) ∷ frameTests g slot) ≡ refusal ((is (not (isSome (spotIn y))) gives 10) ∷ [])
-      past-path q w =
+      past-path : {z : Seen} {k : ℕ} → x ≡ Ended z k
+          → refusal ((is (busy (s .heads) slot) gives 13) ∷ frameTests g slot)
+          ≡ refusal ((is (not (isSome (spotOf z))) gives 10) ∷ [])
+      past-path q =
           past-busy
-          ∙ refused-later _ _ (path-test g (reads (s .image)) slot f (p .answer) q ∙ w)
+          ∙ refused-later _ _ (path-test g (reads (s .image)) slot f (p .answer) q)
           ∙ rw (found-spot g (reads (s .image)) slot f (p .answer) q) refl
 
-      pub remove-absent : x ≡ Absent → ended 10 0 s borrowed ≡ ends op s borrowed
-      remove-absent q = rest-bad on-remove borrowed (p .slot-read) (p .present) 10 (past-path q refl ∙ refused-here _ _ refl) (omega arith)
+      pub remove-absent : {k : ℕ} → x ≡ Ended Nothing k → ended 10 0 s borrowed ≡ ends op s borrowed
+      remove-absent q =
+          rest-bad on-remove borrowed (p .slot-read) (p .present) 10 (past-path q ∙ refused-here _ _ refl) (omega arith)
 
-      pub removed : {t : Spot} → x ≡ At t → (words : List ℕ) → words ≡ written (segmented (removeScript g (reads (s .image)) t)) script
+      pub removed : {t : Spot} {k : ℕ} → x ≡ Ended (At t) k
+          → (words : List ℕ) → words ≡ written (segmented (removeScript g (reads (s .image)) t)) script
           → ended 0 8 s (buffers [] words []) ≡ ends op s borrowed
       unfolding found granted removeScript listed scratchAfter
       removed {t} q words w =
@@ -144,4 +165,4 @@ module _ (s : State) (script : List ℕ) (reel f : ℕ) where
           sym (ap foundSpot (found-spot g (reads (s .image)) slot f (p .answer) q)) in
           ap (λ k. ended 0 k s (buffers [] words [])) (words-of (removeScript g (reads (s .image)) t))
           ∙ rw (w, there, p .slot-read .slot-is, p .slot-read .checked .geometry)
-          (sym (rest-done on-remove borrowed (p .slot-read) (p .present) (past-path q refl ∙ passed-all _ (refl, tt))))
+          (sym (rest-done on-remove borrowed (p .slot-read) (p .present) (past-path q ∙ passed-all _ (refl, tt))))

@@ -7,9 +7,10 @@ ghost use Rattle.tree.specs.Memory.{segmented, written, reads};
 ghost use Rattle.tree.specs.Layout.{Sized};
 ghost use Rattle.book.specs.State.{remove, query, has};
 ghost use Rattle.book.specs.Perform.{removeScript};
+ghost use Rattle.operations.specs.declared.answer.Answer.the-variants.{Done, Refused};
 ghost use Rattle.operations.specs.Answers.{answerOf, countOf};
 ghost use Rattle.operations.specs.HeadLists.{headsIn};
-ghost use Rattle.operations.specs.Ends.{buffers, noBuffers, state, ended, ends};
+ghost use Rattle.operations.specs.Ends.{buffers, noBuffers, state, endedPath, ended, ends};
 use book::HEADS;
 use book::Head;
 use fingerprints::fingerprint::fingerprint;
@@ -21,6 +22,7 @@ use operations::checks::Verdict;
 use operations::checks::checks;
 use operations::heads::is_busy;
 use paths::descent::Found;
+use paths::descent::Seen;
 use paths::descent::find;
 use tree::layout::Geometry;
 use tree::layout::LOCATE;
@@ -31,26 +33,54 @@ use tree::path::Spot;
 use tree::persistent::put_fenced_pair;
 use tree::persistent::without_bit;
 
-// Does a reel hold a frame? The count is 1 or 0.
-pub fn has(image: &[u64], reel: u64, frame: u64) -> Answer
+// Has's answer, whose count is 1 or 0, and the number of nodes on the frame's path; a refusal has none to tell of.
+pub struct HasAnswer {
+    pub answer: Answer,
+    pub nodes: u64,
+}
+
+fn refused(why: Refusal) -> HasAnswer
+    ensures { λ r. ⌜ r ≡ record { answer = Refused why; nodes = 0 } ⌝ }
+{
+    HasAnswer {
+        answer: Answer::Refused(why),
+        nodes: 0,
+    }
+}
+
+fn said(yes: u64, nodes: u64) -> HasAnswer
+    ensures { λ r. ⌜ r ≡ record { answer = Done yes; nodes = nodes } ⌝ }
+{
+    HasAnswer {
+        answer: Answer::Done(yes),
+        nodes,
+    }
+}
+
+// Does a reel hold a frame, and how many nodes does the frame's path have?
+pub fn has(image: &[u64], reel: u64, frame: u64) -> HasAnswer
     ensures { λ r. ⌜
         ((pool ws : List ℕ)
-        → ended (answerOf r) (countOf r) (state (now (image .entry)) pool ws) noBuffers
+        → endedPath (answerOf (r .answer)) (countOf (r .answer)) (r .nodes) (state (now (image .entry)) pool ws) noBuffers
         ≡ ends (query (has reel frame)) (state (now (image .entry)) pool ws) noBuffers)
         ⌝ }
 {
     let g = match checks(image, Buffer::Absent, Buffer::Absent, Buffer::Absent) {
         Verdict::Passed(g) => g,
-        Verdict::Refused(why) => return Answer::Refused(why),
+        Verdict::Refused(why) => return refused(why),
     };
     let slot = slot_of(image, g, reel);
     if g.slots <= slot {
-        return Answer::Refused(Refusal::NoReel);
+        return refused(Refusal::NoReel);
     }
     match find(image, g, slot, frame, fingerprint(image, frame)) {
-        Found::Malformed => Answer::Refused(Refusal::Malformed),
-        Found::Absent => Answer::Done(0),
-        Found::At(_) => Answer::Done(1),
+        Found::Malformed => refused(Refusal::Malformed),
+        Found::Ended { found, nodes } => {
+            match found {
+                Seen::Nothing => said(0, nodes),
+                Seen::At(_) => said(1, nodes),
+            }
+        }
     }
 }
 
@@ -106,10 +136,14 @@ pub fn remove(
     }
     match find(image, g, slot, frame, fingerprint(image, frame)) {
         Found::Malformed => Answer::Refused(Refusal::Malformed),
-        Found::Absent => Answer::Refused(Refusal::FrameNotHeld),
-        Found::At(t) => {
-            put_remove(image, g, script, t);
-            Answer::Done(8)
+        Found::Ended { found, nodes: _ } => {
+            match found {
+                Seen::Nothing => Answer::Refused(Refusal::FrameNotHeld),
+                Seen::At(t) => {
+                    put_remove(image, g, script, t);
+                    Answer::Done(8)
+                }
+            }
         }
     }
 }

@@ -1,34 +1,39 @@
 -- A driver's whole history, proved: its cuts are those of histories, its calls of recover the recoveries there.
 use mathlib.Core.Path.{_≡_, refl, sym, _∙_, ap, subst}
-use mathlib.Core.Logic.{inl, inr, _≢_}
+use mathlib.Core.Bool.{Bool, true, false}
+use mathlib.Core.Logic.{_⊎_, inl, inr, _≢_}
 use mathlib.Core.Option.{some}
 use mathlib.Core.List.{List, []}
 use Prim.Native.Nat.{ℕ}
 use native.Mathlib.Decide.{ℕ-discrete}
 use lib.ListN.{length}
 use lib.Dec.{eqb}
+use borrow.Author.Tests.{ne-eqb}
 use Rattle.tree.specs.Memory.{decode, segmented}
+use Rattle.tree.specs.Fingerprint.{isGiven}
 use Rattle.tree.specs.Pool.{clearMap}
 use Rattle.tree.proofs.Memory.{segment-laws}
-use Rattle.tree.proofs.Cases.{some-inj, test}
+use Rattle.tree.proofs.Cases.{some-inj, test, true-not-false}
 use Rattle.tree.proofs.Laws.{pool-laws}
 use Rattle.book.specs.Refusals.{refusal}
-use Rattle.book.specs.State.{State, Operation, recover, query, convert, Work, copyAfter}
+use Rattle.book.specs.State.{State, Operation, format, recover, query, has, convert, Work, copyAfter}
 use Rattle.book.specs.Checks.{refusals}
 use Rattle.book.specs.Perform.{granted, leaves, perform}
-use Rattle.book.specs.Table.{Table}
+use Rattle.book.specs.Table.{Table, framesIn, isPresent, emptyTable}
 use Rattle.book.specs.Conversions.{Writes, written}
-use Rattle.book.specs.Histories.{carriedOut, done, replied, Steady, answered-format, Interrupted, Attempts, Recovered, Follows, found, started, before, after}
+use Rattle.book.specs.PathNodes.{OpensReel, StaysSmall, Small}
+use Rattle.book.specs.Histories.{carriedOut, done, replied, Steady, answered-format, Interrupted, Attempts, Recovered, Follows, found, started, performed, before, after}
 use Rattle.book.specs.Histories.{none-yet as no-attempt, refused as refused-attempt, interrupted as interrupted-attempt}
-use Rattle.book.proofs.Demands.{demand1, demand2, demand3, placed, growth, conversions}
+use Rattle.book.proofs.Demands.{demand1, demand2, demand3, placed, growth, path-nodes, conversions}
 use Rattle.book.proofs.Performed.{work-granted}
 use Rattle.book.proofs.Done.{refused-image}
 use Rattle.book.proofs.Recovery.{recover-writes}
 use Rattle.book.proofs.Held.{idle-held}
 use Rattle.operations.specs.Ends.{Buffers, noBuffers, state, Ends, ends}
-use Rattle.operations.specs.Chain.{counted, wordsIn, Fits, OtherBuffer, another-length, to-format, Called, with-its-map, with-another}
-use Rattle.operations.specs.Driver.{CutShort, RecoverEnds, Retries, none-yet, refused, cut-short, Recovers, Whole, as-before, as-after, Driven, formats, finds, calls, loses-power, Survives, Stands, Driver}
-use Rattle.operations.proofs.Chain.{no-entries, nothing-over, answer-ends, after-ends, copy-ends, one-to-three, sent-back, chain}
+use Rattle.operations.specs.Chain.{counted, wordsIn, Fits, OtherBuffer, another-length, to-format, Called, with-its-map, with-another, afterCall}
+use Rattle.operations.specs.Driver.{CutShort, RecoverEnds, Retries, none-yet, refused, cut-short, Recovers, Whole, as-before, as-after, Driven, formats, finds, calls, loses-power, KeptSmall, Survives, Stands, Driver}
+use Rattle.operations.proofs.CallEnds.{no-entries, nothing-over, answer-ends, after-ends, copy-ends, nodes-ends, one-to-three}
+use Rattle.operations.proofs.Chain.{told, sent-back, sent-back-next, format-table, chain}
 
 -- ---- power lost
 
@@ -175,6 +180,66 @@ stands s t d = let f = follows d in record {
   survives = λ op b e fit call k m c. survives f fit call c;
 }
 
+-- ---- a reel that the driver has kept small
+
+no-reel : (own : Bool) (slots nodes reel : ℕ) → isPresent (emptyTable own slots nodes) reel ≡ false
+unfolding isPresent framesIn emptyTable
+no-reel own slots nodes reel = refl
+
+-- with another buffer, and with the reel there after it, it is refused: a format that is answered leaves no reel
+another-reel : {op : Operation} {s : State} {t : Table} {e : Ends} (reel : ℕ) → Follows s t → Fits op s → (map : List ℕ) (b : Buffers)
+    → OtherBuffer (s .image) op → e ≡ ends op (state (s .image) map (s .heads)) b → isPresent (replied op s t .work .after) reel ≡ true → e .answer ≢ 0
+another-reel {op} {s} {e = e} reel f fit map b (another-length o) q p h =
+    one-to-three (chain .other-map op (s .image) map (s .heads) b e o q .number) .0 h
+another-reel {s = s} {t} reel f fit map b (to-format {words} {slots} {nodes} {table}) q p h =
+    let op = format words table slots nodes in
+    let x = rw (← q) at (sent-back {op = op} {s = s} map b to-format) in
+    let answered = sym (demand2 .alike s t f op (fit .numbers) .answer) ∙ sym (x .answer) ∙ h in
+    true-not-false (rw (format-table words table slots nodes s t answered) at p) (no-reel (isGiven table) slots nodes reel)
+
+-- so the driver comes to the state of the step
+called-next : {op : Operation} {s : State} {t : Table} {b : Buffers} {e : Ends} (reel : ℕ) → Follows s t → Fits op s → (c : Called op s b e)
+    → isPresent (replied op s t .work .after) reel ≡ true → afterCall c ≡ done op s
+called-next {op} {s} {b = b} reel f fit (with-its-map q) p = rw q (told op s b fit .step)
+called-next {op} {s} {b = b} reel f fit (with-another map o q) p =
+    let z = another-reel reel f fit map b o q p in
+    rw (ne-eqb _ 0 z) (sent-back-next (rw (← q) at (sent-back {op = op} {s = s} map b o)) z)
+
+-- before a step that opens the reel any history does, before another one in which it is small
+so-far : {reel : ℕ} {s : State} {t : Table} {op : Operation} {Before : Type 0} → OpensReel reel s op ⊎ Before → Follows s t
+    → (Before → (h : Follows s t) × Small reel h) → (h : Follows s t) × (OpensReel reel s op ⊎ Small reel h)
+so-far (inl o) f small = (f, inl o)
+so-far (inr x) f small = let y = small x in (y .0, inr (y .1))
+
+-- and one step on, cut short
+whole-small : {op : Operation} {s s' : State} {t t' : Table} {b : Buffers} {e : Ends} {k : ℕ} {m : List ℕ} {Before : Type 0} (f : Follows s t)
+    (fit : Fits op s) (call : Called op s b e) (c : CutShort op s e k m) (reel : ℕ) → Recovers m s'
+    → Whole (c .entries) k t (replied op s t .work .after) s' t' → StaysSmall reel op s t t' Before → OpensReel reel s op ⊎ Small reel f
+    → (h : Follows s' t') × Small reel h
+whole-small {op} {k = k} f fit call c reel r (as-before p a) small x =
+    let i = cut f fit call c in
+    (before f op (fit .numbers) k (i .0) (recovers-recovered r) (rw (i .1) at p) a, (small .0, small .1, x))
+whole-small {op} {k = k} f fit call c reel r (as-after a) small x =
+    (after f op (fit .numbers) k (cut f fit call c .0) (recovers-recovered r) a, (small .0, small .1, x))
+
+-- so the history that it follows is one in which the reel was opened and has stayed small
+small-history : {s : State} {t : Table} (d : Driven s t) (reel : ℕ) → KeptSmall reel d → (h : Follows s t) × Small reel h
+small-history (formats words table slots nodes s b e fit q h) reel p = absurd p
+small-history (finds v r) reel p = absurd p
+small-history (calls {s} {t} d op b e fit c) reel p =
+    let x = so-far (p .2) (follows d) (λ y. small-history d reel y) in
+    subst (λ s'. (h : Follows s' (replied op s t .work .after)) × Small reel h) (sym (called-next reel (x .0) fit c (p .0)))
+    (performed (x .0) op (fit .numbers), (p .0, p .1, x .1))
+small-history (loses-power {s} {t = t} d op b e fit call k c r w) reel p =
+    let x = so-far (p .2) (follows d) (λ y. small-history d reel y) in
+    whole-small (x .0) fit call c reel r w p (x .1)
+
+one-node : {s : State} {t : Table} (d : Driven s t) (reel f : ℕ) (b : Buffers) (e : Ends) → KeptSmall reel d → Fits (query (has reel f)) s
+    → e ≡ ends (query (has reel f)) s b → e .path-nodes ≡ 1
+one-node {s} d reel f b e p fit q =
+    let x = small-history d reel p in
+    ap (λ (y : Ends). y .path-nodes) q ∙ nodes-ends (query (has reel f)) s b ∙ path-nodes .one (x .0) reel f (fit .numbers) (x .1)
+
 -- ---- not too small
 
 -- a history's crash is one of the driver's cuts
@@ -278,6 +343,9 @@ driver = record {
       let w = conversions .answered scratch copy s answered in
       let copied = ap (λ (x : Ends). x .buffers .copy) q ∙ copy-ends op s b ∙ ap (λ o. copyAfter o (b .copy)) (copy-of (w .1)) in
       finds (conversions .shows s t (w .0) (stands s t d .follows) (record { by = op; writes = w .1 })) (rw copied at r);
+  one-node = one-node;
+  small-calls = λ d reel op b e fit c x l p. (p, l, x);
+  small-cuts = λ d reel op b e fit call k c r w x l p. (p, l, x);
   accepted = λ m m' map heads t e v r q.
       ap (λ (x : Ends). x .answer) q ∙ answer-ends (recover (length map)) (state m' map heads) noBuffers
       ∙ demand2 .accepted m m' t v (retries-attempts r) (length map) (state m' map heads) refl;

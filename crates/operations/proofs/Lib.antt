@@ -4,5 +4,6 @@ pub mod Passed
 pub mod Tested
 pub mod HeadRecords
 pub mod HandedOver
+pub mod CallEnds
 pub mod Chain
 pub mod Driver

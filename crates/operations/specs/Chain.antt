@@ -80,12 +80,15 @@ pub record Answered (op : Operation) (s : State) (e : Ends) : Type 0 where
   pub heads : e .after .heads ≡ done op s .heads
   -- of places left the driver is told what `PlacesLeft` (book, specs) says of that image and these heads
   pub places-left : e .places-left ≡ perform op s .places-left
+  -- and of a frame's path what `PathNodes` (book, specs) says
+  pub path-nodes : e .path-nodes ≡ perform op s .work .handed .path-nodes
   -- and in the second image it finds the words of which `Conversions` (book, specs) speaks
   pub copied : (ws : List ℕ) → perform op s .work .handed .copy ≡ some ws → e .buffers .copy ≡ ws
 
 pub record Refused (op : Operation) (s : State) (b : Buffers) (e : Ends) : Type 0 where
   pub count : e .count ≡ 0
   pub places-left : e .places-left ≡ 0
+  pub path-nodes : e .path-nodes ≡ 0
   pub script : e .buffers .script ≡ b .script
   pub list : e .buffers .list ≡ b .list
   pub copy : e .buffers .copy ≡ b .copy

@@ -1,23 +1,24 @@
 -- A driver's whole history, power lost included: statements alone, in the driver's own terms. These are the equations that the exported
 -- contracts give it, the words that it was handed, and what power lost leaves of these.
 use mathlib.Core.Path.{_≡_}
-use mathlib.Core.Bool.{cond}
+use mathlib.Core.Bool.{true, cond}
 use mathlib.Core.Logic.{_⊎_, _≢_}
 use mathlib.Core.Option.{some}
 use mathlib.Core.List.{List}
-use Prim.Native.Nat.{ℕ}
+use Prim.Native.Nat.{ℕ, _≤_}
 use lib.ListN.{length}
 use lib.Dec.{eqb}
 use Rattle.tree.specs.Memory.{reads, Entry, decode, CrashImage, passed, Fit}
 use Rattle.tree.specs.Layout.{mapWords, geometryOf}
 use Rattle.tree.specs.Fingerprint.{isGiven}
-use Rattle.book.specs.State.{State, Operation, format, recover, query, convert, arguments}
-use Rattle.book.specs.Table.{Table, emptyTable, allIdle}
+use Rattle.book.specs.State.{State, Operation, format, recover, query, has, convert, arguments}
+use Rattle.book.specs.Table.{Table, isPresent, emptyTable, allIdle}
 use Rattle.book.specs.Agrees.{Shows, Agrees}
 use Rattle.book.specs.Held.{tableOf}
 use Rattle.book.specs.Histories.{replied, Steady, Interrupted, Attempts, Recovered, Follows}
 use Rattle.book.specs.Demands.{Alike, Places}
 use Rattle.book.specs.Growth.{Growing}
+use Rattle.book.specs.PathNodes.{inUse, OpensReel, StaysSmall}
 use Rattle.operations.specs.Ends.{Buffers, noBuffers, state, Ends, ends}
 use Rattle.operations.specs.Chain.{counted, wordsIn, next, Fits, Called, afterCall, GoesOn}
 
@@ -78,9 +79,19 @@ pub data Driven : State → Table → Type 0 where
   -- any operation, answered or refused; the words that it handed out are carried out
   calls : {s : State} {t : Table} → Driven s t → (op : Operation) (b : Buffers) (e : Ends) → Fits op s → (c : Called op s b e)
       → Driven (afterCall c) (replied op s t .work .after)
-  -- power lost from an operation's call to its last barrier, and recover called until it answers 0. Between two calls that is k = 0 of the next
+  -- power lost from an operation's call to its last barrier, and recover called until it answers 0. Between two calls that is k = 0 of any
+  -- next one
   loses-power : {s s' : State} {t t' : Table} {m : List ℕ} → Driven s t → (op : Operation) (b : Buffers) (e : Ends) → Fits op s → Called op s b e
       → (k : ℕ) (c : CutShort op s e k m) → Recovers m s' → Whole (c .entries) k t (replied op s t .work .after) s' t' → Driven s' t'
+
+-- the driver opened the reel, which is there, and since then it never had more than 64 frames held, claimed and filled, a claim cut
+-- short counted in: `Small` (book, specs/PathNodes), for what the driver has done. A reel that it found, on a converted copy of its book
+-- too, it did not open
+abbrev pub KeptSmall : (reel : ℕ) {s : State} {t : Table} → Driven s t → Type 0
+KeptSmall reel (formats words table slots nodes s b e fit q h) = ⊥
+KeptSmall reel (finds v r) = ⊥
+KeptSmall reel (calls {s} {t} d op b e fit c) = StaysSmall reel op s t (replied op s t .work .after) (KeptSmall reel d)
+KeptSmall reel (loses-power {s} {t = t} {t' = t'} d op b e fit call k c r w) = StaysSmall reel op s t t' (KeptSmall reel d)
 
 -- however often recover was refused or cut short since power was lost
 pub record Survives (op : Operation) (s : State) (t : Table) (e : Ends) (k : ℕ) (m : List ℕ) (c : CutShort op s e k m) : Type 0 where
@@ -125,7 +136,18 @@ pub record Driver : Type 0 where
   -- where it has its book converted, it may go on with the copy: an image that shows the same table
   pub converts : (scratch copy : ℕ) (s s' : State) (t : Table) (b : Buffers) (e : Ends) → Driven s t
       → e ≡ ends (query (convert scratch copy)) s b → e .answer ≡ 0 → Recovers (e .buffers .copy) s' → Driven s' (allIdle t)
-  -- and however often recover was refused or cut short there, it comes to answer 0
+  -- of a reel that it has kept small, Has tells it that a lookup goes to one node
+  pub one-node : {s : State} {t : Table} (d : Driven s t) (reel f : ℕ) (b : Buffers) (e : Ends) → KeptSmall reel d → Fits (query (has reel f)) s
+      → e ≡ ends (query (has reel f)) s b → e .path-nodes ≡ 1
+  -- what keeps a reel small: calls, and power lost in them, with no more than 64 frames counted
+  pub small-calls : {s : State} {t : Table} (d : Driven s t) (reel : ℕ) (op : Operation) (b : Buffers) (e : Ends) (fit : Fits op s) (c : Called op s b e)
+      → OpensReel reel s op ⊎ KeptSmall reel d → length (inUse (replied op s t .work .after) reel) ≤ 64
+      → isPresent (replied op s t .work .after) reel ≡ true → KeptSmall reel (calls d op b e fit c)
+  pub small-cuts : {s s' : State} {t t' : Table} {m : List ℕ} (d : Driven s t) (reel : ℕ) (op : Operation) (b : Buffers) (e : Ends) (fit : Fits op s)
+      (call : Called op s b e) (k : ℕ) (c : CutShort op s e k m) (r : Recovers m s') (w : Whole (c .entries) k t (replied op s t .work .after) s' t')
+      → OpensReel reel s op ⊎ KeptSmall reel d → length (inUse (replied op s t .work .after) reel) ≤ 64
+      → isPresent t' reel ≡ true → KeptSmall reel (loses-power d op b e fit call k c r w)
+  -- however often recover was refused or cut short on an image that shows a table, it comes to answer 0
   pub accepted : (m m' map heads : List ℕ) (t : Table) (e : Ends) → Shows m t → Retries m m' → RecoverEnds m' map heads e
       → e .answer ≡ cond (eqb (length map) (mapWords (geometryOf (reads m')))) 0 3
   pub all-met : AllMet

@@ -1,4 +1,5 @@
--- What the driver finds when an operation has ended: its answer, the count and the places left handed back, and every buffer.
+-- What the driver finds when an operation has ended: its answer, the count, the places left and the number of nodes on the path that are
+-- handed back, and every buffer.
 use mathlib.Core.List.{List, []}
 use Prim.Native.Nat.{ℕ, _*_}
 use lib.ListN.{length}
@@ -31,15 +32,25 @@ pub record Ends : Type 0 where
   pub answer : ℕ
   pub count : ℕ
   pub places-left : ℕ
+  pub path-nodes : ℕ
   pub after : State
   pub buffers : Buffers
 
-abbrev pub endedLeft : (answer count places-left : ℕ) → State → Buffers → Ends
-endedLeft answer count left after b = record { answer = answer; count = count; places-left = left; after = after; buffers = b }
+abbrev pub endedTelling : (answer count places-left path-nodes : ℕ) → State → Buffers → Ends
+endedTelling answer count left nodes after b =
+    record { answer = answer; count = count; places-left = left; path-nodes = nodes; after = after; buffers = b }
 
--- with no places left to tell of: every operation but Claim
+-- Claim's end, with places left
+abbrev pub endedLeft : (answer count places-left : ℕ) → State → Buffers → Ends
+endedLeft answer count left after b = endedTelling answer count left 0 after b
+
+-- Has's end, with the number of nodes on the path
+abbrev pub endedPath : (answer count path-nodes : ℕ) → State → Buffers → Ends
+endedPath answer count nodes after b = endedTelling answer count 0 nodes after b
+
+-- every other operation's
 abbrev pub ended : (answer count : ℕ) → State → Buffers → Ends
-ended answer count after b = endedLeft answer count 0 after b
+ended answer count after b = endedTelling answer count 0 0 after b
 
 -- the count handed back: Has's yes or no, List's frames, 0 of Convert, else the script's words
 abbrev pub countIn : Operation → Work → ℕ
@@ -57,7 +68,7 @@ countIn (retire map scratch script reel) w = 2 * length (segmented (w .script))
 -- an outcome, as the driver finds it: the script written at its buffer's start, the frames at the list's
 unfoldable pub found : Operation → Outcome → Buffers → Ends
 found op o b =
-    endedLeft (o .answer) (countIn op (o .work)) (o .places-left) (o .work .after)
+    endedTelling (o .answer) (countIn op (o .work)) (o .places-left) (o .work .handed .path-nodes) (o .work .after)
     (allBuffers (scratchAfter (o .cleared) (b .scratch)) (written (segmented (o .work .script)) (b .script))
     (listed (o .work .handed .listing) (b .list)) (copyAfter (o .work .handed .copy) (b .copy)))
 

@@ -17,15 +17,12 @@ use Rattle.tree.specs.Path.{child}
 use Rattle.tree.specs.Node.{wellFormed}
 use Rattle.tree.specs.declared.path.Spot.{Spot}
 use Rattle.tree.specs.Fingerprint.{ruleOf}
-use Rattle.tree.specs.Lookup.{spot, before, path, pathFrom, firstSpot, clearAt, clearSpot, foundAt, lookup, lookupOn, find}
+use Rattle.tree.specs.Lookup.{spot, before, path, firstSpot, clearAt, clearSpot, foundAt, lookup}
 use Rattle.tree.proofs.Cases.{test}
 use Rattle.tree.proofs.Nodes.{children-inside}
 use Rattle.tree.proofs.Laws.{child-laws, node-laws}
 use Rattle.paths.specs.declared.descent.Step.{Step}
 use Rattle.paths.specs.declared.descent.Step.the-variants.{End, Down}
-use Rattle.paths.specs.declared.descent.Found.{Found}
-use Rattle.paths.specs.declared.descent.Found.the-variants.{Malformed, Absent, At}
-use Rattle.paths.specs.Answers.{onPath, foundAs, foundFrom}
 use Rattle.paths.specs.Descent.{stepFrom, numbered, orElse, passed, Along, clearIf}
 
 -- a well-formed node is inside the pool, and so is the child to which a frame goes
@@ -187,31 +184,3 @@ module _ {found : List ℕ → Option Spot} {search bound : ℕ → ℕ} (w : Se
       go : (ns : List ℕ) → orElse (firstSpot search bound ns) (firstSpot search bound (n ∷ [])) ≡ firstSpot search bound (ns ++ n ∷ [])
       go [] = refl
       go (k ∷ ns) = elim (test (ltb (search k) (bound k))) [ inl h ↦ rw h refl | inr h ↦ rw h (go ns) ]
-
--- ---- the lookup's answer
-
-abbrev pub spotIn : Found → Option Spot
-spotIn Malformed = none
-spotIn Absent = none
-spotIn (At t) = some t
-
-as-found : (o : Option Spot) → o ≡ spotIn (foundAs o)
-as-found none = refl
-as-found (some t) = refl
-
-pub find-spot : (g : Geometry) (m : Memory) (s f : ℕ) → find (ruleOf m) g m s f ≡ spotIn (foundFrom g m s f)
-unfolding find foundFrom
-find-spot g m s f = on-path (pathFrom g m s f)
-  where
-    on-path : (o : Option (List ℕ)) → lookupOn (ruleOf m) g m f o ≡ spotIn (onPath Malformed (λ ns. foundAs (lookup (ruleOf m) g m f ns)) o)
-    on-path none = refl
-    on-path (some ns) = as-found (lookup (ruleOf m) g m f ns)
-
-module _ (g : Geometry) (m : Memory) (s f : ℕ) where
-  pub found-malformed : pathFrom g m s f ≡ none → Malformed ≡ foundFrom g m s f
-  unfolding foundFrom
-  found-malformed e = rw e refl
-
-  pub found-end : {ns : List ℕ} {o : Option Spot} {r : Found} → pathFrom g m s f ≡ some ns → o ≡ lookup (ruleOf m) g m f ns → r ≡ foundAs o → r ≡ foundFrom g m s f
-  unfolding foundFrom
-  found-end e a q = rw e (q ∙ ap foundAs a)

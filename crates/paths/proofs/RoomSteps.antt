@@ -20,7 +20,7 @@ use Rattle.tree.specs.Room.{lastOf, fullRoom, roomFor, roomOn, placesLeft, atLe
 use Rattle.tree.proofs.Cases.{test, seen, nothing, just}
 use Rattle.tree.proofs.Nodes.{some-size}
 use Rattle.tree.proofs.Laws.{left-laws}
-use Rattle.tree.proofs.PathNodes.{PathNodes, pathFrom-nodes, last-formed, last-nowhere}
+use Rattle.tree.proofs.PathNodes.{PathNodes, last-formed, last-nowhere}
 use Rattle.paths.specs.declared.descent.Seen.{Seen}
 use Rattle.paths.specs.declared.descent.Seen.the-variants.{Nothing, At}
 use Rattle.paths.specs.declared.descent.Vacancy.{Vacancy}
@@ -85,4 +85,4 @@ module _ (g : Geometry) (m : Memory) (s f : ℕ) where
   placement-end {v = v} a c q =
       let ns = a .nodes in
       let e : v ≡ vacancyIn (leftOf g m (clearSpot g m ns)) (roomOn g m (some ns)) = rw (c, a .level, a .last, a .clear, a .left, room-end ns (clearSpot g m ns)) refl in
-      q ∙ rw (a .path, a .found, e ∙ vacancy-end ns (pathFrom-nodes g m s f ns (a .path))) refl
+      q ∙ rw (a .path, a .found, e ∙ vacancy-end ns (a .on-path)) refl

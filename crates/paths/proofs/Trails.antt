@@ -10,16 +10,19 @@ use Rattle.memory.specs.Words.{Memory}
 use Rattle.tree.specs.declared.layout.Geometry.{Geometry}
 use Rattle.tree.specs.declared.path.Spot.{Spot}
 use Rattle.tree.specs.Fingerprint.{ruleOf}
+use Rattle.tree.specs.Path.{levels}
 use Rattle.tree.specs.Slots.{rootOf}
-use Rattle.tree.specs.Lookup.{path, pathFrom, lookup}
+use Rattle.tree.specs.Lookup.{path, pathFrom, lookup, lookupOn, find}
 use Rattle.tree.specs.Room.{lastOf}
-use Rattle.tree.proofs.PathNodes.{Formed, pathFrom-nodes, last-formed}
+use Rattle.tree.proofs.PathNodes.{Formed, PathNodes, pathFrom-nodes, last-formed}
 use Rattle.paths.specs.declared.descent.Seen.{Seen}
 use Rattle.paths.specs.declared.descent.Seen.the-variants.{Nothing, At}
 use Rattle.paths.specs.declared.descent.Trail.{Trail}
 use Rattle.paths.specs.declared.descent.Trail.the-variants.{Malformed, Ended}
-use Rattle.paths.specs.Answers.{onPath}
-use Rattle.paths.specs.Descent.{Along, spotOf, leftOf, seenAs, clearIf, trailOn, trailFrom}
+use Rattle.paths.specs.declared.descent.Found.{Found}
+use Rattle.paths.specs.declared.descent.Found.the-variants as found
+use Rattle.paths.specs.Answers.{onPath, seenAs, foundOn, foundFrom}
+use Rattle.paths.specs.Descent.{Along, spotOf, leftOf, clearIf, trailOn, trailFrom}
 
 seen-spot : (x : Seen) → x ≡ seenAs (spotOf x)
 seen-spot Nothing = refl
@@ -57,6 +60,7 @@ trail-end seek {e = e} {ns = ns} {d = d} {n = n} {found = found} {clear = clear}
 pub record EndsAt (g : Geometry) (m : Memory) (seek : Bool) (s f n d : ℕ) (x y : Seen) (l : ℕ) : Type 0 where
   pub nodes : List ℕ
   pub path : pathFrom g m s f ≡ some nodes
+  pub on-path : PathNodes g m levels nodes
   pub last : n ≡ lastOf nodes
   pub formed : Formed g m n
   pub level : d ≡ length nodes - 1
@@ -75,6 +79,7 @@ module _ (g : Geometry) (m : Memory) (seek : Bool) (s f : ℕ) where
   says (some ns) q = record {
     nodes = ns;
     path = q;
+    on-path = pathFrom-nodes g m s f ns q;
     last = refl;
     formed = last-formed g m (pathFrom-nodes g m s f ns q);
     level = omega arith;
@@ -86,3 +91,32 @@ module _ (g : Geometry) (m : Memory) (seek : Bool) (s f : ℕ) where
   pub trail-says : {x y : Trail} → x ≡ trailFrom g m seek 0 (rootOf m s) f → x ≡ y → Says y
   unfolding trailFrom pathFrom
   trail-says {y = y} e q = subst Says (sym e ∙ q) (says (pathFrom g m s f) refl)
+
+-- ---- the lookup's answer
+
+module _ (g : Geometry) (m : Memory) (s f : ℕ) where
+  pub found-malformed : pathFrom g m s f ≡ none → found.Malformed ≡ foundFrom g m s f
+  unfolding foundFrom
+  found-malformed e = rw e refl
+
+  -- the path has a node, so the level of the last is one less than their number
+  pub found-end : {seek : Bool} {n d l : ℕ} {x y : Seen} → EndsAt g m seek s f n d x y l
+      → found.Ended x (d + 1) ≡ foundFrom g m s f
+  unfolding foundFrom
+  found-end {d = d} {x = x} a =
+      let k : d + 1 ≡ length (a .nodes) = omega (arith, a .level, a .on-path .some-node) in
+      rw (a .path, k, ← a .found, ← seen-spot x) refl
+
+-- what the answer says of the path
+
+abbrev pub spotIn : Found → Option Spot
+spotIn found.Malformed = none
+spotIn (found.Ended x k) = spotOf x
+
+pub find-spot : (g : Geometry) (m : Memory) (s f : ℕ) → find (ruleOf m) g m s f ≡ spotIn (foundFrom g m s f)
+unfolding find foundFrom
+find-spot g m s f = on-path (pathFrom g m s f)
+  where
+    on-path : (o : Option (List ℕ)) → lookupOn (ruleOf m) g m f o ≡ spotIn (onPath found.Malformed (foundOn g m f) o)
+    on-path none = refl
+    on-path (some ns) = sym (spot-seen (lookup (ruleOf m) g m f ns))

@@ -3,6 +3,7 @@ use mathlib.Core.Bool.{cond}
 use mathlib.Core.Option.{Option, none, some}
 use mathlib.Core.List.{List}
 use Prim.Native.Nat.{ℕ}
+use lib.ListN.{length}
 use Rattle.memory.specs.Words.{Memory}
 use Rattle.memory.specs.Apply.{isSome}
 use Rattle.tree.specs.declared.layout.Geometry.{Geometry}
@@ -11,6 +12,8 @@ use Rattle.tree.specs.declared.path.Room.{Room}
 use Rattle.tree.specs.Fingerprint.{ruleOf}
 use Rattle.tree.specs.Lookup.{pathFrom, lookup}
 use Rattle.tree.specs.Room.{roomOn, placesLeft, atLevel31}
+use Rattle.paths.specs.declared.descent.Seen.{Seen}
+use Rattle.paths.specs.declared.descent.Seen.the-variants as seen
 use Rattle.paths.specs.declared.descent.Found.{Found}
 use Rattle.paths.specs.declared.descent.Found.the-variants as found
 use Rattle.paths.specs.declared.descent.Vacancy.{Vacancy}
@@ -22,13 +25,16 @@ abbrev pub onPath : {A : Type 0} → A → (List ℕ → A) → Option (List ℕ
 onPath malformed go none = malformed
 onPath malformed go (some ns) = go ns
 
-abbrev pub foundAs : Option Spot → Found
-foundAs none = found.Absent
-foundAs (some t) = found.At t
+abbrev pub seenAs : Option Spot → Seen
+seenAs none = seen.Nothing
+seenAs (some t) = seen.At t
 
--- the lookup of a frame from a slot
+-- the lookup of a frame from a slot, with the number of nodes on its path
+abbrev pub foundOn : Geometry → Memory → (frame : ℕ) → List ℕ → Found
+foundOn g m f ns = found.Ended (seenAs (lookup (ruleOf m) g m f ns)) (length ns)
+
 unfoldable pub foundFrom : Geometry → Memory → (slot frame : ℕ) → Found
-foundFrom g m s f = onPath found.Malformed (λ ns. foundAs (lookup (ruleOf m) g m f ns)) (pathFrom g m s f)
+foundFrom g m s f = onPath found.Malformed (foundOn g m f) (pathFrom g m s f)
 
 -- a room, with the places left in its node once the place is taken
 abbrev pub vacancy : Room → (left : ℕ) → Vacancy

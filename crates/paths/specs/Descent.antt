@@ -25,7 +25,7 @@ use Rattle.paths.specs.declared.descent.Trail.{Trail}
 use Rattle.paths.specs.declared.descent.Trail.the-variants as trail
 use Rattle.paths.specs.declared.descent.Trail.the-variants.{Ended}
 use Rattle.paths.specs.declared.descent.Vacancy.{Vacancy}
-use Rattle.paths.specs.Answers.{onPath, vacancy}
+use Rattle.paths.specs.Answers.{onPath, seenAs, vacancy}
 
 -- how a frame's path goes on from a node of a level
 unfoldable pub stepFrom : Geometry → Memory → (level node frame : ℕ) → Step
@@ -64,10 +64,6 @@ pub record Along (g : Geometry) (m : Memory) (e s f : ℕ) (ns : List ℕ) (d n 
   pub low : d ≤ 31
   pub count : e + length ns ≡ d
   pub rest : path g m (32 - e) e s f ≡ passed ns (path g m (32 - d) d n f)
-
-abbrev pub seenAs : Option Spot → Seen
-seenAs none = Nothing
-seenAs (some t) = At t
 
 -- the first clear place of nodes, for a walk that seeks one
 unfoldable pub clearIf : Geometry → Memory → (seek : Bool) → List ℕ → Option Spot

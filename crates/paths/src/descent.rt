@@ -10,7 +10,7 @@ ghost use Rattle.tree.specs.Node.{wellFormed};
 ghost use Rattle.tree.specs.Slots.{Filled, rootOf};
 ghost use Rattle.tree.specs.Lookup.{lookup};
 ghost use Rattle.tree.specs.Room.{atLevel31};
-ghost use Rattle.paths.specs.Answers.{foundAs, foundFrom, placementAs, placementFrom};
+ghost use Rattle.paths.specs.Answers.{foundFrom, placementAs, placementFrom};
 ghost use Rattle.paths.specs.Descent.{stepFrom, spotOf, numbered, TellsLeft, orElse, clearIf, trailFrom};
 ghost use Rattle.paths.specs.Descent.{roomAt, vacancyIn};
 use nodes::node::clear_place;
@@ -26,18 +26,18 @@ use tree::path::Room;
 use tree::path::Spot;
 use tree::path::child;
 
-// Where the lookup finds a frame.
-pub enum Found {
-    // A node of the path is malformed.
-    Malformed,
-    Absent,
-    At(Spot),
-}
-
 // What a search of a path's nodes has seen.
 pub enum Seen {
     Nothing,
     At(Spot),
+}
+
+// What the lookup of a frame finds.
+pub enum Found {
+    // A node of the path is malformed.
+    Malformed,
+    // The first place that holds the frame, and how many nodes the path has, wherever that place is.
+    Ended { found: Seen, nodes: u64 },
 }
 
 // How a walk along a frame's path ends.
@@ -210,17 +210,7 @@ fn walk_from(image: &[u64], g: Geometry, slot: usize, frame: u64, print: u64, se
     walk(image, g, 0, root - 1, frame, print, seek)
 }
 
-// The lookup's answer at the end of a path.
-fn found_as(found: Seen) -> Found
-    ensures { λ r. ⌜ r ≡ foundAs (spotOf found) ⌝ }
-{
-    match found {
-        Seen::Nothing => Found::Absent,
-        Seen::At(spot) => Found::At(spot),
-    }
-}
-
-// The lookup of a frame from a filled slot. It seeks no clear place.
+// The lookup of a frame from a filled slot. It seeks no clear place. The path has a node for each level down to its last node's.
 pub fn find(image: &[u64], g: Geometry, slot: usize, frame: u64, print: u64) -> Found
     requires { ⌜
         Sized (now image) g
@@ -233,11 +223,14 @@ pub fn find(image: &[u64], g: Geometry, slot: usize, frame: u64, print: u64) -> 
         Trail::Malformed => Found::Malformed,
         Trail::Ended {
             node: _,
-            level: _,
+            level,
             found,
             clear: _,
             left: _,
-        } => found_as(found),
+        } => Found::Ended {
+            found,
+            nodes: level + 1,
+        },
     }
 }
 

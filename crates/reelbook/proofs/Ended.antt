@@ -5,11 +5,12 @@ use Prim.Native.Nat.{ℕ}
 use Rattle.book.specs.State.{State, Operation, format, recover}
 use Rattle.operations.specs.declared.answer.HeadAnswer.{HeadAnswer}
 use Rattle.operations.specs.HeadLists.{headAnswerOf, HeadInside}
-use Rattle.operations.specs.Ends.{Buffers, Ends, endedLeft, ended, found, ends}
+use Rattle.operations.specs.Ends.{Buffers, Ends, endedTelling, ended, found, ends}
 use Rattle.operations.proofs.HandedOver.{OfHead, inside}
 
-pub head-inside : {h : ℕ} {op : Operation} → OfHead h op → (s : State) (b : Buffers) (r : HeadAnswer) {k l : ℕ} {s' : State} {b' : Buffers}
-    → endedLeft (headAnswerOf r) k l s' b' ≡ ends op s b → HeadInside h r
+pub head-inside : {h : ℕ} {op : Operation} → OfHead h op → (s : State) (b : Buffers) (r : HeadAnswer)
+    {k l d : ℕ} {s' : State} {b' : Buffers}
+    → endedTelling (headAnswerOf r) k l d s' b' ≡ ends op s b → HeadInside h r
 head-inside o s b r e = inside o s b r (ap (λ (x : Ends). x .answer) e)
 
 -- an end with no count, by whatever count it was told

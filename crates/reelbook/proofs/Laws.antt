@@ -13,15 +13,15 @@ use Rattle.book.specs.State.{State, Operation, query, list, Work, leaving}
 use Rattle.book.specs.Refusals.{refusal}
 use Rattle.book.specs.Checks.{refusals}
 use Rattle.book.specs.Perform.{perform, granted}
-use Rattle.operations.specs.Ends.{Buffers, Ends, endedLeft, ended, found, ends}
+use Rattle.operations.specs.Ends.{Buffers, Ends, endedTelling, ended, found, ends}
 use Rattle.reelbook.specs.Laws.{CountsScript, CountLaws}
 
 -- a buffer that is as long with other words at its start in place of its own has room for them
 at-start : (xs buffer : List ℕ) → length (xs ++ drop (length xs) buffer) ≡ length buffer → length xs ≤ length buffer
 at-start xs buffer same = omega (arith, length-append xs (drop (length xs) buffer), length-drop (length xs) buffer)
 
-script-inside : (op : Operation) (s : State) (b : Buffers) {n k l : ℕ} {s' : State} {b' : Buffers} → CountsScript op
-    → endedLeft n k l s' b' ≡ ends op s b → length (b' .script) ≡ length (b .script) → k ≤ length (b' .script)
+script-inside : (op : Operation) (s : State) (b : Buffers) {n k l d : ℕ} {s' : State} {b' : Buffers} → CountsScript op
+    → endedTelling n k l d s' b' ≡ ends op s b → length (b' .script) ≡ length (b .script) → k ≤ length (b' .script)
 unfolding ends found
 script-inside op s b counts e same =
     let es = segmented (perform op s .work .script) in

@@ -11,7 +11,7 @@ ghost use lib.ListN.{length};
 ghost use Rattle.book.specs.State.{format, recover, openReel, claim, fill, commit, abandon, remove, retire};
 ghost use Rattle.book.specs.State.{query, has, list as list-reel, convert};
 ghost use Rattle.book.specs.CarryOut.{carry, carried};
-ghost use Rattle.operations.specs.Ends.{allBuffers, buffers, noBuffers, state, ended, endedLeft, ends};
+ghost use Rattle.operations.specs.Ends.{allBuffers, buffers, noBuffers, state, ended, endedLeft, endedPath, ends};
 use claims::claim;
 use images::apply;
 use images::convert;
@@ -200,16 +200,25 @@ pub extern "C" fn reelbook_remove(
     )
 }
 
-// Does a reel hold a frame? 1 or 0.
+// Does a reel hold a frame? 1 or 0. Tells how many nodes are on the frame's path, wherever on it the frame is, or if it is not.
 #[no_mangle]
-pub extern "C" fn reelbook_has(image: &[u64], reel: u64, frame: u64, yes: &mut u64) -> u64
+pub extern "C" fn reelbook_has(
+    image: &[u64],
+    reel: u64,
+    frame: u64,
+    yes: &mut u64,
+    nodes: &mut u64,
+) -> u64
     ensures { λ r. ⌜
         ((pool heads : List ℕ)
-        → ended r (now (yes .exit)) (state (now (image .entry)) pool heads) noBuffers
+        → endedPath r (now (yes .exit)) (now (nodes .exit)) (state (now (image .entry)) pool heads) noBuffers
         ≡ ends (query (has reel frame)) (state (now (image .entry)) pool heads) noBuffers)
         ⌝ }
 {
-    hand_over(frames::has(image, reel, frame), yes)
+    let had = frames::has(image, reel, frame);
+    let answer = had.answer;
+    *nodes = had.nodes;
+    hand_over(answer, yes)
 }
 
 // Lists a reel's frames.

@@ -1,2 +1,4 @@
 pub mod Starred
+pub mod FullReel
 pub mod TwoInTree
+pub mod CutClaim

@@ -1,7 +1,6 @@
 -- A crash with two claims in one tree: a history comes to such a book, and a crash in its commit may keep or lose the frame.
 use mathlib.Core.Path.{_≡_, refl}
-use mathlib.Core.List.{List, [], _∷_, flatMap}
-use Prim.Native.Nat.{ℕ, _^_, _≤_}
+use mathlib.Core.List.{flatMap}
 use native.Mathlib.Omega.{arith}
 use Rattle.tree.specs.MemoryComputed.{field, withField, bit, isSet, withBit, byte, withByte, marked, first}
 use Rattle.tree.specs.MemoryComputed.{stores, segmented, apply}
@@ -14,41 +13,25 @@ use Rattle.tree.specs.Slots.{filled, slotOf, emptySlot}
 use Rattle.tree.specs.Lookup.{firstSpot, path, pathFrom, clearAt, clearSpot, matches, foundAt, lookup, find, isFreeRun, freeRun}
 use Rattle.tree.specs.Pool.{mark, markAll}
 use Rattle.tree.specs.Room.{lastOf, fullRoom, roomOn}
-use Rattle.tree.proofs.Lists.{upTo-members}
 use Rattle.book.specs.declared.HeadState.the-variants.{Claimed, Filled}
 use Rattle.book.specs.Heads.{stateOf, headAt, wordsOf, withHead, anyHead}
 use Rattle.book.specs.Refusals.{refusal}
-use Rattle.book.specs.State.{Operation, format, claim, commit, query, has, arguments}
+use Rattle.book.specs.State.{claim, commit, query, has}
 use Rattle.book.specs.Checks.{refusals}
 use Rattle.book.specs.Perform.{formatStores, openScript, roomScript, claimScript, fillScript, granted, leaves, clears, perform}
 use Rattle.book.specs.Table.{Table}
 use Rattle.book.specs.Histories.{done, Follows}
-use Rattle.book.specs.Starred.{run, formatted, keeps, opens, withFrames}
+use Rattle.book.specs.Starred.{run, formatted, keeps, withFrames}
 use Rattle.book.specs.Witnesses.{twoInTree, TwoInTree}
-use Rattle.book.proofs.Entries.{Each, each-flatMap}
-use Rattle.book.proofs.Sample.{Words, zeros, format-follows, run-follows, Tells, told-apart}
+use Rattle.book.proofs.Sample.{run-follows, Tells, told-apart}
 use Rattle.book.proofs.Demands.{demand3, witnesses}
+use Rattle.starred.proofs.FullReel.{full-history}
 
 -- ---- the history
 
--- operations whose numbers are words
-abbrev InWords : List Operation → Type 0
-InWords = Each (λ op. Words (arguments op))
-
-keeps-words : (k : ℕ) → k ≤ 2 ^ 64 → InWords (flatMap (keeps 7) (upTo k))
-unfolding keeps
-keeps-words k l = each-flatMap (λ op. Words (arguments op)) (keeps 7) (upTo k) (λ f x. omega (arith, upTo-members k .0 x))
-
-format-answers : perform (format 1 [] 1 3) (zeros 1 3) .answer ≡ 0
-unfolding perform refusals badImage refusal badGiven isGiven
-format-answers = refl
-
 history : (t : Table) × Follows twoInTree t
-unfolding twoInTree withFrames
-history =
-    let fresh = format-follows 1 3 format-answers in
-    let full = run-follows (opens 7 ∷ flatMap (keeps 7) (upTo 64)) (omega arith, keeps-words 64 (omega arith)) fresh in
-    (_, run-follows _ (omega arith) full)
+unfolding twoInTree
+history = (_, run-follows _ (omega arith) (full-history .0))
 
 -- ---- the computed answers
 

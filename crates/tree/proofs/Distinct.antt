@@ -4,13 +4,14 @@ use mathlib.Core.Bool.{Bool, true, false, not, _&&_, _||_}
 use mathlib.Core.Logic.{_⊎_, inl, inr, _≢_}
 use mathlib.Core.List.{List, [], _∷_, _++_, map, flatMap, List·Memᴰ·append-cases, Memᴰ·append-left, Memᴰ·append-right}
 use mathlib.Core.List.{List·Memᴰ, List·Memᴰ·head, List·Memᴰ·tail, List·Memᴰ·cases-cons, List·Memᴰ·not-nil, Memᴰ·of-map}
-use Prim.Native.Nat.{ℕ, zero, suc}
+use Prim.Native.Nat.{ℕ, zero, suc, _<_}
 use native.Mathlib.Omega.{arith}
+use lib.ListN.{length, getD}
 use lib.Dec.{eqb}
 use borrow.Author.Tests.{eqb-true, eq-eqb, not-true}
 use Rattle.tree.specs.Lists.{range, upTo, keep, hasKey, distinct, Distinct, empty, onto}
 use Rattle.tree.proofs.Cases.{test, true-not-false, not-false, and-true, or-true, or-left, or-right}
-use Rattle.tree.proofs.Lists.{within, together, in-range, kept}
+use Rattle.tree.proofs.Lists.{index-of, within, together, in-range, kept}
 
 module _ {A : Type 0} (key : A → ℕ) where
   -- ---- the test
@@ -78,7 +79,7 @@ module _ {A : Type 0} {key : A → ℕ} where
     | inr z' ↦ distinct-apart xs d z' t e
   ]
 
-  distinct-append : {xs ys : List A} → Distinct key xs → Distinct key ys → ((x y : A) → List·Memᴰ x xs → List·Memᴰ y ys → key x ≢ key y)
+  pub distinct-append : {xs ys : List A} → Distinct key xs → Distinct key ys → ((x y : A) → List·Memᴰ x xs → List·Memᴰ y ys → key x ≢ key y)
       → Distinct key (xs ++ ys)
   distinct-append empty e h = e
   distinct-append {ys = ys} (onto {x} {xs} a d) e h =
@@ -132,6 +133,23 @@ distinct-by key empty h = empty
 distinct-by key (onto {x} {xs} a d) h =
     onto (λ y z q. a y z (h y x (List·Memᴰ·tail z) (List·Memᴰ·head refl) q))
     (distinct-by key d (λ v y z z'. h v y (List·Memᴰ·tail z) (List·Memᴰ·tail z')))
+
+-- what is kept of a list, by keys that tell the indices of what is kept
+pub distinct-at : {A : Type 0} (d : A) (key : A → ℕ) (p : A → Bool) (xs : List A)
+    → ((i j : ℕ) → i < length xs → j < length xs → p (getD xs i d) ≡ true → p (getD xs j d) ≡ true → key (getD xs i d) ≡ key (getD xs j d) → i ≡ j)
+    → Distinct key (keep p xs)
+unfolding keep
+distinct-at d key p [] h = empty
+distinct-at d key p (x ∷ xs) h =
+    let below = distinct-at d key p xs (λ i j l l' e e' q. let z = h (suc i) (suc j) (omega arith) (omega arith) e e' q in omega arith) in
+    elim (test (p x)) [
+      | inl e ↦ rw e (onto (λ y z q.
+          let k = kept p xs z in
+          let i = index-of d (k .0) in
+          let n = h (suc (i .0)) 0 (omega (arith, i .1)) (omega arith) (ap p (i .2) ∙ k .1) e (ap key (i .2) ∙ q) in
+          omega arith) below)
+      | inr e ↦ rw e below
+    ]
 
 -- a list made from another, by the keys of what is made
 pub distinct-made : {A B : Type 0} (f : A → B) (key : B → ℕ) {xs : List A} → Distinct (λ x. key (f x)) xs → Distinct key (map f xs)

@@ -8,10 +8,22 @@ use Prim.Native.Nat.{ℕ, zero, suc, _+_, _-_, _≤_, _<_}
 use native.Mathlib.Omega.{arith}
 use native.Mathlib.Numerals.{add-one}
 use native.Mathlib.Decide.{ℕ-discrete}
+use lib.ListN.{length, getD}
 use Rattle.tree.specs.Lists.{range, upTo, keep, every}
 use Rattle.tree.proofs.Cases.{test, and-true, true-and, and-swap}
 
 -- ---- membership
+
+-- by an element's index
+module _ {A : Type 0} (d : A) where
+  pub at-index : (xs : List A) (i : ℕ) → i < length xs → List·Memᴰ (getD xs i d) xs
+  at-index [] i h = absurd (omega arith)
+  at-index (x ∷ xs) zero h = List·Memᴰ·head refl
+  at-index (x ∷ xs) (suc i) h = List·Memᴰ·tail (at-index xs i (omega arith))
+
+  pub index-of : {xs : List A} {x : A} → List·Memᴰ x xs → (i : ℕ) × (i < length xs) × (getD xs i d ≡ x)
+  index-of (List·Memᴰ·head {x} {xs} q) = (0, omega arith, sym q)
+  index-of (List·Memᴰ·tail {x} {xs} y) = let a = index-of y in (suc (a .0), omega (arith, a .1), a .2)
 
 -- an element of some of the lists that are put together
 pub record Within {A B : Type 0} (f : A → List B) (xs : List A) (b : B) : Type 0 where

@@ -19,7 +19,7 @@ use Rattle.tree.specs.Fingerprint.{Rule, fingerprint, theTable, ruleFor,
 use Rattle.tree.specs.Laws.{TableLaws, RuleLaws}
 use Rattle.tree.proofs.Cases.{test, not-false, true-not-false}
 use Rattle.tree.proofs.Tests.{says, said}
-use Rattle.tree.proofs.Lists.{upTo-members, every-at, at-every}
+use Rattle.tree.proofs.Lists.{at-index, index-of, upTo-members, every-at, at-every}
 use Rattle.tree.proofs.Distinct.{has-key, key-has, distinct-by, distinct-upTo}
 use Rattle.tree.proofs.Pigeon.{pigeon, length-upTo}
 use Rattle.tree.proofs.Fingerprints.{same-table, table-at, table-length, table-once, unpacked-length, unpacked-at, own-rule, our-rule}
@@ -32,25 +32,16 @@ pub record AmongFirst (t : List ℕ) (k b : ℕ) : Type 0 where
   pub low : index < k
   pub is : getD t index 0 ≡ b
 
-pub at-index : (t : List ℕ) (i : ℕ) → i < length t → List·Memᴰ (getD t i 0) t
-at-index [] i h = absurd (omega arith)
-at-index (x ∷ xs) zero h = List·Memᴰ·head refl
-at-index (x ∷ xs) (suc i) h = List·Memᴰ·tail (at-index xs i (omega arith))
-
-index-of : {t : List ℕ} {b : ℕ} → List·Memᴰ b t → AmongFirst t (length t) b
-index-of (List·Memᴰ·head {x} {xs} q) = record { index = 0; low = omega arith; is = sym q }
-index-of (List·Memᴰ·tail {x} {xs} y) = let a = index-of y in record { index = suc (a .index); low = omega (arith, a .low); is = a .is }
-
 pub lacks-no : (t : List ℕ) → (hasEvery t ≡ true) ↔ ((b : ℕ) → b < 256 → AmongFirst t (length t) b)
 unfolding hasEvery
 lacks-no t = (
   λ e b h.
       let x = key-has (λ x. x) b t (every-at _ e (upTo-members 256 .1 h)) in
-      let i = index-of (x .1) in
-      record { index = i .index; low = i .low; is = i .is ∙ x .2 },
+      let i = index-of 0 (x .1) in
+      record { index = i .0; low = i .1; is = i .2 ∙ x .2 },
   λ f. at-every _ (upTo 256) (λ b x.
       let a = f b (upTo-members 256 .0 x) in
-      rw (a .is) at (has-key (λ x. x) (at-index t (a .index) (a .low)))),
+      rw (a .is) at (has-key (λ x. x) (at-index 0 t (a .index) (a .low)))),
 )
 
 -- ---- each byte has a place of its own among 256, so that every place is some byte's
@@ -229,7 +220,7 @@ lacks t l = (
       record {
         lacking = x .0;
         low = upTo-members 256 .0 (x .1);
-        nowhere = λ i h q. true-not-false (rw q at (has-key (λ y. y) (at-index t i (omega (arith, l))))) (x .2);
+        nowhere = λ i h q. true-not-false (rw q at (has-key (λ y. y) (at-index 0 t i (omega (arith, l))))) (x .2);
       },
   λ a. elim (test (hasEvery t)) [
     | inl e ↦ let x = lacks-no t .0 e (a .lacking) (a .low) in absurd (a .nowhere (x .index) (omega (arith, x .low, l)) (x .is))

@@ -9,7 +9,8 @@ use Rattle.operations.specs.Ends.{buffers, state}
 use Rattle.operations.proofs.Passed.{Checked, all-checked}
 use Rattle.operations.proofs.Tested.{SlotRead, filled-slot, check-bad, no-reel}
 use Rattle.operations.proofs.HeadRecords.{any-read}
-use Rattle.lookups.proofs.FrameLookups.{Looked, found-inside, on-remove, remove-busy, remove-malformed, remove-absent, removed}
+use Rattle.lookups.proofs.FrameLookups.{Looked, ended-with, found-inside}
+use Rattle.lookups.proofs.FrameLookups.{on-remove, remove-busy, remove-malformed, remove-absent, removed}
 use borrow.Author.Needs.{needs}
 use Rattle.lookups.proofs.frames.remove.Statement.{statement}
 use Rattle.lookups.proofs.frames.remove.Tie as tie
@@ -67,9 +68,11 @@ returns-3 c pool ws e =
 
 put-remove-requires : tie.Need-put-remove-requires
 put-remove-requires c κs =
-    let p = looked (c .before .before .before .before) in
+    let spot = c .before .before in
+    let end = spot .before .before .before in
+    let p = looked (end .before .before) in
     let size = p .slot-read .checked in
-    let there = found-inside _ _ _ _ (p .answer) (c .before .before .t .given .1) in
+    let there = found-inside _ _ _ _ (p .answer) (ended-with (end .found .given .1) (spot .found2 .given .1)) in
     (size .sized, there .0, there .1, omega arith)
 
 returns-4 : tie.Need-returns-4
@@ -80,17 +83,21 @@ returns-4 c pool ws e =
 
 returns-5 : tie.Need-returns-5
 returns-5 c pool ws e =
-    let find = c .before .before in
+    let end = c .before .before .before in
+    let find = end .before .before in
     let free = find .before .before in
-    remove-absent (state _ pool ws) _ _ _ (busy-told (free .before) ws e ∙ free .if2 .left) (looked find) (c .enum-told2 .given .1)
+    remove-absent (state _ pool ws) _ _ _ (busy-told (free .before) ws e ∙ free .if2 .left) (looked find)
+    (ended-with (end .found .given .1) (c .enum-told2 .given .1))
 
 returns-6 : tie.Need-returns-6
 returns-6 c pool ws e =
     let put = c .before .before in
     let spot = put .before .before .before in
-    let find = spot .before .before in
+    let end = spot .before .before .before in
+    let find = end .before .before in
     let free = find .before .before in
-    removed (state _ pool ws) _ _ _ (busy-told (free .before) ws e ∙ free .if2 .left) (looked find) (spot .t .given .1) _ (put .put-remove .ensures)
+    removed (state _ pool ws) _ _ _ (busy-told (free .before) ws e ∙ free .if2 .left) (looked find)
+    (ended-with (end .found .given .1) (spot .found2 .given .1)) _ (put .put-remove .ensures)
 
 pub remove-spec : {M : Type 1} → statement M
 remove-spec =
@@ -108,6 +115,7 @@ remove-spec =
     (λ c κs. let told = c .before .before .before in
     let p = slot-read (told .before .before) in
     (p .checked .sized, filled-slot p (told .if1 .left), c .fingerprint .ensures))
+    (λ c. search needs)
     (λ c. search needs)
     (λ c. search needs)
     (λ c. search needs)

@@ -1,0 +1,7 @@
+/* The part of check-header that is about Has. */
+#ifndef LOOKUPS_H
+#define LOOKUPS_H
+
+void check_lookups(void);
+
+#endif

@@ -1,8 +1,8 @@
 /* The reel book written by hand in C: the same image, the same walk with the same checks of a node, the same stores and barriers,
- * and nothing between them: no scripts, no answers, no heads, no buffers that a caller lends. Insert is claim, fill and commit in
- * one, and tells the places left as Claim does; a lookup tells the nodes on the path as Has does. What a plain program would do is
- * done so: a list copies place by place, and recovery looks every frame up from its root, which is how the paper says what a sound
- * image is. */
+ * and nothing between them: no scripts, no answers, no heads, no buffers that a caller lends. Insert is claim, fill and commit
+ * in one, and tells the places left as Claim does; a lookup tells the nodes on the path as Has does. What a plain program would
+ * do is done so: a list copies place by place, and recovery looks every frame up from its root, which is how the paper says what
+ * a sound image is. */
 #include "book.h"
 
 #include <stdlib.h>

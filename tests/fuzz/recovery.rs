@@ -145,8 +145,8 @@ impl History<'_> {
         self.crash(&Crash::in_recover(image, &self.lent.image), &both, &both, false, None)
     }
 
-    /// Tries what the crash can leave, and goes on from the last one tried. `passed`: the script's last barrier has passed. Has is
-    /// asked in the reel of the call cut short each time, in the others at last.
+    /// Tries what the crash can leave, and goes on from the last one tried. `passed`: the script's last barrier has passed. Has
+    /// is asked in the reel of the call cut short each time, in the others at last.
     fn crash(
         &mut self,
         crash: &Crash,

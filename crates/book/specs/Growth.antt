@@ -29,6 +29,7 @@ module _ (im : List ℕ) where
   abbrev pub sizeIn : ℕ → ℕ
   sizeIn n = reads im (sizeAt shapeIn n)
 
+  -- the reel that a slot has
   abbrev pub reelIn : (slot : ℕ) → ℕ
   reelIn slot = reads im (reelAt slot)
 

@@ -25,6 +25,7 @@ pub record CountsPath (s : State) (reel f count : ℕ) : Type 0 where
   pub from : 1 ≤ count
   pub to : count ≤ 32
 
+-- Has of a reel and a frame
 abbrev pub hasOf : (reel f : ℕ) → State → Outcome
 hasOf reel f s = perform (query (has reel f)) s
 
@@ -56,10 +57,11 @@ Small reel (performed {s} {t} h op fit) = StaysSmall reel op s t (replied op s t
 Small reel (before {s} {t = t} h op fit k c r n b) = StaysSmall reel op s t (allIdle t) (Small reel h)
 Small reel (after {s} {t = t} h op fit k c r b) = StaysSmall reel op s t (allIdle (replied op s t .work .after)) (Small reel h)
 
--- that this is no less than the paper says: what a reel goes on from with a step
+-- before a step: the reel is opened by it, or has been small so far, and the table that the operation makes has no more than 64
 abbrev pub SmallSoFar : (reel : ℕ) (op : Operation) {s : State} {t : Table} → Follows s t → Type 0
 SmallSoFar reel op {s} {t} h = (OpensReel reel s op ⊎ Small reel h) × (length (inUse (replied op s t .work .after) reel) ≤ 64)
 
+-- that `Small` is no less than the paper says
 pub record SmallRules : Type 0 where
   -- a reel just opened has no frame
   pub opened : {s : State} {t : Table} → Follows s t → (reel : ℕ) (op : Operation) → Fit (arguments op) → OpensReel reel s op

@@ -26,6 +26,7 @@ Programs and the library; rt, of the Rattle kit, is needed for all:
   make bench          times beside other stores; QUICK=1 the book alone; BEFORE= an earlier build; EDITION=1 on such images
   make bench-operations  each operation by itself, in the cache, without and with an own table; BEFORE= too
   make bench-convert  Convert beside a plain copy and beside Recover
+  make bench-tidy     Tidy beside List, in large reels and small ones
   make bench-docs     the tables and the plot of the last whole run go to docs/
   make clean          remove build/; what is proved, in target/, stays
 

@@ -45,8 +45,15 @@ BATCH(has, reelbook_has(IMAGE, b->reel, c->frame, &b->number PATH_NODES))
 BATCH(list, reelbook_list(IMAGE, SCRATCH, b->list, LIST_WORDS, b->reel, &b->number))
 BATCH(retire, reelbook_retire(IMAGE, MAP, c->heads, SCRATCH, SCRIPT, b->reel, &b->number))
 
+/* Builds before 5.1 have no Tidy. There is no empty group: it is to walk through the whole reel twice, and answer 18. */
+#if REELBOOK_VERSION_MAJOR < 5 || (REELBOOK_VERSION_MAJOR == 5 && REELBOOK_VERSION_MINOR < 1)
+#define tidy NULL
+#else
+BATCH(tidy, reelbook_tidy(IMAGE, MAP, c->heads, SCRATCH, SCRIPT, b->reel, &b->number) ^ REELBOOK_NO_EMPTY_GROUP)
+#endif
+
 const struct build build = {
     .run = {[FORMAT] = format, [RECOVER] = recover, [OPEN] = open_reel, [CLAIM] = claim, [FILL] = fill, [COMMIT] = commit,
-            [ABANDON] = abandon, [REMOVE] = take_out, [HIT] = has, [MISS] = has, [LIST] = list, [RETIRE] = retire},
+            [ABANDON] = abandon, [REMOVE] = take_out, [HIT] = has, [MISS] = has, [LIST] = list, [RETIRE] = retire, [TIDY] = tidy},
     .tells_nodes = REELBOOK_VERSION_MAJOR >= 5,
 };

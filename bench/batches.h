@@ -4,7 +4,7 @@
 
 #include "reelbook.h"
 
-enum operation { FORMAT, RECOVER, OPEN, CLAIM, FILL, COMMIT, ABANDON, REMOVE, HIT, MISS, LIST, RETIRE, OPERATIONS };
+enum operation { FORMAT, RECOVER, OPEN, CLAIM, FILL, COMMIT, ABANDON, REMOVE, HIT, MISS, LIST, RETIRE, TIDY, OPERATIONS };
 
 enum { SLOTS = 8, NODES = 128, MAP_WORDS = (NODES + 63) / 64, LIST_WORDS = 1024, CALLS = 64 };
 
@@ -29,9 +29,9 @@ struct batch {
     uint64_t number, left, nodes; /* what the last call handed back */
 };
 
-/* A batch hands back all answers in one: 0 if every call was done. */
+/* A batch hands back all answers in one: 0 if every call ended as it should. */
 struct build {
-    uint64_t (*run[OPERATIONS])(struct batch *batch);
+    uint64_t (*run[OPERATIONS])(struct batch *batch); /* NULL if the build has no such operation */
     int tells_nodes; /* on a path, when a frame is looked up */
 };
 

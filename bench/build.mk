@@ -7,8 +7,9 @@
 # make bench-operations: each operation by itself, in the cache, without and with an own table; LIBRARY, RUN, BEFORE and
 # BEFORE_INCLUDE as above.
 # make bench-convert: Convert beside a plain copy and beside Recover; LIBRARY and RUN as above.
+# make bench-tidy: Tidy beside List, in large reels and small ones; LIBRARY and RUN as above.
 # make bench-docs: the tables and the plot of the last whole run go to docs/.
-.PHONY: bench bench-operations bench-convert bench-docs
+.PHONY: bench bench-operations bench-convert bench-tidy bench-docs
 
 MEMORY ?= /dev/shm
 DISK ?= build
@@ -55,10 +56,18 @@ bench-operations: $(LIBRARY)
 	    $(if $(BEFORE),-DHAVE_BEFORE $(PLACES:%=build/before-%.o)) $(LIBRARY)
 	@$(RUN) build/operations
 
+# Works on whole images, and what they are made of.
+WHOLE_IMAGES = bench/images.c bench/rounds.c tests/book.c
+
 bench-convert: $(LIBRARY)
 	@mkdir -p build
-	@$(CC) $(WARNINGS) $(CFLAGS) -Iinclude -Itests -o build/convert bench/convert.c tests/converted.c tests/book.c $(LIBRARY)
+	@$(CC) $(WARNINGS) $(CFLAGS) -Iinclude -Itests -o build/convert bench/convert.c tests/converted.c $(WHOLE_IMAGES) $(LIBRARY)
 	@$(RUN) build/convert
+
+bench-tidy: $(LIBRARY)
+	@mkdir -p build
+	@$(CC) $(WARNINGS) $(CFLAGS) -Iinclude -Itests -o build/tidy bench/tidy.c $(WHOLE_IMAGES) $(LIBRARY)
+	@$(RUN) build/tidy
 
 bench-docs:
 	python3 bench/publish.py build/bench.tsv docs/BENCHMARKS.md docs/benchmarks.svg

@@ -20,8 +20,8 @@
 
 enum { PLACES = 4, ROUNDS = 128, TURN = 4, COUNTED = 8, PAGE = 4096, REEL = 1, OTHER_REEL = 2, HEAD = 0 };
 
-static const char *const names[OPERATIONS] = {"Format",  "Recover", "Open",     "Claim",     "Fill", "Commit",
-                                              "Abandon", "Remove",  "Has, hit", "Has, miss", "List", "Retire"};
+static const char *const names[OPERATIONS] = {"Format", "Recover",  "Open",      "Claim", "Fill",   "Commit",  "Abandon",
+                                              "Remove", "Has, hit", "Has, miss", "List",  "Retire", "Tidy, 18"};
 
 static const struct column {
     const char *name;
@@ -38,6 +38,11 @@ enum { COLUMNS = sizeof columns / sizeof columns[0], OWN = COLUMNS - 1, NOW = CO
 
 /* Nanoseconds or instructions for a call, in each column and place. */
 typedef double results[COLUMNS][PLACES];
+
+/* The first that has the operation: an earlier build may have it not. */
+static size_t first_column(enum operation o) {
+    return columns[BEFORE].builds[0]->run[o] ? BEFORE : NOW;
+}
 
 static uint8_t table[REELBOOK_TABLE_BYTES];
 static uint64_t *image, *formatted; /* with the reel; Format's */
@@ -164,6 +169,8 @@ static void measure(results ns[OPERATIONS]) {
         for (enum operation o = 0; o < OPERATIONS; o++)
             for (size_t turn = 0; turn < COLUMNS * PLACES; turn++) {
                 size_t at = (turn + k) % (COLUMNS * PLACES), c = at / PLACES, place = at % PLACES;
+                if (c < first_column(o))
+                    continue;
                 double time = time_turn_below(1 + k * (PAGE / sizeof(int) / ROUNDS), o, columns[c].builds[place], columns[c].own);
                 if (k == 0 || time < ns[o][c][place])
                     ns[o][c][place] = time;
@@ -200,7 +207,7 @@ static uint64_t count_steps(enum operation o, const struct build *build, int own
 static void count(results instructions[OPERATIONS]) {
     static struct batch first;
     for (enum operation o = 0; o < OPERATIONS; o++)
-        for (size_t c = 0; c < COLUMNS; c++) {
+        for (size_t c = first_column(o); c < COLUMNS; c++) {
             uint64_t without = count_steps(o, columns[c].builds[0], columns[c].own, 0);
             uint64_t with = count_steps(o, columns[c].builds[0], columns[c].own, COUNTED);
             for (size_t place = 0; place < PLACES; place++)
@@ -208,7 +215,7 @@ static void count(results instructions[OPERATIONS]) {
             b.table = NULL;
             b.table_bytes = 0;
             b.nodes = columns[0].builds[0]->tells_nodes ? b.nodes : 0;
-            if (c == 0)
+            if (c == first_column(o))
                 first = b;
             else if (memcmp(&first, &b, sizeof b) != 0)
                 fail(names[o], "two columns do not do the same");
@@ -230,20 +237,28 @@ static double spread(const double *places) {
     return x - least(places);
 }
 
+static void print_row(enum operation o, results of, int digits) {
+    size_t from = first_column(o);
+    double of_now = spread(of[NOW]), of_before = spread(of[from]);
+    printf("%-9s", names[o]);
+    for (size_t c = 0; c < from; c++)
+        printf(" %9s", "-");
+    for (size_t c = from; c < COLUMNS; c++)
+        printf(" %9.*f", digits, least(of[c]));
+    if (HAS_BEFORE && from == BEFORE)
+        printf(" %+12.*f", digits, least(of[NOW]) - least(of[BEFORE]));
+    else if (HAS_BEFORE)
+        printf(" %12s", "-");
+    printf(" %+9.*f %12.*f\n", digits, least(of[OWN]) - least(of[NOW]), digits, of_now > of_before ? of_now : of_before);
+}
+
 static void print(results values[OPERATIONS], int digits) {
     printf("%-9s", "");
     for (size_t c = 0; c < COLUMNS; c++)
         printf(" %9s", columns[c].name);
     printf("%s %9s %12s\n", HAS_BEFORE ? " now - before" : "", "own - now", "equal builds");
-    for (enum operation o = 0; o < OPERATIONS; o++) {
-        double(*of)[PLACES] = values[o], of_now = spread(of[NOW]), of_before = spread(of[BEFORE]);
-        printf("%-9s", names[o]);
-        for (size_t c = 0; c < COLUMNS; c++)
-            printf(" %9.*f", digits, least(of[c]));
-        if (HAS_BEFORE)
-            printf(" %+12.*f", digits, least(of[NOW]) - least(of[BEFORE]));
-        printf(" %+9.*f %12.*f\n", digits, least(of[OWN]) - least(of[NOW]), digits, of_now > of_before ? of_now : of_before);
-    }
+    for (enum operation o = 0; o < OPERATIONS; o++)
+        print_row(o, values[o], digits);
     printf("\n");
 }
 

@@ -5,7 +5,7 @@
 #include "reelbook.h"
 
 enum {
-    BOOK_SYSTEM = REELBOOK_HAS_OWN_TABLE + 1, /* the system refused: errno says why */
+    BOOK_SYSTEM = REELBOOK_NO_EMPTY_GROUP + 1, /* the system refused: errno says why */
     BOOK_NOT_REGULAR,
     BOOK_NOT_A_BOOK,
     BOOK_OTHER_VERSION,

@@ -53,6 +53,10 @@ uint64_t book_open_reel(struct book *b, uint64_t reel);
 uint64_t book_add(struct book *b, uint64_t reel, uint64_t frame); /* claim, fill, commit */
 uint64_t book_remove(struct book *b, uint64_t reel, uint64_t frame);
 uint64_t book_retire(struct book *b, uint64_t reel);
+
+/* Gives back one group of empty nodes, and adds to *freed how many these are. REELBOOK_NO_EMPTY_GROUP if there is none. */
+uint64_t book_tidy(struct book *b, uint64_t reel, uint64_t *freed);
+
 uint64_t book_has(const struct book *b, uint64_t reel, uint64_t frame, uint64_t *yes, uint64_t *nodes);
 
 /* The caller frees *frames. */

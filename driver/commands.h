@@ -21,6 +21,7 @@ int run_open(const struct arguments *a);
 int run_add(const struct arguments *a);
 int run_remove(const struct arguments *a);
 int run_retire(const struct arguments *a);
+int run_tidy(const struct arguments *a);
 int run_recover(const struct arguments *a);
 int run_load(const struct arguments *a);
 int run_convert(const struct arguments *a);

@@ -6,13 +6,13 @@
 #include "form.h"
 #include "own_table.h"
 
-enum { REEL_FIELDS = 9, BOOK_FIELDS = 11, BRIEF_FIELDS = 3 };
+enum { REEL_FIELDS = 10, BOOK_FIELDS = 12, BRIEF_FIELDS = 3 };
 
 static void reel_fields(struct field f[REEL_FIELDS], const struct survey_reel *r) {
     const struct field fields[REEL_FIELDS] = {
         {"reel", r->reel},         {"slot", r->slot},       {"root", r->root},           {"frames", r->total.frames},
         {"nodes", r->total.nodes}, {"deepest", r->deepest}, {"places", r->total.places}, {"located", r->total.located},
-        {"longest_path", survey_path(r)},
+        {"longest_path", survey_path(r)}, {"tidy_frees", r->to_free},
     };
     for (int i = 0; i < REEL_FIELDS; i++)
         f[i] = fields[i];
@@ -48,13 +48,14 @@ static void print_each(enum form form, const struct survey *s, fields_of *fields
 }
 
 static void print_table(const struct survey *s) {
-    printf("\n%20s %5s %6s %8s %6s %8s %8s %8s %8s\n", "reel", "slot", "root", "frames", "nodes", "deepest", "places", "located",
-           "longest");
+    printf("\n%20s %5s %6s %8s %6s %8s %8s %8s %8s %6s\n", "reel", "slot", "root", "frames", "nodes", "deepest", "places",
+           "located", "longest", "tidy");
     for (size_t i = 0; i < s->count; i++) {
         const struct survey_reel *r = &s->reels[i];
         const struct tally *t = &r->total;
-        printf("%20" PRIu64 " %5" PRIu64 " %6" PRIu64 " %8" PRIu64 " %6" PRIu64 " %8u %8" PRIu64 " %8" PRIu64 " %8" PRIu64 "\n",
-               r->reel, r->slot, r->root, t->frames, t->nodes, r->deepest, t->places, t->located, survey_path(r));
+        printf("%20" PRIu64 " %5" PRIu64 " %6" PRIu64 " %8" PRIu64 " %6" PRIu64 " %8u %8" PRIu64 " %8" PRIu64 " %8" PRIu64
+               " %6" PRIu64 "\n",
+               r->reel, r->slot, r->root, t->frames, t->nodes, r->deepest, t->places, t->located, survey_path(r), r->to_free);
     }
 }
 
@@ -63,6 +64,7 @@ static void print_lines(const struct book *b, const struct survey *s, int by_ree
     printf("reels    %zu of %" PRIu64 "\n", s->count, b->file.slots);
     printf("frames   %" PRIu64 "\n", s->total.frames);
     printf("nodes    %" PRIu64 " used, %" PRIu64 " free\n", s->total.nodes, b->file.nodes - s->total.nodes);
+    printf("tidy     frees %" PRIu64 " nodes\n", s->to_free);
     printf("deepest  level %u\n", s->deepest);
     printf("longest  path of %" PRIu64 " node%s\n", longest, longest == 1 ? "" : "s");
     printf("places   %" PRIu64 ", %" PRIu64 " used, %" PRIu64 " located\n", s->total.places, s->total.frames, s->total.located);
@@ -86,6 +88,7 @@ static void print_for_program(enum form form, const struct book *b, const struct
         {"edition", b->image[REELBOOK_EDITION_AT]},
         {"own_table", (uint64_t)own_table_in(b->image)},
         {"longest_path", survey_longest_path(s)},
+        {"tidy_frees", s->to_free},
     };
     if (form == FORM_CSV && by_reel) {
         print_each(form, s, reel_fields, REEL_FIELDS);

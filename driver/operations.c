@@ -46,6 +46,20 @@ uint64_t book_retire(struct book *b, uint64_t reel) {
     return carry(b, reelbook_retire(IMAGE, MAP, b->heads, SCRATCH, SCRIPT, reel, &b->used));
 }
 
+static uint64_t used_nodes(const struct book *b) {
+    uint64_t count = 0;
+    for (size_t at = 0; at < b->file.map_words; at++)
+        count += (uint64_t)__builtin_popcountll(b->map[at]);
+    return count;
+}
+
+uint64_t book_tidy(struct book *b, uint64_t reel, uint64_t *freed) {
+    uint64_t before = used_nodes(b);
+    uint64_t answer = carry(b, reelbook_tidy(IMAGE, MAP, b->heads, SCRATCH, SCRIPT, reel, &b->used));
+    *freed += before - used_nodes(b);
+    return answer;
+}
+
 uint64_t book_has(const struct book *b, uint64_t reel, uint64_t frame, uint64_t *yes, uint64_t *nodes) {
     return own_table_answer(b->image, reelbook_has(IMAGE, reel, frame, yes, nodes));
 }

@@ -9,20 +9,37 @@ void tally_node(struct tally *t, const uint64_t *node) {
     t->frames += (uint64_t)__builtin_popcountll(node[REELBOOK_NODE_SET]);
 }
 
-/* 1 if the walk went through. No node is gone to twice, so that it ends on any image. */
-static int visit(struct survey *s, struct survey_reel *r, const struct book *b, uint64_t number, unsigned level) {
-    if (level >= SURVEY_LEVELS || number >= b->file.nodes || s->owners[number] != 0)
-        return 0;
-    const uint64_t *node = book_node(b, number);
+static void count_node(struct survey *s, struct survey_reel *r, const uint64_t *node, unsigned level) {
     tally_node(&r->levels[level], node);
     tally_node(&r->total, node);
     tally_node(&s->total, node);
     r->deepest = level > r->deepest ? level : r->deepest;
+}
+
+/* EMPTY: no place in it is held or claimed, so that tidy frees all of it but its root, and that too where its siblings are EMPTY.
+ * BROKEN: it cannot be walked through. */
+enum subtree { BROKEN, IN_USE, EMPTY };
+
+/* No node is gone to twice, so that it ends on any image. */
+static enum subtree visit(struct survey *s, struct survey_reel *r, const struct book *b, uint64_t number, unsigned level) {
+    if (level >= SURVEY_LEVELS || number >= b->file.nodes || s->owners[number] != 0)
+        return BROKEN;
+    const uint64_t *node = book_node(b, number);
+    unsigned children = node[REELBOOK_NODE_NEXT] != 0 ? survey_fanout(level) : 0, empty = 0;
+    count_node(s, r, node, level);
     s->owners[number] = (uint32_t)(r - s->reels) + 1;
-    int through = node[REELBOOK_NODE_SIZE] <= NODE_PLACES;
-    for (unsigned child = 0; through && node[REELBOOK_NODE_NEXT] != 0 && child < survey_fanout(level); child++)
-        through = visit(s, r, b, node[REELBOOK_NODE_NEXT] - 1 + child, level + 1);
-    return through;
+    if (node[REELBOOK_NODE_SIZE] > NODE_PLACES)
+        return BROKEN;
+    for (unsigned child = 0; child < children; child++) {
+        enum subtree below = visit(s, r, b, node[REELBOOK_NODE_NEXT] - 1 + child, level + 1);
+        if (below == BROKEN)
+            return BROKEN;
+        empty += below == EMPTY;
+    }
+    if (empty < children)
+        return IN_USE;
+    r->to_free += children;
+    return (node[REELBOOK_NODE_LOCATE] | node[REELBOOK_NODE_SET]) == 0 ? EMPTY : IN_USE;
 }
 
 static int visit_reels(struct survey *s, const struct book *b) {
@@ -32,9 +49,10 @@ static int visit_reels(struct survey *s, const struct book *b) {
             continue;
         struct survey_reel *r = &s->reels[s->count++];
         *r = (struct survey_reel){.reel = words[REELBOOK_SLOT_REEL], .slot = slot, .root = words[REELBOOK_SLOT_ROOT] - 1};
-        if (!visit(s, r, b, r->root, 0))
+        if (visit(s, r, b, r->root, 0) == BROKEN)
             return 0;
         s->deepest = r->deepest > s->deepest ? r->deepest : s->deepest;
+        s->to_free += r->to_free;
     }
     return 1;
 }

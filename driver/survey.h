@@ -21,6 +21,7 @@ void tally_node(struct tally *t, const uint64_t *node);
 struct survey_reel {
     uint64_t reel, slot, root;
     unsigned deepest; /* level */
+    uint64_t to_free; /* nodes that tidy frees */
     struct tally total, levels[SURVEY_LEVELS];
 };
 
@@ -29,6 +30,7 @@ struct survey {
     struct survey_reel *reels;
     uint32_t *owners; /* for each node 1 + its reel's number in `reels`, or 0 if it is free */
     unsigned deepest;
+    uint64_t to_free;
     struct tally total;
 };
 

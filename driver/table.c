@@ -64,8 +64,8 @@ static const struct command commands[] = {
          "The number is 1 for a reel opened in this run that since then never had more than 64 frames held, claimed and filled\n"
          "taken together, a claim that a power failure cut short counted in. The run goes on from format or load through all\n"
          "commands and power failures; reels that a conversion found in the old book were not opened in it. Once a reel has\n"
-         "had more, its paths stay as long as they are, whatever is removed, until it is retired. stat tells the longest one\n"
-         "of a book.",
+         "had more, its paths stay as long as they are, whatever is removed, until it is tidied or retired. stat tells the\n"
+         "longest one of a book.",
      .least = 3,
      .most = 3,
      .options = BIT(OPTION_PATH_NODES),
@@ -84,6 +84,19 @@ static const struct command commands[] = {
      .most = 2,
      .options = CRASHES,
      .run = run_retire},
+    {.name = "tidy",
+     .operands = "FILE REEL",
+     .about = "Gives back the nodes of a reel that removals left empty, and says how many.",
+     .more = "Nodes go by groups, the two or four children of a node: where all of a group are empty, and have no children or\n"
+             "only such groups below. The reel's frames are as they were, in the same sequence; its paths may become shorter.\n"
+             "An add that was refused for want of nodes (8) may be done afterwards. Where no group is empty, 0 nodes are freed,\n"
+             "which is no error; stat tells the number beforehand.\n\n"
+             "Each group is free, and lasting, by itself: after an interrupt or a power failure those before it stay so. Each\n"
+             "takes a walk through the reel, so that thousands of them in a large reel take some seconds.",
+     .least = 2,
+     .most = 2,
+     .options = CRASHES,
+     .run = run_tidy},
     {.name = "reels",
      .operands = "FILE [--json | --csv]",
      .about = "Lists the reels: the number of each, its frames and its nodes.",
@@ -96,6 +109,8 @@ static const struct command commands[] = {
      .about = "Counts reels, frames, nodes and places, and tells the book's longest path, edition and table.",
      .more = "The longest path, over all reels, is the most nodes that a lookup reads in this book, whatever the frame; it is 0\n"
              "where no reel is open. has --nodes tells the number for one frame.\n\n"
+             "The nodes that tidy frees, those that removals left empty, are told for all reels together, and with --by-reel\n"
+             "for each.\n\n"
              "In edition 1 the fingerprints in a book are of the four low bytes of each frame, in edition 2 of all eight. Every\n"
              "command reads both and leaves a book in its edition; format and load make books of edition 2, convert makes one\n"
              "of the other edition. Versions before 3.1 make books of edition 1, and refuse those of edition 2. The table is\n"

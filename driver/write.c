@@ -32,12 +32,15 @@ int run_format(const struct arguments *a) {
     return answer == REELBOOK_DONE ? STATUS_DONE : refuse(answer, a->operands[0]);
 }
 
+/* Opens the book to be written, for the reel that the second operand names. 0, or the exit status. */
+static int begin_reel(struct book *b, const struct arguments *a, uint64_t *reel) {
+    return arguments_number(a->operands[1], reel) == 0 ? begin(b, a, BOOK_WRITE) : STATUS_USAGE;
+}
+
 static int on_reel(const struct arguments *a, uint64_t (*operation)(struct book *, uint64_t)) {
     struct book b;
     uint64_t reel;
-    if (arguments_number(a->operands[1], &reel) != 0)
-        return STATUS_USAGE;
-    int status = begin(&b, a, BOOK_WRITE);
+    int status = begin_reel(&b, a, &reel);
     if (status != STATUS_DONE)
         return status;
     uint64_t answer = operation(&b, reel);
@@ -50,6 +53,37 @@ int run_open(const struct arguments *a) {
 
 int run_retire(const struct arguments *a) {
     return on_reel(a, book_retire);
+}
+
+/* Each group is lasting by itself: an interrupt ends it between two of them. */
+static uint64_t tidy_all(struct book *b, uint64_t reel, uint64_t *freed) {
+    uint64_t answer = REELBOOK_DONE;
+    frames_catch_interrupt();
+    while (answer == REELBOOK_DONE && !frames_interrupted())
+        answer = book_tidy(b, reel, freed);
+    return answer;
+}
+
+/* 18 is the end: no group is left. Without a refusal it was interrupted. */
+static int report_tidy(uint64_t answer, uint64_t reel, uint64_t freed) {
+    if (answer == REELBOOK_DONE) {
+        say("interrupted; %" PRIu64 " nodes freed", freed);
+        return STATUS_SYSTEM;
+    }
+    if (answer != REELBOOK_NO_EMPTY_GROUP)
+        return refuse_reel(answer, reel);
+    printf("%" PRIu64 " nodes freed\n", freed);
+    return STATUS_DONE;
+}
+
+int run_tidy(const struct arguments *a) {
+    struct book b;
+    uint64_t reel, freed = 0;
+    int status = begin_reel(&b, a, &reel);
+    if (status != STATUS_DONE)
+        return status;
+    uint64_t answer = tidy_all(&b, reel, &freed);
+    return finish(&b, a, report_tidy(answer, reel, freed));
 }
 
 struct job {

@@ -27,9 +27,9 @@
 /* The version of this header, and of the library beside which it is installed. With another major number the interface is
  * another: a program has to be compiled anew, and the shared object has another name. */
 #define REELBOOK_VERSION_MAJOR 5
-#define REELBOOK_VERSION_MINOR 0
+#define REELBOOK_VERSION_MINOR 1
 #define REELBOOK_VERSION_PATCH 0
-#define REELBOOK_VERSION "5.0.0"
+#define REELBOOK_VERSION "5.1.0"
 
 #ifdef __cplusplus
 extern "C" {
@@ -38,22 +38,23 @@ extern "C" {
 /* Answers; reelbook_answer_text has each in words. There is no 15. */
 enum {
     REELBOOK_DONE = 0,
-    REELBOOK_BAD_IMAGE = 1,     /* the image's length, its number of slots or of nodes, or the copy's length is wrong */
-    REELBOOK_BAD_EDITION = 2,   /* the image's edition is neither 1 nor 2 */
-    REELBOOK_BAD_BUFFER = 3,    /* map or scratch map is not of the map's length, or the script is too short */
-    REELBOOK_MALFORMED = 4,     /* the tree or the image's own table is malformed, or a head's node or place is outside */
-    REELBOOK_NO_REEL = 5,       /* no such reel */
-    REELBOOK_ALREADY_OPEN = 6,  /* the reel is open already */
-    REELBOOK_NO_SLOT = 7,       /* no empty reel slot */
-    REELBOOK_NO_RUN = 8,        /* not enough adjacent free nodes */
-    REELBOOK_FRAME_HELD = 9,    /* the reel holds the frame already */
-    REELBOOK_NOT_HELD = 10,     /* the reel does not hold the frame */
-    REELBOOK_BAD_HEAD = 11,     /* no such head */
-    REELBOOK_WRONG_STATE = 12,  /* the head is in another state than the operation needs */
-    REELBOOK_BUSY = 13,         /* another head has this frame or is at this node (Claim); a claim is open in this reel (else) */
-    REELBOOK_LIST_SHORT = 14,   /* the list has too little room */
-    REELBOOK_BAD_TABLE = 16,    /* the given table is not 256 bytes long, or lacks some byte */
-    REELBOOK_HAS_OWN_TABLE = 17 /* the image has its own table, which can't go to edition 1 */
+    REELBOOK_BAD_IMAGE = 1,      /* the image's length, its number of slots or of nodes, or the copy's length is wrong */
+    REELBOOK_BAD_EDITION = 2,    /* the image's edition is neither 1 nor 2 */
+    REELBOOK_BAD_BUFFER = 3,     /* map or scratch map is not of the map's length, or the script is too short */
+    REELBOOK_MALFORMED = 4,      /* the tree or the image's own table is malformed, or a head's node or place is outside */
+    REELBOOK_NO_REEL = 5,        /* no such reel */
+    REELBOOK_ALREADY_OPEN = 6,   /* the reel is open already */
+    REELBOOK_NO_SLOT = 7,        /* no empty reel slot */
+    REELBOOK_NO_RUN = 8,         /* not enough adjacent free nodes */
+    REELBOOK_FRAME_HELD = 9,     /* the reel holds the frame already */
+    REELBOOK_NOT_HELD = 10,      /* the reel does not hold the frame */
+    REELBOOK_BAD_HEAD = 11,      /* no such head */
+    REELBOOK_WRONG_STATE = 12,   /* the head is in another state than the operation needs */
+    REELBOOK_BUSY = 13,          /* another head has this frame or is at this node (Claim); a claim is open in this reel (else) */
+    REELBOOK_LIST_SHORT = 14,    /* the list has too little room */
+    REELBOOK_BAD_TABLE = 16,     /* the given table is not 256 bytes long, or lacks some byte */
+    REELBOOK_HAS_OWN_TABLE = 17, /* the image has its own table, which can't go to edition 1 */
+    REELBOOK_NO_EMPTY_GROUP = 18 /* no node of the reel has children that are all empty */
 };
 
 /* Scripts. No operation writes more words than the minimum that it asks for. */
@@ -131,6 +132,7 @@ static inline const char *reelbook_answer_text(uint64_t answer) {
     case REELBOOK_LIST_SHORT: return "the list has too little room";
     case REELBOOK_BAD_TABLE: return "the given table is not 256 bytes with each byte once";
     case REELBOOK_HAS_OWN_TABLE: return "an own table can't go to edition 1";
+    case REELBOOK_NO_EMPTY_GROUP: return "no empty group of nodes";
     default: return "unknown answer";
     }
 }
@@ -213,6 +215,17 @@ uint64_t reelbook_list(const uint64_t *image, size_t image_words, uint64_t *scra
 uint64_t reelbook_retire(const uint64_t *image, size_t image_words, uint64_t *map, size_t map_words,
                          const uint64_t heads[REELBOOK_HEADS_WORDS], uint64_t *scratch, size_t scratch_words, uint64_t *script,
                          size_t script_words, uint64_t reel, uint64_t *used);
+
+/* Gives back a group of empty nodes, as removals leave them: finds the first node with children, in the sequence of
+ * reelbook_list, all of whose children have both bitmaps 0 and no children. Its next word becomes 0, and these children, two or
+ * four adjacent nodes, become free in the map. Refusals 1, 2, 3, 4 for the table, 5, 13 while a claim is open in the reel, 4, 18
+ * if there is no such node. One group with each call: call again until 18. The reel's frames are the same before, after and at a
+ * power failure in it; paths may become shorter. A claim that got 8 just before, made again just after, is answered if there is
+ * now a run of adjacent free nodes as long as it needs. The scratch map is all 0 after any end but 1, 2 or 3. Libraries before
+ * 5.1 do not have this function. */
+uint64_t reelbook_tidy(const uint64_t *image, size_t image_words, uint64_t *map, size_t map_words,
+                       const uint64_t heads[REELBOOK_HEADS_WORDS], uint64_t *scratch, size_t scratch_words, uint64_t *script,
+                       size_t script_words, uint64_t reel, uint64_t *used);
 
 /* Makes the book in the other edition, 2 of 1 or 1 of 2, in a second image: the copy. Slots, nodes and places stay where they
  * are, and every reel has the same list. Refusals 1, for the copy too unless it is as long as the image, 2, 3, 4 if the image is

@@ -214,6 +214,10 @@ uint64_t book_retire(struct book *b, uint64_t reel) {
     return carried_out(b, reelbook_retire(IMAGE, MAP, b->heads, SCRATCH, SCRIPT, reel, fresh(&b->used)));
 }
 
+uint64_t book_tidy(struct book *b, uint64_t reel) {
+    return carried_out(b, reelbook_tidy(IMAGE, MAP, b->heads, SCRATCH, SCRIPT, reel, fresh(&b->used)));
+}
+
 uint64_t book_list(struct book *b, size_t room, uint64_t reel) {
     return reelbook_list(IMAGE, SCRATCH, b->list, room, reel, fresh(&b->count));
 }

@@ -67,6 +67,7 @@ uint64_t book_abandon(struct book *b, uint64_t head);
 uint64_t book_remove(struct book *b, uint64_t reel, uint64_t frame);
 uint64_t book_has(struct book *b, uint64_t reel, uint64_t frame);
 uint64_t book_retire(struct book *b, uint64_t reel);
+uint64_t book_tidy(struct book *b, uint64_t reel);
 uint64_t book_list(struct book *b, size_t room, uint64_t reel);
 uint64_t book_recover(struct book *b);
 

@@ -2,6 +2,7 @@
 #include "book.h"
 #include "convert.h"
 #include "lookups.h"
+#include "tidy.h"
 
 #include <stdio.h>
 #include <stdlib.h>
@@ -350,6 +351,7 @@ static void check_refused(struct book *b, uint64_t reel, uint64_t answer, const 
     equal(book_list(b, 0, reel), answer, what);
     equal(b->count, 0, "the count of a refused call");
     equal(book_retire(b, reel), answer, what);
+    equal(book_tidy(b, reel), answer, what);
     b->script[0] = REELBOOK_BARRIER;
     b->script[1] = 0;
     equal(reelbook_apply(b->image, b->image_words, b->script, 2), REELBOOK_DONE, "apply on a refused image");
@@ -427,7 +429,7 @@ static void check_editions(void) {
 static void check_version(void) {
     char version[64];
     equal(REELBOOK_VERSION_MAJOR, 5, "REELBOOK_VERSION_MAJOR");
-    equal(REELBOOK_VERSION_MINOR, 0, "REELBOOK_VERSION_MINOR");
+    equal(REELBOOK_VERSION_MINOR, 1, "REELBOOK_VERSION_MINOR");
     equal(REELBOOK_VERSION_PATCH, 0, "REELBOOK_VERSION_PATCH");
     snprintf(version, sizeof version, "%d.%d.%d", REELBOOK_VERSION_MAJOR, REELBOOK_VERSION_MINOR, REELBOOK_VERSION_PATCH);
     same_text(REELBOOK_VERSION, version, "REELBOOK_VERSION");
@@ -441,9 +443,9 @@ static void check_texts(void) {
         "the reel is open already", "no empty reel slot", "not enough adjacent free nodes", "held already", "not held",
         "no such head", "the head is in another state", "an open claim is in the way", "the list has too little room",
         "unknown answer", "the given table is not 256 bytes with each byte once", "an own table can't go to edition 1",
-        "unknown answer"};
+        "no empty group of nodes", "unknown answer"};
     uint64_t answer;
-    equal(sizeof texts / sizeof texts[0], REELBOOK_HAS_OWN_TABLE + 2, "a text for each answer, and one for any other");
+    equal(sizeof texts / sizeof texts[0], REELBOOK_NO_EMPTY_GROUP + 2, "a text for each answer, and one for any other");
     for (answer = 0; answer < sizeof texts / sizeof texts[0]; answer++) {
         same_text(reelbook_answer_text(answer), texts[answer], "reelbook_answer_text");
     }
@@ -471,6 +473,8 @@ int main(void) {
     check_bad_tables();
     check_conversions();
     check_lookups();
+    check_tidying();
+    check_tidy_refusals();
     printf("header: %u checks, %u failures\n", checks, failures);
     return failures != 0;
 }

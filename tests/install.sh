@@ -78,8 +78,9 @@ try_shared_object() {
     same 'the soname' "$(readelf -dW "$object" | sed -n 's/.*(SONAME).*\[\(.*\)\]/\1/p')" "$soname"
     same 'libraries needed' "$(readelf -dW "$object" | sed -n 's/.*(NEEDED).*\[\(.*\)\]/\1/p')" libc.so.6
     exported=$(nm -D --defined-only "$object" | awk '$2 != "A" { print $3 }' | sort)
-    same 'functions exported, each with the major version' "$exported" \
-        "$(echo "$declared" | sed "s/\$/@@REELBOOK_${version%%.*}/")"
+    since=@@REELBOOK_${version%%.*}
+    same 'functions exported, each with the version that has it first' "$exported" \
+        "$(echo "$declared" | sed -e "s/^reelbook_tidy\$/&$since.1/" -e t -e "s/\$/$since/")"
     # What the dynamic linker fills in and then makes read-only is not the library's.
     same 'writable sections' "$(readelf -SW "$object" | sed 's/^ *\[ *[0-9]*\]//' |
         awk '$7 ~ /W/ && $1 !~ /^\.(dynamic|got|got\.plt)$/ && $5 !~ /^0*$/ { print $1 }')" ''
@@ -130,6 +131,11 @@ open: done, 18 words of script' "$cc"
 answer 0, held; nodes on its path: 1' "$cc"
     prints heads.c '200 frames: done; head 1 had to wait 32 times, a node was full 5 times
 the same frame twice: held already (9)' "$cc"
+    prints tidy.c 'two reels, four nodes: done (0)
+frame 64 of reel 8: not enough adjacent free nodes (8)
+frame 64 of reel 7 goes: done (0)
+frame 64 of reel 8: done (0)
+reel 7: no empty group of nodes (18)' "$cc"
     prints table.c "256 frames, fingerprints by the library's table: 8
 by the best of 100 others: 168
 format: done; word 3 is 1
@@ -142,11 +148,13 @@ with a table of its own: an own table can't go to edition 1 (17)" "$cc"
 frame 5: held, nodes on its path: 1
 frame 6: not held, nodes on its path: 1
 frame 5: held already (9)' "$cxx"
-    # What a program needs of the library: the functions of this major version, whichever it calls.
+    # What a program needs of the library: a 5.0 would do for the first three.
+    needed='s/.*Name: \(REELBOOK_[0-9.]*\) .*/\1/p'
     for name in first driver convert; do
-        same "versions that $name.c needs" "$(readelf -VW "$work/$name-shared" |
-            sed -n 's/.*Name: \(REELBOOK_[0-9.]*\) .*/\1/p')" "REELBOOK_${version%%.*}"
+        same "versions that $name.c needs" "$(readelf -VW "$work/$name-shared" | sed -n "$needed")" "REELBOOK_${version%%.*}"
     done
+    same 'versions that tidy.c needs' "$(readelf -VW "$work/tidy-shared" | sed -n "$needed" | sort)" "REELBOOK_${version%%.*}
+REELBOOK_${version%%.*}.1"
     cp examples/book.py "$work"
     same 'examples/book.py' "$(cd "$work" && with_shared python3 book.py)" 'reel 7: 12 5 18446744073709551615 places left: 13
 65 frames later: frame 5 held, nodes on its path: 2
@@ -159,8 +167,8 @@ power lost, stores lost: frame 13 is held after entry 8 of 8'
         program "${page%%:*}" 1 | cmp - "examples/${page##*:}" || fail "the program in ${page%%:*} is not examples/${page##*:}"
     done
     same 'programs in the pages' "$(grep -c '^```c$' README.md docs/DRIVER.md)" 'README.md:1
-docs/DRIVER.md:4'
-    for part in 2:heads.c 3:table.c 4:convert.c; do
+docs/DRIVER.md:5'
+    for part in 2:heads.c 3:tidy.c 4:table.c 5:convert.c; do
         case $(cat "examples/${part##*:}") in
         *"
 $(program docs/DRIVER.md "${part%%:*}")
@@ -189,7 +197,7 @@ try_pages() {
     same 'functions in the synopsis' "$(sed -n 's/^uint64_t \(reelbook_[a-z]*\)(.*/\1/p' "$work/synopsis.c" | sort)" "$declared"
     # shellcheck disable=SC2046
     $cc $(pkg-config --cflags reelbook) -fsyntax-only "$work/synopsis.c" || fail "the synopsis is not the header's"
-    same 'answers in the page' "$(grep -c '^[0-9]*	.*REELBOOK_' "$prefix/share/man/man3/reelbook.3")" 17
+    same 'answers in the page' "$(grep -c '^[0-9]*	.*REELBOOK_' "$prefix/share/man/man3/reelbook.3")" 18
     same 'commands in the page' "$(sed -n 's/^\.SS //p' "$prefix/share/man/man1/reelbook.1")" \
         "$("$prefix/bin/reelbook" --help | sed -n 's/^  reelbook \([a-z]*\) FILE.*/\1/p')"
 }

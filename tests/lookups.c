@@ -213,7 +213,7 @@ static void check_up_to_64(struct book *b) {
     expect_all(b, 1, "has in a reel of 64 frames");
 }
 
-/* From the 65th on paths have two, though it is abandoned and frames go again, until the reel is retired. */
+/* From the 65th on paths have two, though it is abandoned and frames go again, until the reel is retired (or tidied). */
 static void check_from_65(struct book *b) {
     uint64_t frame;
     check_cuts(b, ROOM);

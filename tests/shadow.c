@@ -1,6 +1,6 @@
 /* Stands between the tool and its file (LD_PRELOAD). The file SHADOW is the disk: it gets what msync passes and nothing else, and
  * is what a power failure leaves. In the FAIL_AT-th msync the process is killed; page n reaches the disk then if bit n of
- * FAIL_PAGES is 1, since a system may write a page back at any time. */
+ * FAIL_PAGES is 1, since a system may write a page back at any time. In the INTERRUPT_AT-th it is interrupted, and goes on. */
 #define _GNU_SOURCE /* for RTLD_NEXT and MAP_SYNC */
 #include <dlfcn.h>
 #include <errno.h>
@@ -52,6 +52,8 @@ int msync(void *address, size_t bytes, int flags) {
                 write_back(n * page, page);
         raise(SIGKILL);
     }
+    if (calls == number("INTERRUPT_AT"))
+        raise(SIGINT);
     write_back(at, (end < length ? end : length) - at);
     return 0;
 }

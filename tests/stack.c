@@ -1,7 +1,7 @@
 /* How many bytes of stack each function needs, arguments and return address included: it is called on a stack of its own that is
  * painted before, and what has another colour afterwards was used. The trees are as deep as there can be, since Recover, List,
- * Retire and Convert go down them by calls. stack RULE prints a line for each function, on images that go by this rule: 1 or 2,
- * an edition, or own, an own table. */
+ * Retire, Tidy and Convert go down them by calls. stack RULE prints a line for each function, on images that go by this rule: 1
+ * or 2, an edition, or own, an own table. */
 #define _XOPEN_SOURCE 600 /* for ucontext.h */
 #include <stdio.h>
 #include <stdlib.h>
@@ -64,6 +64,7 @@ CALL(remove, IMAGE, b->heads, SCRIPT, 7, UINT64_C(31) << 59, &b->used)
 CALL(has, IMAGE, 7, UINT64_C(31) << 59, &b->yes, &b->nodes)
 CALL(list, IMAGE, SCRATCH, b->list, LIST_WORDS, 7, &b->count)
 CALL(retire, IMAGE, MAP, b->heads, SCRATCH, SCRIPT, 7, &b->used)
+CALL(tidy, IMAGE, MAP, b->heads, SCRATCH, SCRIPT, 7, &b->used)
 CALL(convert, IMAGE, copy, b->image_words, SCRATCH)
 CALL(apply, IMAGE, b->script, (size_t)b->used)
 
@@ -105,6 +106,12 @@ static void measure_convert(void) {
     free(copy);
 }
 
+/* Without its frame, which was removed, the last level is an empty group. It stays there, so that Retire finds all levels. */
+static void measure_tidy(void) {
+    line("tidy", measured(call_tidy, 0));
+    equal(b->image[b->script[0] + REELBOOK_NODE_LEVEL], LAST_LEVEL - 1, "the level of the node that loses its children");
+}
+
 int main(int count, char **words) {
     const char *word = count == 2 ? words[1] : "";
     rule = strcmp(word, "own") == 0 ? OWN_TABLE : strcmp(word, "1") == 0 ? EDITION_1 : EDITION_2;
@@ -125,6 +132,7 @@ int main(int count, char **words) {
     line("commit", measured(call_commit, 1));
     line("remove", measured(call_remove, 1));
     line("apply", measured(call_apply, 0));
+    measure_tidy();
     line("retire", measured(call_retire, 1));
     line("open", measured(call_open, 1));
     line("format", measured(call_format, 0));

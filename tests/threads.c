@@ -38,6 +38,15 @@ static void change(struct book *b, uint64_t random) {
     carry_out(b, reelbook_remove(IMAGE, b->heads, SCRIPT, reel, random >> 20 & 4095, &b->used));
 }
 
+/* All frames of the listed reel go, and so do its nodes but for the root. */
+static void empty(struct book *b, uint64_t reel) {
+    for (uint64_t i = 0; i < b->count; i++)
+        carry_out(b, reelbook_remove(IMAGE, b->heads, SCRIPT, reel, b->list[i], &b->used));
+    do
+        carry_out(b, reelbook_tidy(IMAGE, MAP, b->heads, SCRATCH, SCRIPT, reel, &b->used));
+    while (b->used > 0);
+}
+
 static void *work(void *book) {
     struct book *b = (struct book *)book;
     uint64_t random = b->seed;
@@ -55,6 +64,7 @@ static void *work(void *book) {
     b->refused += reelbook_recover(IMAGE, MAP, b->heads);
     b->refused += reelbook_convert(IMAGE, b->copy, IMAGE_WORDS, SCRATCH) != REELBOOK_DONE; /* 17 for an own table */
     b->refused += reelbook_list(IMAGE, SCRATCH, b->list, 64 * NODES, 3, &b->count);
+    empty(b, 3);
     carry_out(b, reelbook_retire(IMAGE, MAP, b->heads, SCRATCH, SCRIPT, 5, &b->used));
     return NULL;
 }

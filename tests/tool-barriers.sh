@@ -87,12 +87,15 @@ try_barriers() {
     fi
     holds test "$status" = 0
     holds cmp -s book disk
-    for thing in 'open 1' 'open 2' "add 1 $(seq -s ' ' 0 63)" 'add 2 5 6'; do kill_in 0 ${thing%% *} ${thing#* }; done
+    # The second reel's children are empty, nodes 2 and 3: once they are given back, a frame of the first reel takes them.
+    for thing in 'open 1' 'open 2' "add 1 $(seq -s ' ' 0 63)" "add 2 $(seq -s ' ' 5 69)" "remove 2 $(seq -s ' ' 7 69)"; do
+        kill_in 0 ${thing%% *} ${thing#* }
+    done
     dump
     cp dumped none
     cp book base
     kill_load
-    for first in 'add 1 99' 'add 2 7' 'remove 1 5' 'open 3' 'retire 2' 'recover'; do
+    for first in 'add 1 99' 'add 2 7' 'remove 1 5' 'open 3' 'retire 2' 'tidy 2' 'recover'; do
         changed none $first >first
         fail_first=1
         while start_from base base && kill_in "$fail_first" $first; do

@@ -22,6 +22,7 @@ try_commands() {
     does 'reels    2 of 4
 frames   6
 nodes    2 used, 14 free
+tidy     frees 0 nodes
 deepest  level 0
 longest  path of 1 node
 places   32, 6 used, 6 located
@@ -34,11 +35,11 @@ table    the library'\''s' stat book
     warns 7 109 '161 frames added' add book 7
     input=/dev/null
     run stat book --by-reel
-    holds test "$(sed -n '$s/  */ /gp' out)" = ' 7 0 0 167 3 1 192 167 2'
+    holds test "$(sed -n '$s/  */ /gp' out)" = ' 7 0 0 167 3 1 192 167 2 0'
     does "$sound" check book
 }
 
-names='format open add remove has list retire reels stat dump load convert table check recover draw'
+names='format open add remove has list retire tidy reels stat dump load convert table check recover draw'
 
 try_help() {
     run --help
@@ -57,7 +58,7 @@ try_help() {
     done
     for number in 0 1 2 3 4; do holds grep -q "^  $number  " all; done
     holds test "$(grep -c '^  reelbook ' all)" = "$(echo $names help --version | wc -w)"
-    does 'reelbook 5.0.0' --version
+    does 'reelbook 5.1.0' --version
     misused 'a command is missing; reelbook --help tells them'
     misused 'burn: no such command; reelbook --help tells them' burn book
     misused 'burn: no such command; reelbook --help tells them' help burn
@@ -117,6 +118,7 @@ try_refusals() {
     refuses 'add: reel 8: no such reel (5)' add book 8
     refuses 'remove: reel 8: no such reel (5)' remove book 8 1
     refuses 'retire: reel 8: no such reel (5)' retire book 8
+    refuses 'tidy: reel 8: no such reel (5)' tidy book 8
     refuses 'has: reel 8: no such reel (5)' has book 8 1
     refuses 'list: reel 8: no such reel (5)' list book 8
     refuses 'add: reel 7: frame 5: held already (9); 0 frames added before it' add book 7 5

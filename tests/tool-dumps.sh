@@ -16,18 +16,18 @@ try_forms() {
     does "$(printf '[12,\n%s]' "$most")" list forms 7 --json
     does "$(printf 'reel,frame\n7,12\n7,%s' "$most")" list forms 7 --csv
     numbers='"slots":4,"reels":2,"frames":2,"nodes_used":2,"nodes_free":14,"deepest":0,"places":32,"located":2'
-    numbers=$numbers',"edition":2,"own_table":0,"longest_path":1'
+    numbers=$numbers',"edition":2,"own_table":0,"longest_path":1,"tidy_frees":0'
     does "{$numbers}" stat forms --json
-    does 'slots,reels,frames,nodes_used,nodes_free,deepest,places,located,edition,own_table,longest_path
-4,2,2,2,14,0,32,2,2,0,1' stat forms --csv
-    root='"nodes":1,"deepest":0,"places":16' path='"longest_path":1'
+    does 'slots,reels,frames,nodes_used,nodes_free,deepest,places,located,edition,own_table,longest_path,tidy_frees
+4,2,2,2,14,0,32,2,2,0,1,0' stat forms --csv
+    root='"nodes":1,"deepest":0,"places":16' path='"longest_path":1,"tidy_frees":0'
     does "{$numbers,
 \"by_reel\":[{\"reel\":7,\"slot\":0,\"root\":0,\"frames\":2,$root,\"located\":2,$path},
 {\"reel\":$most,\"slot\":1,\"root\":1,\"frames\":0,$root,\"located\":0,$path}]}" \
         stat forms --json --by-reel
-    does "reel,slot,root,frames,nodes,deepest,places,located,longest_path
-7,0,0,2,1,0,16,2,1
-$most,1,1,0,1,0,16,0,1" stat forms --csv --by-reel
+    does "reel,slot,root,frames,nodes,deepest,places,located,longest_path,tidy_frees
+7,0,0,2,1,0,16,2,1,0
+$most,1,1,0,1,0,16,0,1,0" stat forms --csv --by-reel
     misused 'list: --json: not with --csv' list forms 7 --json --csv
     run add forms 7 1 2 --rate
     holds test "$status$(cat out)" = '02 frames added'

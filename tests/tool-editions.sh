@@ -22,13 +22,14 @@ read_old() {
     does 'reels    2 of 4
 frames   74
 nodes    4 used, 12 free
+tidy     frees 0 nodes
 deepest  level 1
 longest  path of 2 nodes
 places   208, 74 used, 74 located
 edition  1
 table    the library'\''s' stat book
     run stat book --json
-    holds grep -q '"edition":1,"own_table":0,"longest_path":2}$' out
+    holds grep -q '"edition":1,"own_table":0,"longest_path":2,"tidy_frees":0}$' out
     dump
     holds cmp -s dumped model
     while read -r reel frame <&4; do

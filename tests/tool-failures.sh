@@ -81,9 +81,9 @@ plan() {
         function below(n) { return int(part() * n) }
         BEGIN {
             state = 1 + seed % 2147483646
+            split("add add add add add add add add add add remove remove remove open open open open retire tidy recover", kinds)
             for (round = 0; round < rounds; round++) {
-                kind = below(20)
-                kind = kind < 10 ? "add" : kind < 13 ? "remove" : kind < 17 ? "open" : kind < 18 ? "retire" : "recover"
+                kind = kinds[1 + below(20)]
                 printf "%s %d %f %d %d", kind, 1 + int(below(21) / 5), part() * 1.4, below(2147483647), below(3)
                 for (frames = 1 + below(3); frames > 0; frames--)
                     printf " %d", below(2) ? 32 + below(160) : 64 * below(100)
@@ -120,7 +120,7 @@ model_change() { # KIND REEL FRAME: the model after it
     add) { cat before && echo "$2 $3"; } | sort ;;
     remove) grep -vx "$2 $3" before ;;
     retire) grep -Ev "^$2( |\$)" before ;;
-    recover) cat before ;;
+    tidy | recover) cat before ;;
     esac
 }
 
@@ -148,7 +148,7 @@ rehearse() { # KIND REEL FRAME..
         cp model.$things before
         case $kind in
         recover) probe recover ;;
-        open | retire) probe "$kind" "$reel" ;;
+        open | retire | tidy) probe "$kind" "$reel" ;;
         *) probe "$kind" "$reel" "$frame" ;;
         esac || break
         things=$((things + 1)) ends="$ends $passed"
@@ -208,10 +208,10 @@ round() { # KIND REEL PART SEED RECOVERIES FRAME..
     fi
     case $kind in
     remove) set -- $(for number in "$@"; do held_frame "$reel" "$number"; done) ;;
-    open | retire | recover) set -- ;;
+    open | retire | tidy | recover) set -- ;;
     esac
     rehearse "$kind" "$reel" "$@"
-    [ "$things" -gt 0 ] || return
+    [ "$passed" -gt 0 ] || return # refused, or nothing to tidy
     entries=$(awk -v part="$part" -v all="$passed" 'BEGIN { print part < 1 ? int(part * (all + 1)) : all }')
     if [ "$kind" = recover ]; then reel=; fi
     run "$kind" book $reel "$@" --crash-after "$entries" --seed "$chance"

@@ -14,13 +14,13 @@ longest() { # NODES [REEL:NODES..]: of the book, and of each reel, in every form
     shift
     run stat path --by-reel
     holds grep -qx "longest  path of $wanted node$([ "$wanted" = 1 ] || echo s)" out
-    holds test "$(echo $(awk 'NF == 9 && $1 != "reel" { print $1 ":" $9 }' out))" = "$*"
+    holds test "$(echo $(awk 'NF == 10 && $1 != "reel" { print $1 ":" $9 }' out))" = "$*"
     run stat path --json
-    holds grep -q "\"longest_path\":$wanted}\$" out
+    holds grep -q "\"longest_path\":$wanted," out
     run stat path --csv
-    holds test "$(echo $(sed 's/.*,//' out))" = "longest_path $wanted"
+    holds test "$(echo $(sed 's/.*,\(.*\),.*/\1/' out))" = "longest_path $wanted"
     run stat path --csv --by-reel
-    holds test "$(echo $(sed '1d; s/,.*,/:/' out))" = "$*"
+    holds test "$(echo $(sed '1d; s/,.*,\(.*\),.*/:\1/' out))" = "$*"
 }
 
 # Power fails in adding a frame, and recovery follows; then the book is as it was before.

@@ -100,12 +100,12 @@ map_at=16384
 sound='sound; closed cleanly; locate words that differ: 0'
 range="a number from 0 to $most in decimal without leading zeros"
 
-for part in commands lookups pictures dumps files damage failures editions tables convert barriers; do
+for part in commands lookups tidy pictures dumps files damage failures editions tables convert barriers; do
     . "$here/tool-$part.sh"
 done
 
 echo "tool: seed $seed, $rounds rounds"
-for part in commands pictures help full lookups refusals arguments numbers forms dumps files streams reading locks waiting \
+for part in commands pictures help full lookups tidy refusals arguments numbers forms dumps files streams reading locks waiting \
     recovery damage mixtures power_failures editions tables convert barriers; do
     "try_$part"
 done

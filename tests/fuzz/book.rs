@@ -8,7 +8,7 @@ use crate::subject::Subject;
 use std::collections::BTreeSet;
 
 /// Every operation but Format.
-pub const OPERATIONS: [Function; 11] = [Recover, Open, Claim, Fill, Commit, Abandon, Remove, Has, List, Retire, Convert];
+pub const OPERATIONS: [Function; 12] = [Recover, Open, Claim, Fill, Commit, Abandon, Remove, Has, List, Retire, Tidy, Convert];
 
 /// What every word holds before it is written, so that no result is there already.
 pub const JUNK: u64 = 0x5a5a_5a5a_5a5a_5a5a;

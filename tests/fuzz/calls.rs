@@ -30,6 +30,8 @@ struct Case {
     lent: Lent,
     expected: Lent,
     found: Lent,
+    /// A tidy that was answered just before: there may be more to be given back.
+    tidied: Option<Call>,
 }
 
 /// An image, sound or damaged, and some calls on it; the scripts of most are carried out.
@@ -60,11 +62,11 @@ impl Case {
         if lending.random.one_in(3) {
             lending.spare_bits();
         }
-        Case { expected: lent.clone(), found: lent.clone(), random, subject, slots, nodes, lent }
+        Case { expected: lent.clone(), found: lent.clone(), random, subject, slots, nodes, lent, tidied: None }
     }
 
     fn call(&mut self, coverage: &mut Coverage) -> Result<(), String> {
-        let mut call = self.draw();
+        let mut call = self.tidied.take().filter(|_| self.random.one_in(2)).unwrap_or_else(|| self.draw());
         self.found.clone_from(&self.lent);
         let kept = self.lend(&mut call);
         self.expected.clone_from(&self.found);
@@ -79,8 +81,10 @@ impl Case {
             let head = Head::read(&self.found.heads, call.head);
             coverage.left(head.place, &Claimed::of(head.node, &self.found, found.count));
         }
-        if call.function == Function::Convert && found.answer == 0 {
-            self.converted(coverage)?;
+        match call.function {
+            Function::Convert if found.answer == 0 => self.converted(coverage)?,
+            Function::Tidy if found.answer == 0 && kept => self.tidied = Some(call),
+            _ => (),
         }
         if kept {
             std::mem::swap(&mut self.lent, &mut self.found);
@@ -113,6 +117,9 @@ impl Case {
         if call.function == Function::Has {
             coverage.paths.called(call, &self.found.image);
         }
+        if call.function == Function::Tidy {
+            coverage.groups.called(call, &self.found, outcome.ending);
+        }
         if BAD_TABLES.contains(&outcome.ending) {
             let otherwise = operations::perform(call, &mut self.found.clone(), Fault::BadTableTaken);
             coverage.bad_table(call.function, otherwise.ending.answer);
@@ -128,19 +135,35 @@ impl Case {
         // More of those with many ways to end, fewer of Recover, which takes the most time.
         let often = [
             Open, Claim, Claim, Claim, Claim, Claim, Fill, Commit, Abandon, Remove, Remove, Has, Has, List, Retire, Convert,
-            Apply,
+            Apply, Tidy, Tidy,
         ];
         let function = if self.random.one_in(3) { self.random.pick(&Function::ALL) } else { self.random.pick(&often) };
         let head = if self.random.one_in(12) { self.random.odd_word(&[HEADS]) } else { self.random.below(HEADS) };
         let slot = match self.random.below(12) {
             0 => self.random.below(self.slots),
-            _ => some_slot(&mut self.random, &self.lent.image, self.slots),
+            _ => self.slot(function),
         };
         let reel = match self.random.below(12) {
             0 => self.random.odd_word(&[self.slots]),
             _ => self.lent.image[slot_index(slot) as usize],
         };
         Call { function, slots: self.slots, nodes: self.nodes, head, reel, frame: self.frame(slot) }
+    }
+
+    /// A slot that is filled, if there is one; for Tidy mostly one whose root has children.
+    fn slot(&mut self, function: Function) -> u64 {
+        let image = &self.lent.image;
+        let drawn = some_slot(&mut self.random, image, self.slots);
+        let others = (drawn + 1..self.slots).chain(0..drawn);
+        let has_children = |&slot: &u64| {
+            let root = image[slot_index(slot) as usize + 1];
+            (1..=self.nodes).contains(&root) && image[(node_index(self.slots, root - 1) + NEXT) as usize] != 0
+        };
+        let branched = std::iter::once(drawn).chain(others).find(has_children);
+        if function == Function::Tidy && !self.random.one_in(4) {
+            return branched.unwrap_or(drawn);
+        }
+        drawn
     }
 
     /// A frame that the reel in this slot holds, or one near it: on the path of a node, off it by a bit, or with its lower half.
@@ -170,6 +193,7 @@ impl Case {
             Function::Fill | Function::Commit | Function::Abandon if lending.random.one_in(2) => lending.heads(function),
             Function::Claim if lending.random.one_in(2) => lending.lent.heads.fill(0),
             Function::Claim if lending.random.one_in(2) => lending.rivals(call),
+            Function::Tidy if lending.random.one_in(2) => lending.lent.heads.fill(0),
             _ if lending.random.one_in(8) => lending.heads(function),
             _ => (),
         }

@@ -132,7 +132,7 @@ fn kinds_of_place(reached: &Reached, place: u64, held: &HashSet<u64>) -> [bool; 
 impl Conversions {
     /// An answered call, on an image with these words.
     pub fn met(&mut self, words: &[u64]) {
-        let image = Image { words, slots: words[1], nodes: words[2], fault: Fault::None };
+        let image = Image::of(words);
         for kind in kinds(image) {
             *self.met.entry((image.rule(), kind)).or_default() += 1;
         }

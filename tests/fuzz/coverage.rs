@@ -1,9 +1,11 @@
 //! What the fuzzing has reached: by each rule of the fingerprint, each way in which a function can end, each answer in a history,
 //! a crash of each function that stores; bad tables, and such as are not read; each way to start a history, and each format in
 //! one; each moment of a script for a crash, a crash of each function that stores with a claim of every head open, and with
-//! several in one tree; what claims leave of their nodes. Conversions and the paths of lookups have files of their own.
+//! several in one tree; what claims leave of their nodes. Conversions, the paths of lookups and groups given back have files of
+//! their own.
 use crate::conversions::Conversions;
 use crate::goals::*;
+use crate::groups::Groups;
 use crate::model::call::{Call, Function, Function::*};
 use crate::model::ending::*;
 use crate::model::fault::Fault;
@@ -44,6 +46,7 @@ impl Claims {
 #[derive(Default)]
 pub struct Coverage {
     pub conversions: Conversions,
+    pub groups: Groups,
     pub paths: Paths,
     /// By the image's rule too, where that counts.
     endings: BTreeMap<(Function, Ending, Option<Rule>), u64>,
@@ -218,7 +221,7 @@ impl Coverage {
         let mut counts: BTreeMap<(Function, u64), u64> = BTreeMap::new();
         answers.for_each(|(function, answer, count)| *counts.entry((function, answer)).or_default() += count);
         // 15 is the bench program's.
-        let all = || (0..=17).filter(|&answer| answer != 15);
+        let all = || (0..=18).filter(|&answer| answer != 15);
         println!("{:8}{:>8}{}", "", "calls", all().map(|answer| format!("{:>8}", answer)).collect::<String>());
         for function in Function::ALL {
             let count = |answer: u64| counts.get(&(function, answer)).copied().unwrap_or(0);
@@ -248,6 +251,7 @@ impl Coverage {
         println!("where before and after differ: {} mixtures before, {} after", self.undone, self.completed);
         self.conversions.print();
         self.paths.print();
+        self.groups.print();
     }
 
     /// What should have been reached by calls and was not, and what was and should not.
@@ -267,6 +271,7 @@ impl Coverage {
         lines.extend(missed(&all, &self.lefts, |key| format!("claim in a node of size {} that leaves {}", key.0, key.1)));
         lines.extend(self.conversions.calls_missed());
         lines.extend(self.paths.calls_missed());
+        lines.extend(self.groups.calls_missed());
         lines
     }
 
@@ -308,6 +313,7 @@ impl Coverage {
         }
         lines.extend(self.conversions.histories_missed());
         lines.extend(self.paths.histories_missed());
+        lines.extend(self.groups.histories_missed());
         lines
     }
 }

@@ -3,14 +3,14 @@
 use crate::coverage::Coverage;
 use crate::model::fault::Fault;
 use crate::run::{case, Kind};
-use crate::spoil;
 use crate::subject::Subject;
+use crate::{spoil, tidy_spoils};
 
 const BASE: u64 = 2;
 
 /// Cases in which a fault has to be found: ten times as many as any of them needs.
 const MOST_CALLS: u64 = 30_000;
-const MOST_HISTORIES: u64 = 1100;
+const MOST_HISTORIES: u64 = 1200;
 
 /// After how many cases there is a difference, if there is one.
 fn find(subject: Subject, kind: Kind, most: u64) -> Option<u64> {
@@ -42,7 +42,9 @@ pub fn find_all() -> bool {
             good &= try_fault(format!("{}: {}", name, text), Subject::Faulty(fault), kind, most);
         }
     }
-    for (name, (kind, most), spoils) in [("calls", calls, &spoil::OF_CALLS[..]), ("histories", histories, &spoil::OF_HISTORIES)] {
+    let of_calls = spoil::OF_CALLS.iter().chain(&tidy_spoils::OF_CALLS).collect::<Vec<_>>();
+    let of_histories = spoil::OF_HISTORIES.iter().chain(&tidy_spoils::OF_HISTORIES).collect();
+    for (name, (kind, most), spoils) in [("calls", calls, of_calls), ("histories", histories, of_histories)] {
         for spoil in spoils {
             good &= try_fault(format!("{}, library: {}", name, spoil.text), Subject::Spoilt(spoil), kind, most);
         }

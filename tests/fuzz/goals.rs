@@ -24,6 +24,7 @@ const TOGETHER: &[Ending] = &[
     BUSY_CHILD,
 ];
 const TREES: &[Ending] = &[TREE_EMPTY, TREE_ROOT, TREE_DEEP, REACHED_TWICE];
+const TIDIED: &[Ending] = &[TIDIED_ROOT, TIDIED_2, TIDIED_4, TIDIED_LAST, NO_CHILDREN, NO_GROUP, REACHED_TWICE];
 const BY_HEAD: &[Ending] = &[SCRIPT_LENGTH, HEAD_NUMBER, HEAD_NODE, HEAD_PLACE];
 const TABLES: &[Ending] = &[NO_TABLE, EMPTY_TABLE, GIVEN_TABLE, GIVEN_OURS];
 pub const REFUSED_TABLES: [Ending; 4] = [TABLE_SHORT, TABLE_LONG, TABLE_LACKS_ONE, TABLE_LACKS];
@@ -44,6 +45,7 @@ pub fn endings(function: Function) -> Vec<Ending> {
         Has => &[HEADER, PATH, &[NO_REEL, HAS_NO, HAS_OTHER, HAS_LOWER, HAS_YES]],
         List => &[HEADER, PATH, TREES, &[SCRATCH_LENGTH, NO_REEL, LIST_SHORT]],
         Retire => &[HEADER, PATH, TREES, &[MAP_LENGTH, SCRATCH_LENGTH, SCRIPT_LENGTH, NO_REEL, BUSY]],
+        Tidy => &[HEADER, PATH, TIDIED, &[MAP_LENGTH, SCRATCH_LENGTH, SCRIPT_LENGTH, NO_REEL, BUSY]],
         Convert => &[HEADER, PATH, UNSOUND, &[COPY_SHORT, COPY_LONG, SCRATCH_LENGTH, OWN_TABLE, DONE]],
         Apply => &[LENGTHS, &[SCRIPT_ODD, BARRIER_VALUE, STORE_OUTSIDE, STORES_NONE, STORES_HEADER, STORES]],
     };
@@ -83,6 +85,7 @@ pub fn answers(function: Function) -> &'static [u64] {
         Has => &[0, 1, 5],
         List => &[0, 1, 3, 5, 14],
         Retire => &[0, 1, 3, 5, 13],
+        Tidy => &[0, 1, 3, 5, 13, 18],
         Convert => &[0, 1, 3, 17],
         Apply => &[],
     }
@@ -111,7 +114,7 @@ pub const BAD_IN_2: &str = "edition 2 with word 3 of 0 and words 8 to 39 that ar
 pub const UNREAD: [&str; 4] = [GOOD_IN_1, BAD_IN_1, GOOD_IN_2, BAD_IN_2];
 
 /// Those that read the rule.
-pub const READING: [Function; 11] = [Recover, Open, Claim, Fill, Commit, Abandon, Remove, Has, List, Retire, Convert];
+pub const READING: [Function; 12] = [Recover, Open, Claim, Fill, Commit, Abandon, Remove, Has, List, Retire, Tidy, Convert];
 
 /// The numbers of entries that a function's scripts have. Without a script: Recover, Convert, and refusals.
 pub fn scripts(function: Function) -> &'static [usize] {
@@ -119,7 +122,7 @@ pub fn scripts(function: Function) -> &'static [usize] {
         Open => &[9, 0],
         Claim => &[2, 4, 15, 25, 0],
         Fill | Remove => &[4, 0],
-        Commit | Abandon | Retire => &[2, 0],
+        Commit | Abandon | Retire | Tidy => &[2, 0],
         Format | Recover | Has | List | Convert => &[0],
         Apply => &[],
     }
@@ -152,7 +155,7 @@ pub fn starts() -> Vec<(Rule, &'static str)> {
 }
 
 /// The functions that store, on power that may fail.
-pub const STORING: [Function; 8] = [Recover, Open, Claim, Fill, Commit, Abandon, Remove, Retire];
+pub const STORING: [Function; 9] = [Recover, Open, Claim, Fill, Commit, Abandon, Remove, Retire, Tidy];
 
 /// The entries of a branch-out of two and of one of four.
 pub const BRANCH_OUTS: [usize; 2] = [15, 25];

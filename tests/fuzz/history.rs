@@ -40,6 +40,9 @@ pub fn case(seed: u64, subject: Subject, coverage: &mut Coverage) -> Result<(), 
     if history.plan.brim {
         history.fill_to_the_brim().map_err(|text| format!("to the brim: {}", text))?;
     }
+    if history.plan.ebb {
+        history.flood_and_ebb().map_err(|text| format!("flood and ebb: {}", text))?;
+    }
     for step in 1..=history.plan.steps {
         let mut call = history.plan.call(&mut history.random, &history.table);
         history.step(&mut call).map_err(|text| format!("step {}, {}: {}", step, describe(&call), text))?;
@@ -94,9 +97,12 @@ impl History<'_> {
         let cut = !steady && (before.is_some() || branch && self.random.one_in(2));
         self.note(call, answer, cut);
         if !cut {
-            script::carry_out(&mut self.lent.image, &entries);
+            self.carry_out(call, answer, &entries)?;
             if converted && self.random.one_in(2) {
                 return self.go_on_with_copy();
+            }
+            if call.function == Function::Claim && answer == 8 && self.random.one_in(4) {
+                return self.claim_again(call).map_err(|text| format!("made again after tidy: {}", text));
             }
             return if self.random.one_in(self.plan.crash) { self.check_book() } else { Ok(()) };
         }
@@ -117,7 +123,8 @@ impl History<'_> {
         let own = self.lend(call);
         let due = self.due(call);
         let rule = self.rule();
-        let before = if call.function == Function::Convert { Some(self.lent.clone()) } else { None };
+        let compared = matches!(call.function, Function::Convert | Function::Tidy);
+        let before = if compared { Some(self.lent.clone()) } else { None };
         let handed = self.subject.perform(call, &mut self.lent, self.random.word());
         let reply = self.table.perform(call, &Fed::of(&self.lent), handed.answer);
         self.coverage.answer(call.function, handed.answer, rule);
@@ -128,10 +135,11 @@ impl History<'_> {
             return Err(format!("there is written outside the {}", name));
         }
         self.compare(handed.answer, handed.count, &reply)?;
-        before.map_or(Ok(()), |before| self.check_convert(before, handed.answer))?;
-        match call.function {
-            Function::Claim => self.compare_claim(call, &handed, due)?,
-            Function::Has => self.compare_has(call, &handed)?,
+        match (call.function, before) {
+            (Function::Claim, _) => self.compare_claim(call, &handed, due)?,
+            (Function::Has, _) => self.compare_has(call, &handed)?,
+            (Function::Convert, Some(before)) => self.check_convert(before, handed.answer)?,
+            (Function::Tidy, Some(before)) => self.check_tidy(call, before, &handed)?,
             _ => (),
         }
         let scripted = reply == Ok(Value::None);

@@ -1,4 +1,4 @@
-//! The library's thirteen functions, called as a C driver calls them.
+//! The library's fourteen functions, called as a C driver calls them.
 use crate::model::buffer::Buffer;
 use crate::model::call::{Call, Function, Lent};
 
@@ -30,6 +30,10 @@ extern "C" {
         image: Read, words: usize, scratch: Words, scratch_words: usize, list: Words, room: usize, reel: u64, count: Words,
     ) -> u64;
     fn reelbook_retire(
+        image: Read, words: usize, map: Words, map_words: usize, heads: Read, scratch: Words, scratch_words: usize, script: Words,
+        room: usize, reel: u64, used: Words,
+    ) -> u64;
+    fn reelbook_tidy(
         image: Read, words: usize, map: Words, map_words: usize, heads: Read, scratch: Words, scratch_words: usize, script: Words,
         room: usize, reel: u64, used: Words,
     ) -> u64;
@@ -70,6 +74,9 @@ pub fn perform(call: &Call, lent: &mut Lent, count: &mut u64, left: &mut u64, pa
             Function::List => reelbook_list(image, words, scratch, scratch_words, list, list_room, reel, count),
             Function::Retire => {
                 reelbook_retire(image, words, map, map_words, heads, scratch, scratch_words, script, room, reel, count)
+            }
+            Function::Tidy => {
+                reelbook_tidy(image, words, map, map_words, heads, scratch, scratch_words, script, room, reel, count)
             }
             Function::Convert => reelbook_convert(image, words, copy, copy_words, scratch, scratch_words),
             Function::Apply => reelbook_apply(image, words, script, room),

@@ -25,8 +25,8 @@ impl History<'_> {
         if answer == 0 {
             before.copy.clone_from(&self.lent.copy);
         }
-        match self.lent.named().iter().zip(before.named()).find(|(after, before)| **after != *before) {
-            Some(((name, _), _)) => Err(format!("the {} is not as is due", name)),
+        match self.lent.differs(&before) {
+            Some(name) => Err(format!("the {} is not as is due", name)),
             None if answer == 0 => self.check_copy().map_err(|text| format!("copy: {}", text)),
             None => Ok(()),
         }
@@ -36,15 +36,15 @@ impl History<'_> {
         converted_header(self.header[0], self.table.slots, self.table.nodes)
     }
 
-    /// The reels, frames and nodes are the book's; now and then, there and back.
+    /// The reels, frames, places and nodes are the book's; now and then, there and back.
     fn check_copy(&mut self) -> Result<(), String> {
         let Lent { image, copy, .. } = &self.lent;
         let (of_image, of_copy) = (contents(image)?, contents(copy)?);
         if copy[..HEADER_WORDS as usize] != self.copied_header() {
             return Err(format!("the header is {:x?}", &copy[..HEADER_WORDS as usize]));
         }
-        if of_copy.reels != self.table.reels || of_copy.nodes != of_image.nodes {
-            return Err(format!("other nodes, or {}", reels_differ(&self.table.reels, &of_copy.reels)));
+        if of_copy.reels != self.table.reels || of_copy.nodes != of_image.nodes || of_copy.places != of_image.places {
+            return Err(format!("other nodes or places, or {}", reels_differ(&self.table.reels, &of_copy.reels)));
         }
         if !self.random.one_in(2) {
             return Ok(());

@@ -17,7 +17,7 @@ pub struct Plan {
     pub steps: u64,
     /// One step in this many is crashed, and the book read whole as often.
     pub crash: u64,
-    /// A crash is tried at every moment of its script.
+    /// A crash is tried at every moment of its script; in Tidy always.
     pub every_moment: bool,
     /// All mixtures that a crash can leave are tried up to this many; of more, some.
     pub mixtures: u64,
@@ -30,27 +30,29 @@ pub struct Plan {
     one_tree: Option<u64>,
     /// It begins with a reel that is filled to the brim of its root, and beyond.
     pub brim: bool,
+    /// It begins with a pool that runs out, trees that are emptied from below, and groups that are given back.
+    pub ebb: bool,
     others: &'static [Function],
-    /// The depths of the trees that it starts with, where it starts on an image that has some.
+    /// The depths of the trees that it starts with, where it starts on an image that has some; none for bushy ones.
     pub depths: &'static [u64],
     pub reels: Vec<u64>,
     frames: Frames,
 }
 
-const OTHERS: [Function; 27] = [
+const OTHERS: [Function; 29] = [
     Open, Open, Open, Open, Open, Open, Remove, Remove, Remove, Remove, Has, Has, List, List, Retire, Retire, Claim, Fill,
-    Commit, Abandon, Abandon, Abandon, Abandon, Recover, Format, Convert, Convert,
+    Commit, Abandon, Abandon, Abandon, Abandon, Recover, Format, Convert, Convert, Tidy, Tidy,
 ];
-const OTHERS_DEEP: [Function; 9] = [Open, Remove, Remove, Has, List, Abandon, Claim, Recover, Convert];
+const OTHERS_DEEP: [Function; 10] = [Open, Remove, Remove, Has, List, Abandon, Claim, Recover, Convert, Tidy];
 
-const OTHERS_BESIDE: [Function; 9] = [Open, Open, Remove, Remove, Remove, Retire, Abandon, Recover, Convert];
+const OTHERS_BESIDE: [Function; 10] = [Open, Open, Remove, Remove, Remove, Retire, Abandon, Recover, Convert, Tidy];
 
 const REELS: [u64; 7] = [u64::MAX, 0, 7, 8, 9, 10, 11];
 
 const DEPTHS: [u64; 7] = [0, 0, 0, 1, 1, 2, 3];
 
 /// A path to level 31 needs its root, three groups of two and 28 of four.
-const DEEP_NODES: u64 = 1 + 3 * 2 + 28 * 4;
+pub const DEEP_NODES: u64 = 1 + 3 * 2 + 28 * 4;
 
 /// In two of three histories frames share their lower halves. High frames have none to share.
 fn few_frames(random: &mut Random, bounds: &[u64], shifts: &[u64]) -> Frames {
@@ -62,12 +64,13 @@ fn few_frames(random: &mut Random, bounds: &[u64], shifts: &[u64]) -> Frames {
 
 impl Plan {
     pub fn draw(random: &mut Random) -> Plan {
-        match random.below(42) {
+        match random.below(44) {
             0 => Plan::deep(random),
             1..=12 => Plan::growing(random),
             13..=19 => Plan::one_tree(random),
             20..=26 => Plan::together(random),
             27 | 28 => Plan::brim(random),
+            29..=32 => Plan::ebb(random),
             _ => Plan::few(random),
         }
     }
@@ -87,6 +90,7 @@ impl Plan {
             together: false,
             one_tree: None,
             brim: false,
+            ebb: false,
             others: &OTHERS,
             depths: &DEPTHS,
             reels: REELS[..slots as usize + 2].to_vec(),
@@ -117,6 +121,7 @@ impl Plan {
             together: slots == HEADS,
             one_tree: None,
             brim: false,
+            ebb: false,
             others: &OTHERS,
             depths: &DEPTHS,
             reels: (7..7 + slots.max(2)).collect(),
@@ -130,6 +135,14 @@ impl Plan {
         let slots = nodes + 1;
         let reels = (7..7 + slots + 2).collect();
         Plan { slots, nodes, steps: 60, crash: 24, mixtures: 16, brim: true, reels, ..Plan::few(random) }
+    }
+
+    /// A tree that takes 13 nodes, one beside it that takes three, and few nodes more, for each of which there is a slot.
+    fn ebb(random: &mut Random) -> Plan {
+        let (slots, nodes) = (8, random.between(18, 22));
+        let reels = (7..7 + slots + 2).collect();
+        let few = Plan::few(random);
+        Plan { slots, nodes, steps: 60, crash: 24, every_moment: false, mixtures: 8, ebb: true, depths: &[], reels, ..few }
     }
 
     /// All heads at work in one tree, with nodes for several of them: below the root, of level 2, or below a path to level 3.
@@ -147,6 +160,7 @@ impl Plan {
             together: true,
             one_tree: Some(alone),
             brim: false,
+            ebb: false,
             others: &OTHERS_BESIDE,
             depths: &DEPTHS,
             reels: vec![7, 8, 9],
@@ -167,6 +181,7 @@ impl Plan {
             together: false,
             one_tree: None,
             brim: false,
+            ebb: false,
             others: &OTHERS_DEEP,
             depths: &[0],
             reels: vec![0],
@@ -218,12 +233,14 @@ impl Plan {
             Open if self.one_tree.is_some() && !table.reels.contains_key(&self.reels[0]) => return self.reels[0],
             Claim if self.one_tree.is_some() && !random.one_in(6) => return self.reels[0],
             // What takes a tree away, or needs it quiet, is for the others.
-            Open | Remove | Retire if self.one_tree.is_some() && !random.one_in(6) => return random.pick(&self.reels[1..]),
+            Open | Remove | Retire | Tidy if self.one_tree.is_some() && !random.one_in(6) => {
+                return random.pick(&self.reels[1..])
+            }
             _ => (),
         }
         let among = match function {
             Open if self.together => Vec::new(),
-            Claim | Remove | Retire if self.together && !random.one_in(4) => table.quiet_reels(),
+            Claim | Remove | Retire | Tidy if self.together && !random.one_in(4) => table.quiet_reels(),
             _ => table.reels.keys().copied().collect(),
         };
         self.reel(random, &among)

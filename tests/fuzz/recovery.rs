@@ -1,5 +1,5 @@
-//! Crashes of a history: every image that one can leave is recovered, by recoveries that crash too, and then has the frames and
-//! the nodes of before or after, with idle heads, the map of the nodes reached and their locate words.
+//! Crashes of a history: every image that one can leave is recovered, by recoveries that crash too, and then has the frames, in
+//! their places, and the nodes of before or after, with idle heads, the map of the nodes reached and their locate words.
 use crate::coverage::Claims;
 use crate::crash::Crash;
 use crate::history::History;
@@ -9,7 +9,7 @@ use crate::model::ending::Ending;
 use crate::model::fault::Fault;
 use crate::model::image::*;
 use crate::model::loads::load;
-use crate::model::node::{LEVEL_AT, LOCATE, PLACES, SET};
+use crate::model::node::{Node, LEVEL_AT, LOCATE, PLACES, SET};
 use crate::model::operations::check_image;
 use crate::model::rule::{Rule, OWN};
 use crate::model::script::{carry_out, Entry, BARRIER};
@@ -28,22 +28,26 @@ fn unsound(ending: Ending) -> String {
     format!("the image is not sound: {}", ending.shape)
 }
 
-/// An image's reels with their frames, and the nodes reached.
+/// An image's reels with their frames, the nodes reached, and where in these the frames are: node, place and frame in the order
+/// of List, reel by reel.
 #[derive(PartialEq, Eq)]
 pub struct Contents {
     pub reels: Reels,
     pub nodes: BTreeSet<u64>,
+    pub places: Vec<(u64, u64, u64)>,
 }
 
 pub fn contents(words: &[u64]) -> Result<Contents, String> {
     let image = check_image(words, Fault::None).map_err(unsound)?;
     let nodes = image.sound().map_err(unsound)?.into_iter().collect();
-    let mut reels = Reels::new();
+    let (mut reels, mut places) = (Reels::new(), Vec::new());
     for slot in image.filled_slots() {
         let walk = image.walk(image.root(slot), &mut HashSet::new()).map_err(unsound)?;
         reels.insert(image.reel(slot), tree::frames(&walk).into_iter().collect());
+        let held = |node: Node<'_>| node.held().map(|place| (node.number, place, node.frame(place))).collect::<Vec<_>>();
+        places.extend(walk.iter().flat_map(|reached| held(reached.node)));
     }
-    Ok(Contents { reels, nodes })
+    Ok(Contents { reels, nodes, places })
 }
 
 /// The highest level of a node in use.
@@ -90,7 +94,7 @@ impl History<'_> {
     }
 
     /// The book is the table's. Its map has the nodes reached, and their locate words have the places held and those claimed.
-    fn check_contents(&self, Contents { reels, nodes }: &Contents) -> Result<(), String> {
+    fn check_contents(&self, Contents { reels, nodes, .. }: &Contents) -> Result<(), String> {
         let (lent, table) = (&self.lent, &self.table);
         if *reels != table.reels {
             return Err(reels_differ(&table.reels, reels));
@@ -120,14 +124,15 @@ impl History<'_> {
     /// In a script, with so many claims open: at every moment of it, or at one.
     pub fn crash_in_script(&mut self, call: &Call, entries: &[Entry], before: &Reels, claims: Claims) -> Result<(), String> {
         let image = self.lent.image.clone();
-        let before = Contents { reels: before.clone(), nodes: contents(&image)?.nodes };
+        let before = Contents { reels: before.clone(), ..contents(&image)? };
         let mut carried = image.clone();
         carry_out(&mut carried, entries);
-        let after = Contents { reels: self.table.reels.clone(), nodes: contents(&carried)?.nodes };
+        let after = Contents { reels: self.table.reels.clone(), ..contents(&carried)? };
         let load = load(&self.table, call.reel).iter().sum();
         let moments = entries.len() as u64 + 1;
         let first = self.random.below(moments);
-        for moment in first..first + if self.plan.every_moment { moments } else { 1 } {
+        let every_moment = self.plan.every_moment || call.function == Function::Tidy;
+        for moment in first..first + if every_moment { moments } else { 1 } {
             let (done, left) = entries.split_at((moment % moments) as usize);
             let passed = !left.contains(&BARRIER);
             self.coverage.crash(call.function, entries.len(), done.len(), claims, self.rule());
@@ -141,7 +146,7 @@ impl History<'_> {
     /// In a Recover that the history has, or between it and the driver's barrier.
     pub fn crash_in_recover(&mut self, image: &Buffer, reels: &Reels, claims: Claims) -> Result<(), String> {
         self.coverage.crash(Function::Recover, 0, 0, claims, self.rule());
-        let both = Contents { reels: reels.clone(), nodes: contents(image)?.nodes };
+        let both = Contents { reels: reels.clone(), ..contents(image)? };
         self.crash(&Crash::in_recover(image, &self.lent.image), &both, &both, false, None)
     }
 
@@ -187,6 +192,9 @@ impl History<'_> {
         self.check_contents(&found)?;
         if found.nodes != expected.nodes {
             return Err(format!("nodes reached {:?}, of before {:?}, of after {:?}", found.nodes, before.nodes, after.nodes));
+        }
+        if found.places != expected.places {
+            return Err("a frame is in another place".to_string());
         }
         Ok(undone)
     }

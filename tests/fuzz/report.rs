@@ -12,7 +12,7 @@ pub fn describe(call: &Call) -> String {
     match call.function {
         Format => format!("{} slots={} nodes={}", name, call.slots, call.nodes),
         Recover | Convert | Apply => name,
-        Open | List | Retire => format!("{} reel={}", name, call.reel),
+        Open | List | Retire | Tidy => format!("{} reel={}", name, call.reel),
         Claim => format!("{} head={} reel={} frame={}", name, call.head, call.reel, call.frame),
         Fill | Commit | Abandon => format!("{} head={}", name, call.head),
         Remove | Has => format!("{} reel={} frame={}", name, call.reel, call.frame),

@@ -6,7 +6,7 @@ use crate::model::node::{with_byte, FINGERPRINTS, FRAMES, LOCATE, NEXT, SET};
 use crate::model::rule::*;
 use crate::subject::Subject;
 
-type Change = fn(&Call, &mut Lent, &mut Handed);
+pub type Change = fn(&Call, &mut Lent, &mut Handed);
 
 /// What is changed after a function's call with this answer.
 pub struct Spoil {
@@ -16,7 +16,7 @@ pub struct Spoil {
     change: Change,
 }
 
-const fn after(function: Function, answer: u64, text: &'static str, change: Change) -> Spoil {
+pub const fn after(function: Function, answer: u64, text: &'static str, change: Change) -> Spoil {
     Spoil { function, answer, text, change }
 }
 
@@ -93,7 +93,7 @@ pub static OF_CALLS: [Spoil; 68] = [
 ];
 
 /// Found by histories, held against the plain table alone.
-pub static OF_HISTORIES: [Spoil; 51] = [
+pub static OF_HISTORIES: [Spoil; 52] = [
     after(Commit, 0, "commit answers 12 and is done", |_, _, handed| {
         *handed = Handed { answer: 12, count: 0, left: 0, path_nodes: 0 }
     }),
@@ -117,6 +117,7 @@ pub static OF_HISTORIES: [Spoil; 51] = [
     after(Recover, 0, "recover leaves a locate bit", |_, lent, _| *node_word(lent, 0, LOCATE) |= 1 << 15),
     after(Recover, 0, "recover drops children that hold nothing", |_, lent, _| drop_children(lent)),
     after(Recover, 0, "recover loses a frame", |_, lent, _| *node_word(lent, 0, SET) &= !1),
+    after(Recover, 0, "recover moves a frame to the last place", |_, lent, _| move_frame(lent)),
     after(Format, 0, "format leaves a root", |_, lent, _| lent.image[65] = 1),
     after(Format, 0, "format writes edition 1", |_, lent, _| lent.image[0] = FIRST_EDITION),
     after(Recover, 0, "recover makes edition 2 of edition 1", |_, lent, _| lent.image[0] = EDITION),
@@ -170,7 +171,7 @@ fn is_own(lent: &Lent) -> u64 {
     u64::from(Rule::of(&lent.image) == Some(OWN))
 }
 
-fn bad(lent: &Lent) -> u64 {
+pub fn bad(lent: &Lent) -> u64 {
     u64::from(is_bad(&lent.image))
 }
 
@@ -209,7 +210,7 @@ fn fold_as_other_edition(call: &Call, lent: &mut Lent) {
     lent.script[5] = with_byte(lent.script[5], place % 8, rule.fingerprint(&lent.image, frame));
 }
 
-fn scratch_bit(lent: &mut Lent) {
+pub fn scratch_bit(lent: &mut Lent) {
     if bad(lent) == 1 {
         lent.scratch[0] = 1;
     }
@@ -253,20 +254,24 @@ fn swap_numbers(handed: &mut Handed) {
     std::mem::swap(&mut handed.count, &mut handed.path_nodes);
 }
 
-/// Is each of the 64 places of the reel's root taken, and has it no children?
-fn is_full(call: &Call, lent: &mut Lent) -> bool {
+pub fn root_of(call: &Call, lent: &Lent) -> Option<u64> {
     let slots = (0..lent.image[1]).map(|slot| slot_index(slot) as usize);
     let slot = slots.rev().find(|&slot| lent.image[slot + 1] != 0 && lent.image[slot] == call.reel);
-    let root = slot.map(|slot| lent.image[slot + 1] - 1);
+    slot.map(|slot| lent.image[slot + 1] - 1)
+}
+
+/// Is each of the 64 places of the reel's root taken, and has it no children?
+fn is_full(call: &Call, lent: &mut Lent) -> bool {
+    let root = root_of(call, lent);
     root.map_or(false, |root| *node_word(lent, root, LOCATE) == u64::MAX && *node_word(lent, root, NEXT) == 0)
 }
 
-fn mark_last(lent: &mut Lent) {
+pub fn mark_last(lent: &mut Lent) {
     let nodes = lent.image[2];
     mark_used(&mut lent.map, nodes - 1);
 }
 
-fn spare_bit(lent: &mut Lent) {
+pub fn spare_bit(lent: &mut Lent) {
     let nodes = lent.image[2];
     if nodes % 64 != 0 {
         mark_used(&mut lent.map, nodes);
@@ -325,9 +330,21 @@ fn record(lent: &mut Lent, head: u64) -> &mut [u64] {
     &mut lent.heads[head as usize * HEAD_WORDS..][..HEAD_WORDS]
 }
 
-fn node_word(lent: &mut Lent, node: u64, word: u64) -> &mut u64 {
+pub fn node_word(lent: &mut Lent, node: u64, word: u64) -> &mut u64 {
     let index = node_index(lent.image[1], node) + word;
     &mut lent.image[index as usize]
+}
+
+/// From place 0 to place 15 of node 0, with its fingerprint, if the one is held and the other is clear.
+fn move_frame(lent: &mut Lent) {
+    let root = node_index(lent.image[1], 0) as usize;
+    let node = &mut lent.image[root..][..NODE_WORDS as usize];
+    if node[SET as usize] & (1 | 1 << 15) == 1 {
+        let print = node[FINGERPRINTS as usize] & 255;
+        node[FINGERPRINTS as usize + 1] = with_byte(node[FINGERPRINTS as usize + 1], 7, print);
+        node[FRAMES as usize + 15] = node[FRAMES as usize];
+        [LOCATE, SET].iter().for_each(|&word| node[word as usize] ^= 1 | 1 << 15);
+    }
 }
 
 /// The two children of node 0, if it is a root with such.

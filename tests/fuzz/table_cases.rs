@@ -79,7 +79,7 @@ fn is_refused(bad: &Book) -> bool {
                 Recover => &mut book.lent.map,
                 _ => &mut book.lent.scratch,
             };
-            let clear = !matches!(function, Recover | List | Retire | Convert) || cleared[..] == [0];
+            let clear = !matches!(function, Recover | List | Retire | Tidy | Convert) || cleared[..] == [0];
             cleared.fill(JUNK);
             handed == (4, 0, Vec::new()) && clear && book.left == 0 && book.lent == before
         })

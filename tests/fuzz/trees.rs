@@ -5,6 +5,7 @@ use crate::model::image::*;
 use crate::model::node::*;
 use crate::model::rule::{Rule, RULES};
 use crate::model::table::Reels;
+use crate::plan::DEEP_NODES;
 use crate::random::Random;
 use crate::tables;
 use std::collections::HashSet;
@@ -18,24 +19,28 @@ pub struct Built {
     pub reels: Reels,
 }
 
-/// What the trees are to have: a rule, reel numbers to choose from, or else any, depths, and the nodes they may still take.
+/// What the trees are to have: a rule, reel numbers to choose from, or else any, depths, and the nodes they may still take, all
+/// one behind the other or not.
 struct Aim<'a> {
     rule: Rule,
     reels: &'a [u64],
     depths: &'a [u64],
     nodes: u64,
+    dense: bool,
 }
 
 #[derive(Clone, Copy)]
 enum Fill {
     Empty,
+    /// A place in some of the nodes, none in most.
+    Few,
     Sparse,
     Dense,
     Full,
 }
 
-/// The locate word beside a set word: every place wanted taken, as the set word, with more bits, any, or all places but one; or
-/// every place wanted, one of which is filled and not committed.
+/// The locate word beside a set word: every place wanted taken, as the set word, with more bits, any, or all places but one;
+/// every place wanted, one of which is filled and not committed; or in some nodes none, in some a place more.
 #[derive(Clone, Copy)]
 enum Locate {
     Wanted,
@@ -44,12 +49,15 @@ enum Locate {
     Any,
     AllButOne,
     Filled,
+    NoneOrMore,
 }
 
-/// A tree's plan: a path that it follows down to a depth, how full its nodes are, and the frames held so far.
+/// A tree's plan: a path that it follows down to a depth, or every second node, how full its nodes are, and the frames held so
+/// far.
 struct Plan {
     target: u64,
     depth: u64,
+    bushy: bool,
     fill: Fill,
     locate: Locate,
     held: HashSet<u64>,
@@ -58,6 +66,10 @@ struct Plan {
 const FILLS: [Fill; 6] = [Fill::Empty, Fill::Sparse, Fill::Dense, Fill::Full, Fill::Full, Fill::Full];
 const LOCATES: [Locate; 8] =
     [Locate::Wanted, Locate::Wanted, Locate::Wanted, Locate::Equal, Locate::More, Locate::Any, Locate::AllButOne, Locate::Filled];
+
+/// Of trees in which many groups are empty, and many not by one word of a child.
+const FEW_FILLS: [Fill; 4] = [Fill::Empty, Fill::Few, Fill::Few, Fill::Few];
+const FEW_LOCATES: [Locate; 3] = [Locate::Equal, Locate::NoneOrMore, Locate::NoneOrMore];
 
 struct Builder<'a> {
     random: &'a mut Random,
@@ -71,8 +83,14 @@ struct Builder<'a> {
 
 pub fn build(random: &mut Random) -> Built {
     let chain = random.one_in(7);
-    let (slots, nodes) = if chain { (random.between(1, 3), random.between(35, 44)) } else { geometry(random) };
-    let aim = Aim { rule: random.pick(&RULES), reels: &[], depths: &[0, 0, 0, 1, 2, 3, 4, 6, 31], nodes };
+    let deep = !chain && random.one_in(40);
+    let (slots, nodes) = match (chain, deep) {
+        (true, _) => (random.between(1, 3), random.between(35, 44)),
+        (_, true) => (1, random.between(DEEP_NODES, DEEP_NODES + 12)),
+        _ => geometry(random),
+    };
+    let depths: &[u64] = if deep { &[LAST_LEVEL] } else { &[0, 0, 0, 1, 2, 3, 4, 6, LAST_LEVEL] };
+    let aim = Aim { rule: random.pick(&RULES), reels: &[], depths, nodes, dense: deep };
     let mut builder = Builder::new(random, aim, slots, nodes);
     if chain {
         builder.chain();
@@ -82,10 +100,11 @@ pub fn build(random: &mut Random) -> Built {
     builder.built()
 }
 
-/// A sound image that goes by this rule. Most reels have these numbers and the trees these depths. Mostly nodes are left.
+/// A sound image that goes by this rule. Most reels have these numbers and the trees these depths; without any they are bushy and
+/// take what they can. Else mostly nodes are left.
 pub fn found(random: &mut Random, rule: Rule, (slots, nodes): (u64, u64), reels: &[u64], depths: &[u64]) -> Built {
-    let most = if random.one_in(8) { nodes } else { random.between(1, 10) };
-    let aim = Aim { rule, reels, depths, nodes: most };
+    let most = if depths.is_empty() || random.one_in(8) { nodes } else { random.between(1, 10) };
+    let aim = Aim { rule, reels, depths, nodes: most, dense: false };
     let mut builder = Builder::new(random, aim, slots, nodes);
     builder.trees();
     builder.built()
@@ -141,8 +160,14 @@ impl<'a> Builder<'a> {
 
     fn plan(&mut self) -> Plan {
         let target = if self.random.one_in(2) { 0 } else { self.random.word() };
-        let depth = self.random.pick(self.aim.depths);
-        Plan { target, depth, fill: self.random.pick(&FILLS), locate: self.random.pick(&LOCATES), held: HashSet::new() }
+        let bushy = self.aim.depths.is_empty() || self.random.one_in(4) && !self.aim.dense;
+        let depth = if bushy { self.random.between(1, 5) } else { self.random.pick(self.aim.depths) };
+        let (fill, locate) = if bushy || self.aim.dense {
+            (self.random.pick(&FEW_FILLS), self.random.pick(&FEW_LOCATES))
+        } else {
+            (self.random.pick(&FILLS), self.random.pick(&LOCATES))
+        };
+        Plan { target, depth, bushy, fill, locate, held: HashSet::new() }
     }
 
     /// A tree for most of the slots, or for some of many, as long as the pool lasts.
@@ -167,7 +192,7 @@ impl<'a> Builder<'a> {
 
     /// The first of adjacent free nodes: the lowest ones, or those after a random node.
     fn take(&mut self, count: u64) -> Option<u64> {
-        let from = if self.random.one_in(2) { self.random.below(self.nodes) } else { 0 };
+        let from = if self.aim.dense || self.random.one_in(2) { 0 } else { self.random.below(self.nodes) };
         let free = |first: u64| first + count <= self.nodes && (first..first + count).all(|node| !is_used(&self.map, node));
         let first = (from..self.nodes).find(|&first| free(first) && count <= self.aim.nodes)?;
         self.aim.nodes -= count;
@@ -180,7 +205,11 @@ impl<'a> Builder<'a> {
         let on_target = prefix == low_bits(plan.target, path_bits(level));
         let size = if level == 0 && plan.depth == 0 { self.random.pick(&[16, 32, 64]) } else { 64 };
         self.node(number, level, size, prefix, plan);
-        let grows = if on_target { level < plan.depth } else { self.random.one_in(12) };
+        let grows = match plan.bushy {
+            true => level < plan.depth && (level == 0 || self.random.one_in(2)),
+            false if on_target => level < plan.depth,
+            false => self.random.one_in(12),
+        };
         if size < 64 || level == LAST_LEVEL || !grows {
             return;
         }
@@ -220,6 +249,7 @@ impl<'a> Builder<'a> {
         let fill = if self.random.one_in(100) { self.random.pick(&FILLS) } else { plan.fill };
         let wanted = match fill {
             Fill::Empty => 0,
+            Fill::Few => u64::from(self.random.one_in(5)) << self.random.below(PLACES),
             Fill::Sparse => self.random.word() & self.random.word() & self.random.word(),
             Fill::Dense => self.random.word() | self.random.word(),
             Fill::Full => u64::MAX,
@@ -238,6 +268,11 @@ impl<'a> Builder<'a> {
             Locate::Equal => set,
             Locate::More => set | self.random.word() & mask,
             Locate::Any => self.random.word() & mask,
+            Locate::NoneOrMore => match self.random.below(8) {
+                0 => set ^ 1 << self.random.below(size),
+                1..=4 => 0,
+                _ => set,
+            },
             Locate::AllButOne => {
                 let any = self.random.below(size);
                 mask & !(1 << self.random.pick(&[any, size - 1]))

@@ -14,12 +14,13 @@ pub enum Function {
     Has,
     List,
     Retire,
+    Tidy,
     Convert,
     Apply,
 }
 
 impl Function {
-    pub const ALL: [Function; 13] = [
+    pub const ALL: [Function; 14] = [
         Function::Format,
         Function::Recover,
         Function::Open,
@@ -31,6 +32,7 @@ impl Function {
         Function::Has,
         Function::List,
         Function::Retire,
+        Function::Tidy,
         Function::Convert,
         Function::Apply,
     ];
@@ -86,6 +88,12 @@ impl Lent {
         let broken = self.named().into_iter().find(|(_, buffer)| !buffer.guards_hold()).map(|(name, _)| name);
         let table = self.table.iter().any(|table| !table.guards_hold());
         broken.or(if table { Some("table") } else { None })
+    }
+
+    /// The name of a buffer in which the other has something else.
+    pub fn differs(&self, other: &Lent) -> Option<&'static str> {
+        let differing = self.named().into_iter().zip(other.named()).find(|(mine, other)| mine != other);
+        differing.map(|((name, _), _)| name)
     }
 
     pub fn named(&self) -> [(&'static str, &Buffer); 7] {

@@ -39,6 +39,10 @@ pub const HAS_YES: Ending = ending(0, "yes");
 pub const TREE_EMPTY: Ending = ending(0, "no frame");
 pub const TREE_ROOT: Ending = ending(0, "frames in one node");
 pub const TREE_DEEP: Ending = ending(0, "several nodes");
+pub const TIDIED_ROOT: Ending = ending(0, "children of the root");
+pub const TIDIED_2: Ending = ending(0, "two children below the root");
+pub const TIDIED_4: Ending = ending(0, "four children");
+pub const TIDIED_LAST: Ending = ending(0, "children of level 31");
 pub const STORES_NONE: Ending = ending(0, "no store");
 pub const STORES_HEADER: Ending = ending(0, "store to the header");
 pub const STORES: Ending = ending(0, "stores");
@@ -108,6 +112,8 @@ pub const TABLE_LONG: Ending = ending(16, "table of more bytes");
 pub const TABLE_LACKS_ONE: Ending = ending(16, "table lacks one byte");
 pub const TABLE_LACKS: Ending = ending(16, "table lacks several bytes");
 pub const OWN_TABLE: Ending = ending(17, "own table");
+pub const NO_CHILDREN: Ending = ending(18, "no node has children");
+pub const NO_GROUP: Ending = ending(18, "no group of children is empty");
 
 /// Refusal 4 for word 3 or the stored table.
 pub const BAD_TABLES: [Ending; 5] = [OWN_2, OWN_HIGH, OWN_ABOVE, STORED_LACKS_ONE, STORED_LACKS];

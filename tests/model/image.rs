@@ -68,6 +68,11 @@ impl<'a> Image<'a> {
         Ok(Image { words, slots, nodes, fault })
     }
 
+    /// One whose length is known to be right.
+    pub fn of(words: &'a [u64]) -> Image<'a> {
+        Image { words, slots: words[1], nodes: words[2], fault: Fault::None }
+    }
+
     pub fn word(&self, index: u64) -> u64 {
         self.words[index as usize]
     }

@@ -17,4 +17,5 @@ pub mod path_nodes;
 pub mod rule;
 pub mod script;
 pub mod table;
+pub mod tidy;
 pub mod tree;

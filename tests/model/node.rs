@@ -34,7 +34,7 @@ pub fn child(level: u64, frame: u64) -> u64 {
 }
 
 /// The frame's low bits, lowest first, that lead to a node of this level.
-pub fn path_bits(level: u64) -> u64 {
+pub const fn path_bits(level: u64) -> u64 {
     if level <= 3 {
         level
     } else {

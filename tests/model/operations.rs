@@ -1,4 +1,4 @@
-//! The thirteen functions: answer, count, script and every buffer at the end, over any contents, numbers and lengths.
+//! The fourteen functions: answer, count, script and every buffer at the end, over any contents, numbers and lengths.
 //! Refusals come by `?`, in the specification's sequence, before anything is written.
 use super::call::{Call, Function, Handed, Lent};
 use super::claim::claim;
@@ -12,6 +12,7 @@ use super::node::*;
 use super::path_nodes::path_nodes;
 use super::rule::Rule;
 use super::script::{self, Entry, BARRIER, SCRIPT_WORDS};
+use super::tidy::tidy;
 use super::tree::{self, Reached};
 use std::collections::HashSet;
 
@@ -36,6 +37,7 @@ pub fn perform(call: &Call, lent: &mut Lent, fault: Fault) -> Outcome {
         Function::Has => has(call, lent, fault),
         Function::List => list(call, lent, fault),
         Function::Retire => retire(call, lent, fault),
+        Function::Tidy => tidy(call, lent, fault),
         Function::Convert => convert(lent, fault),
         Function::Apply => apply(lent, fault),
     };
@@ -91,13 +93,21 @@ pub fn check_script(script: &[u64]) -> Result<(), Ending> {
     check(script.len() >= SCRIPT_WORDS, SCRIPT_LENGTH)
 }
 
-/// Refusal 13 of Remove and Retire: any head at work in the reel.
+/// Refusal 13 of Remove, Retire and Tidy: any head at work in the reel.
 pub fn check_busy(heads: &[u64], slot: u64, fault: Fault) -> Result<(), Ending> {
     let idle = |head: u64| match fault {
         Fault::AnyStateBusy => heads[head as usize * HEAD_WORDS] == 0,
         _ => Head::read(heads, head).state == State::Idle,
     };
     check((0..HEADS).all(|head| idle(head) || Head::read(heads, head).slot != slot), BUSY)
+}
+
+/// Refusal 4 for the table, and 5: the reel's slot.
+pub fn check_reel(call: &Call, image: Image) -> Result<u64, Ending> {
+    image.check_table_unless(Fault::TableAfterReel)?;
+    let slot = image.slot_of(call.reel).ok_or(NO_REEL)?;
+    image.check_table_if(Fault::TableAfterReel)?;
+    Ok(slot)
 }
 
 /// Refusals 11 and 12: the head's record, if its state is one of these.
@@ -244,9 +254,7 @@ fn abandon(call: &Call, lent: &mut Lent, fault: Fault) -> Ended {
 fn remove(call: &Call, lent: &mut Lent, fault: Fault) -> Ended {
     let image = check_image(&lent.image, fault)?;
     check_script(&lent.script)?;
-    image.check_table_unless(Fault::TableAfterReel)?;
-    let slot = image.slot_of(call.reel).ok_or(NO_REEL)?;
-    image.check_table_if(Fault::TableAfterReel)?;
+    let slot = check_reel(call, image)?;
     check_busy(&lent.heads, slot, fault)?;
     let path = image.path(image.root(slot), call.frame)?;
     let found = match fault {
@@ -266,9 +274,7 @@ fn remove(call: &Call, lent: &mut Lent, fault: Fault) -> Ended {
 /// Has's refusals up to 5, then the image and the root of the reel in it.
 pub fn looked_up<'a>(call: &Call, words: &'a [u64], fault: Fault) -> Result<(Image<'a>, u64), Ending> {
     let image = check_image(words, fault)?;
-    image.check_table_unless(Fault::TableAfterReel)?;
-    let slot = image.slot_of(call.reel).ok_or(NO_REEL)?;
-    image.check_table_if(Fault::TableAfterReel)?;
+    let slot = check_reel(call, image)?;
     Ok((image, image.root(slot)))
 }
 
@@ -304,9 +310,7 @@ fn list(call: &Call, lent: &mut Lent, fault: Fault) -> Ended {
     if !left {
         lent.scratch.fill(0);
     }
-    image.check_table_unless(Fault::TableAfterReel)?;
-    let slot = image.slot_of(call.reel).ok_or(NO_REEL)?;
-    image.check_table_if(Fault::TableAfterReel)?;
+    let slot = check_reel(call, image)?;
     let walk = image.walk(image.root(slot), &mut HashSet::new())?;
     let frames = tree::frames(&walk);
     check(frames.len() <= lent.list.len(), LIST_SHORT)?;
@@ -320,9 +324,7 @@ fn retire(call: &Call, lent: &mut Lent, fault: Fault) -> Ended {
     check_scratch(&lent.scratch, image.nodes)?;
     check_script(&lent.script)?;
     lent.scratch.fill(0);
-    image.check_table_unless(Fault::TableAfterReel)?;
-    let slot = image.slot_of(call.reel).ok_or(NO_REEL)?;
-    image.check_table_if(Fault::TableAfterReel)?;
+    let slot = check_reel(call, image)?;
     check_busy(&lent.heads, slot, fault)?;
     let walk = image.walk(image.root(slot), &mut HashSet::new())?;
     let freed = if fault == Fault::ChildrenLeft { &walk[..1] } else { &walk[..] };

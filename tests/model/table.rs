@@ -1,6 +1,6 @@
 //! The plain table of reels: what a history of operations answers, without nodes, scripts or crashes.
 //! It is fed the calls' numbers, the lengths lent, the table that Format is given, and the book's answer where that turns on
-//! nodes: 8, and Claim's 13 for a node.
+//! nodes: 8, Claim's 13 for a node, and 18.
 use super::call::{Call, Function, Lent};
 use super::image::{image_words, map_words, HEADS, MAX_NODES, MAX_SLOTS};
 use super::script::SCRIPT_WORDS;
@@ -127,6 +127,7 @@ impl Table {
             Function::Has => return Ok(Value::Has(self.frames(call.reel)?.contains(&call.frame))),
             Function::List => return self.list(call.reel, fed.list),
             Function::Retire => self.retire(call.reel)?,
+            Function::Tidy => self.tidy(call.reel, book)?,
             Function::Convert => refuse(self.own, 17)?,
             Function::Format | Function::Apply => unreachable!("answered above, or no operation"),
         }
@@ -149,9 +150,9 @@ impl Table {
         use Function::*;
         refuse(fed.image != image_words(self.slots, self.nodes), 1)?;
         refuse(function == Convert && fed.copy != fed.image, 1)?;
-        let map = matches!(function, Recover | Open | Claim | Retire);
+        let map = matches!(function, Recover | Open | Claim | Retire | Tidy);
         refuse(map && fed.map != map_words(self.nodes), 3)?;
-        let scratch = matches!(function, List | Retire | Convert);
+        let scratch = matches!(function, List | Retire | Tidy | Convert);
         refuse(scratch && fed.scratch != map_words(self.nodes), 3)?;
         let script = !matches!(function, Recover | Has | List | Convert);
         refuse(script && fed.script < SCRIPT_WORDS as u64, 3)
@@ -235,5 +236,11 @@ impl Table {
         self.quiet(reel)?;
         self.reels.remove(&reel);
         Ok(())
+    }
+
+    /// Nothing changes: what is given back are nodes.
+    fn tidy(&mut self, reel: u64, book: u64) -> Result<(), u64> {
+        self.quiet(reel)?;
+        refuse(book == 18, 18)
     }
 }

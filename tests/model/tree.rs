@@ -49,7 +49,8 @@ impl<'a> Image<'a> {
         Ok(reached)
     }
 
-    fn walk_from(
+    /// The same from a node on, node by node: those before a malformed one are there when it is met.
+    pub fn walk_from(
         &self,
         number: u64,
         steps: Vec<u64>,

@@ -18,26 +18,28 @@ use Rattle.tree.specs.Layout.{badImage, imageWords, badEdition}
 use Rattle.tree.specs.Fingerprint.{badOwn}
 use Rattle.tree.specs.Slots.{slotOf, emptySlot}
 use Rattle.tree.specs.Lookup.{pathFrom, freeRun}
+use Rattle.tree.specs.Groups.{firstGroup, NoGroup}
 use Rattle.tree.proofs.Cases.{test, true-not-false, same-test}
 use Rattle.tree.proofs.Tests.{says}
 use Rattle.book.specs.Heads.{headCount, headAt, targetOf}
 use Rattle.book.specs.Refusals.{Refusal, _gives_, refusal}
 use Rattle.tree.specs.Room.{roomOn, atLevel31}
-use Rattle.book.specs.State.{State, Operation, format, recover, openReel, claim, fill, commit, abandon, remove, retire, query, has, list, convert, arguments, Work, memory, shape}
+use Rattle.book.specs.State.{State, Operation, format, recover, openReel, claim, fill, commit, abandon, remove, retire, tidy, query, has, list, convert, arguments, Work, memory, shape}
 use Rattle.book.specs.Checks.{firstThree, badMap, badScript, notSound, outside, noPath, noRunFor, refusals}
 use Rattle.book.specs.Perform.{oneIf, granted, perform}
 use Rattle.book.specs.Table as table
 use Rattle.book.specs.Table.{Table, TableHead, TableWork, Fed, nothing, fed, isPresent, tableHead, tableRefusals, tableWork, reply}
 use Rattle.book.specs.Agrees.{EachOnce, Agrees}
-use Rattle.book.specs.Ways.{SlotHas, Lacks, InTheWay}
+use Rattle.book.specs.Ways.{SlotHas, Lacks, LacksGroup, no-group, InTheWay}
 use Rattle.book.specs.Histories.{replied}
 use Rattle.book.specs.Demands.{GivesOne, by-format, by-convert, Alike}
 use Rattle.book.proofs.Refusals.{Named, Passes, decided, denies, denied, passes}
 use Rattle.book.proofs.Performed.{answer-is, work-granted, work-refused, reply-is, reply-granted, reply-refused}
-use Rattle.book.proofs.InTheWay.{busy-remove, busy-retire, taken-in-the-way, conflict-claim, lacking}
+use Rattle.book.proofs.InTheWay.{busy-remove, busy-retire, busy-tidy, taken-in-the-way, conflict-claim, lacking}
+use Rattle.book.proofs.DueTrees.{group-test}
 use Rattle.book.proofs.Level31.{never-level31, lacks-open, lacks-claim}
-use Rattle.book.proofs.Paired.{Paired, end, same, skip, busy, meets, run, paired-answer, paired-run, paired-busy}
-use Rattle.book.proofs.Reading.{image-right, edition-right, same-geometry, is-sound, slot-has, slot-below, path-there, tree-right}
+use Rattle.book.proofs.Paired.{Paired, end, same, skip, busy, meets, run, group, paired-answer, paired-run, paired-group, paired-busy}
+use Rattle.book.proofs.Reading.{image-right, edition-right, same-geometry, is-sound, slot-has, slot-below, one-slot, path-there, tree-right}
 use Rattle.book.proofs.Reading.{same-frames, same-length, same-held, all-filled, same-idle, same-claimed, same-filled, claim-of, claim-inside, same-busy}
 
 image-words : {s : State} {t : Table} → Agrees s t → length (s .image) ≡ imageWords (table.geometry t)
@@ -75,13 +77,13 @@ module _ {s : State} {t : Table} (a : Agrees s t) where
       denied (outside (shape s) (targetOf (headAt (s .heads) h))) (claim-inside (a .shows) (claim-of x (same-idle x ∙ e)))
 
   -- 1 and 2 never come
-  checks : {x : Fed} {P Q : Type 0} {rs qs : List Refusal} → Paired x P Q rs qs
-      → Paired x P Q ((badImage (length (s .image)) (shape s) gives 1) ∷ (badEdition (memory s) gives 2) ∷ rs) qs
+  checks : {x : Fed} {P G Q : Type 0} {rs qs : List Refusal} → Paired x P G Q rs qs
+      → Paired x P G Q ((badImage (length (s .image)) (shape s) gives 1) ∷ (badEdition (memory s) gives 2) ∷ rs) qs
   checks p = skip (image-right (a .shows)) (skip (edition-right (a .shows)) p)
 
   -- 3 is for what is borrowed, and 4 for a bad table never comes
-  borrowed : {x : Fed} {P Q : Type 0} {u v : Test} {rs qs : List Refusal} → holds u ≡ holds v → (holds v ≡ false → Paired x P Q rs qs)
-      → Paired x P Q (firstThree (s .image) u ((badOwn (memory s) gives 4) ∷ rs)) ((v gives 3) ∷ qs)
+  borrowed : {x : Fed} {P G Q : Type 0} {u v : Test} {rs qs : List Refusal} → holds u ≡ holds v → (holds v ≡ false → Paired x P G Q rs qs)
+      → Paired x P G Q (firstThree (s .image) u ((badOwn (memory s) gives 4) ∷ rs)) ((v gives 3) ∷ qs)
   borrowed q p = checks (same 3 refl q (λ e. skip (a .shows .good-table) (p e)))
 
   -- nor does 4 for an image that is not sound
@@ -89,14 +91,14 @@ module _ {s : State} {t : Table} (a : Agrees s t) where
   sound-image = rw (a .shows .good-table) (ap not (is-sound (a .shows)))
 
   -- 5, and after it the reel's slot
-  reel-there : {x : Fed} {P Q : Type 0} {rs qs : List Refusal} (reel : ℕ)
-      → (SlotHas (shape s) (memory s) reel (slotOf (shape s) (memory s) reel) → Paired x P Q rs qs)
-      → Paired x P Q ((le (shape s .slots) (slotOf (shape s) (memory s) reel) gives 5) ∷ rs) ((is (not (isPresent t reel)) gives 5) ∷ qs)
+  reel-there : {x : Fed} {P G Q : Type 0} {rs qs : List Refusal} (reel : ℕ)
+      → (SlotHas (shape s) (memory s) reel (slotOf (shape s) (memory s) reel) → Paired x P G Q rs qs)
+      → Paired x P G Q ((le (shape s .slots) (slotOf (shape s) (memory s) reel) gives 5) ∷ rs) ((is (not (isPresent t reel)) gives 5) ∷ qs)
   reel-there reel p = same 5 refl (absent-test reel) (λ e. p (slot-has (a .shows) reel (not-false _ e)))
 
   -- 11, and after it the head
-  head-there : {x : Fed} {P Q : Type 0} {rs qs : List Refusal} (h : ℕ) → (h < headCount → Paired x P Q rs qs)
-      → Paired x P Q ((le headCount h gives 11) ∷ rs) ((le headCount h gives 11) ∷ qs)
+  head-there : {x : Fed} {P G Q : Type 0} {rs qs : List Refusal} (h : ℕ) → (h < headCount → Paired x P G Q rs qs)
+      → Paired x P G Q ((le headCount h gives 11) ∷ rs) ((le headCount h gives 11) ∷ qs)
   head-there h p = same 11 refl refl (λ e. p (denies (le headCount h) e))
 
   -- 4 never comes on a path
@@ -117,20 +119,29 @@ module _ {s : State} {t : Table} (a : Agrees s t) where
       rw (ns .1) (decided (noRunFor (shape s) (reads (s .pool)) (roomOn (shape s) (memory s) (some (ns .0))))
       (lacks-claim a words script h f (ns .0) r (ns .1)))
 
-  paired : (op : Operation) (x : Fed) → Paired x (Lacks s op) (InTheWay s op) (refusals op s) (tableRefusals op x t)
+  -- 18 comes exactly where no node that the reel reaches has an empty group
+  lacks-group : {reel slot : ℕ} (words scratch script : ℕ) → SlotHas (shape s) (memory s) reel slot
+      → (not (isSome (firstGroup (shape s) (memory s) slot)) ≡ true) ↔ LacksGroup s (tidy words scratch script reel)
+  lacks-group {reel} {slot} words scratch script r =
+      let n = group-test s (r .open-slot) in (λ e. no-group r (n .0 e), λ l. n .1 (of-slot l))
+    where
+      of-slot : LacksGroup s (tidy words scratch script reel) → NoGroup (shape s) (memory s) slot
+      of-slot (no-group r' nowhere) w n x = nowhere w n (rw (one-slot (a .shows) r r') at x)
+
+  paired : (op : Operation) (x : Fed) → Paired x (Lacks s op) (LacksGroup s op) (InTheWay s op) (refusals op s) (tableRefusals op x t)
   unfolding refusals tableRefusals
   paired (format words table slots nodes) x =
       let g : Geometry = record { slots = slots; nodes = nodes } in
       same 1 refl (ap (λ n. holds (badImage n g)) (image-words a)) (λ e.
-      same 3 refl refl (λ e. same 16 refl refl (λ e. end (λ w. elim w [ ]) (λ w. elim w [ ]))))
+      same 3 refl refl (λ e. same 16 refl refl (λ e. end (λ w. elim w [ ]) (λ w. elim w [ ]) (λ w. elim w [ ]))))
   paired (recover words) x =
       checks (same 3 refl (ap (λ g. holds (badMap g words)) (same-geometry (a .shows))) (λ e.
-      skip sound-image (end (λ w. elim w [ ]) (λ w. elim w [ ]))))
+      skip sound-image (end (λ w. elim w [ ]) (λ w. elim w [ ]) (λ w. elim w [ ]))))
   paired (openReel words script reel) x =
       borrowed (ap (λ g. holds (badMap g words or badScript script)) (same-geometry (a .shows))) (λ e.
       same 6 refl (present-test reel) (λ e.
       same 7 refl full-test (λ e.
-      run (λ w. elim w [ ]) (decided (le (shape s .nodes) (freeRun (shape s) (reads (s .pool)) 1)) (lacks-open a words script reel)))))
+      run (λ w. elim w [ ]) (λ w. elim w [ ]) (decided (le (shape s .nodes) (freeRun (shape s) (reads (s .pool)) 1)) (lacks-open a words script reel)))))
   paired (claim words script h reel f) x =
       borrowed (ap (λ g. holds (badMap g words or badScript script)) (same-geometry (a .shows))) (λ e.
       head-there h (λ l.
@@ -138,35 +149,35 @@ module _ {s : State} {t : Table} (a : Agrees s t) where
       reel-there reel (λ r.
       skip (room-test f r) (same 9 refl (same-held (a .shows) r f) (λ e'.
       let idle = same-idle (a .heads h l) ∙ not-false _ e in
-      meets (conflict-claim a r words script f h idle) (taken-in-the-way a r words script f h idle)
+      meets (λ w. elim w [ ]) (conflict-claim a r words script f h idle) (taken-in-the-way a r words script f h idle)
       (λ own w z. lacking a r words script f h idle (run-test words script h f r .1 z) own w)
       (run-test words script h f r)))))))
   paired (fill script h) x =
       borrowed refl (λ e.
       head-there h (λ l.
       same 12 refl (ap not (same-claimed (a .heads h l))) (λ e.
-      skip (inside-test h l (claimed-not-idle (tableHead t h) (not-false _ e))) (end (λ w. elim w [ ]) (λ w. elim w [ ])))))
+      skip (inside-test h l (claimed-not-idle (tableHead t h) (not-false _ e))) (end (λ w. elim w [ ]) (λ w. elim w [ ]) (λ w. elim w [ ])))))
   paired (commit script h) x =
       borrowed refl (λ e.
       head-there h (λ l.
       same 12 refl (ap not (same-filled (a .heads h l))) (λ e.
-      skip (inside-test h l (filled-not-idle (tableHead t h) (not-false _ e))) (end (λ w. elim w [ ]) (λ w. elim w [ ])))))
+      skip (inside-test h l (filled-not-idle (tableHead t h) (not-false _ e))) (end (λ w. elim w [ ]) (λ w. elim w [ ]) (λ w. elim w [ ])))))
   paired (abandon script h) x =
       borrowed refl (λ e.
       head-there h (λ l.
-      same 12 refl (same-idle (a .heads h l)) (λ e. skip (inside-test h l e) (end (λ w. elim w [ ]) (λ w. elim w [ ])))))
+      same 12 refl (same-idle (a .heads h l)) (λ e. skip (inside-test h l e) (end (λ w. elim w [ ]) (λ w. elim w [ ]) (λ w. elim w [ ])))))
   paired (remove script reel f) x =
       borrowed refl (λ e.
       reel-there reel (λ r.
       busy (same-busy a r) (busy-remove a r script f) (λ free.
-      skip (path-test f r) (same 10 refl (ap not (same-held (a .shows) r f)) (λ e. end (λ w. elim w [ ]) free)))))
+      skip (path-test f r) (same 10 refl (ap not (same-held (a .shows) r f)) (λ e. end (λ w. elim w [ ]) (λ w. elim w [ ]) free)))))
   paired (query (has reel f)) x =
-      checks (skip refl (skip (a .shows .good-table) (reel-there reel (λ r. skip (path-test f r) (end (λ w. elim w [ ]) (λ w. elim w [ ]))))))
+      checks (skip refl (skip (a .shows .good-table) (reel-there reel (λ r. skip (path-test f r) (end (λ w. elim w [ ]) (λ w. elim w [ ]) (λ w. elim w [ ]))))))
   paired (query (list scratch room reel)) x =
       borrowed (ap (λ g. holds (badMap g scratch)) (same-geometry (a .shows))) (λ e.
       reel-there reel (λ r.
       skip (ap not (tree-right (a .shows) (r .open-slot)))
-      (same 14 refl (ap (ltb room) (same-length (same-frames (a .shows) r))) (λ e. end (λ w. elim w [ ]) (λ w. elim w [ ])))))
+      (same 14 refl (ap (ltb room) (same-length (same-frames (a .shows) r))) (λ e. end (λ w. elim w [ ]) (λ w. elim w [ ]) (λ w. elim w [ ])))))
   paired (query (convert scratch copy)) x =
       let n = length (s .image) in
       let longer : holds (badImage n (shape s) or ne copy n) ≡ not (eqb copy (imageWords (table.geometry t))) =
@@ -175,11 +186,17 @@ module _ {s : State} {t : Table} (a : Agrees s t) where
       skip (edition-right (a .shows)) (
       same 3 refl (ap (λ g. holds (badMap g scratch)) (same-geometry (a .shows))) (λ e.
       skip sound-image (
-      same 17 refl (a .shows .own) (λ e. end (λ w. elim w [ ]) (λ w. elim w [ ]))))))
+      same 17 refl (a .shows .own) (λ e. end (λ w. elim w [ ]) (λ w. elim w [ ]) (λ w. elim w [ ]))))))
   paired (retire words scratch script reel) x =
       borrowed (ap (λ g. holds (badMap g words or badMap g scratch or badScript script)) (same-geometry (a .shows))) (λ e.
       reel-there reel (λ r.
-      busy (same-busy a r) (busy-retire a r words scratch script) (λ free. skip (ap not (tree-right (a .shows) (r .open-slot))) (end (λ w. elim w [ ]) free))))
+      busy (same-busy a r) (busy-retire a r words scratch script) (λ free.
+      skip (ap not (tree-right (a .shows) (r .open-slot))) (end (λ w. elim w [ ]) (λ w. elim w [ ]) free))))
+  paired (tidy words scratch script reel) x =
+      borrowed (ap (λ g. holds (badMap g words or badMap g scratch or badScript script)) (same-geometry (a .shows))) (λ e.
+      reel-there reel (λ r.
+      busy (same-busy a r) (busy-tidy a r words scratch script) (λ free.
+      skip (ap not (tree-right (a .shows) (r .open-slot))) (group (λ w. elim w [ ]) free (lacks-group words scratch script r)))))
 
 -- ---- what is handed back
 
@@ -206,6 +223,7 @@ granted-alike a (commit script h') x h = record { value = refl; listing = none-o
 granted-alike a (abandon script h') x h = record { value = refl; listing = none-once }
 granted-alike a (remove script reel f) x h = record { value = refl; listing = none-once }
 granted-alike a (retire words scratch script reel) x h = record { value = refl; listing = none-once }
+granted-alike a (tidy words scratch script reel) x h = record { value = refl; listing = none-once }
 granted-alike a (query (convert scratch copy)) x h = record { value = refl; listing = none-once }
 granted-alike {s} {t} a (query (has reel f)) x h =
     let r = slot-has (a .shows) reel (not-false _ (table-passes (query (has reel f)) x t (omega arith) h .0)) in
@@ -273,6 +291,7 @@ table-answers {t = t} a (remove script reel f) x = never-these (tableRefusals (r
 table-answers {t = t} a (query (has reel f)) x = never-these (tableRefusals (query (has reel f)) x t) (omega arith)
 table-answers {t = t} a (query (list scratch room reel)) x = never-these (tableRefusals (query (list scratch room reel)) x t) (omega arith)
 table-answers {t = t} a (retire words scratch script reel) x = never-these (tableRefusals (retire words scratch script reel) x t) (omega arith)
+table-answers {t = t} a (tidy words scratch script reel) x = never-these (tableRefusals (tidy words scratch script reel) x t) (omega arith)
 
 -- ---- demand 2 of one state
 
@@ -292,4 +311,5 @@ alike {s} {t} a op fit =
       one-from = λ z. n .one-from (sym e ∙ z);
       busy = λ z. rw answer-is (paired-busy (paired a op nothing) z);
       no-run = λ z. rw answer-is (paired-run (paired a op nothing) z);
+      no-group = λ z. rw answer-is (paired-group (paired a op nothing) z);
     }

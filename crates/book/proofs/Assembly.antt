@@ -12,7 +12,7 @@ use Rattle.tree.specs.declared.layout.Geometry.{Geometry}
 use Rattle.tree.specs.Layout.{mapWords, geometryOf}
 use Rattle.tree.specs.Fingerprint.{isGiven}
 use Rattle.tree.proofs.Memory.{crash-laws, crash-none, passed-or}
-use Rattle.book.specs.State.{State, Operation, format, recover, openReel, claim, fill, commit, abandon, remove, retire, query, Query, arguments}
+use Rattle.book.specs.State.{State, Operation, format, recover, openReel, claim, fill, commit, abandon, remove, retire, tidy, query, Query, arguments}
 use Rattle.book.specs.Perform.{granted, perform}
 use Rattle.book.specs.Table.{Table, Reel, geometry, fed, tableWork, emptyTable, allIdle}
 use Rattle.book.specs.Agrees.{Shows, Agrees}
@@ -42,6 +42,7 @@ pub data Scripted : Operation → Type 0 where
   abandons : {script h : ℕ} → Scripted (abandon script h)
   removes : {script reel f : ℕ} → Scripted (remove script reel f)
   retires : {words scratch script reel : ℕ} → Scripted (retire words scratch script reel)
+  tidies : {words scratch script reel : ℕ} → Scripted (tidy words scratch script reel)
   asks : {q : Query} → Scripted (query q)
 
 pub record Steps : Type 0 where
@@ -64,6 +65,7 @@ kind (commit script h) = scripted commits
 kind (abandon script h) = scripted abandons
 kind (remove script reel f) = scripted removes
 kind (retire words scratch script reel) = scripted retires
+kind (tidy words scratch script reel) = scripted tidies
 kind (query q) = scripted asks
 
 pub granted-image : {op : Operation} (s : State) → Scripted op → granted op s .after .image ≡ s .image
@@ -76,6 +78,7 @@ granted-image s abandons = refl
 granted-image s removes = refl
 granted-image s asks = refl
 granted-image s retires = refl
+granted-image s tidies = refl
 
 -- what the table becomes by an operation that is no script's
 table-format : (words : ℕ) (table : List ℕ) (slots nodes : ℕ) (t : Table) → tableWork (format words table slots nodes) t .after ≡ emptyTable (isGiven table) slots nodes

@@ -14,7 +14,7 @@ use Rattle.tree.specs.Fingerprint.{ruleOf}
 use Rattle.tree.specs.Slots.{Filled}
 use Rattle.tree.specs.Reach.{Reaches}
 use Rattle.tree.specs.Same.{Same, SameWords, Stores}
-use Rattle.tree.specs.Changes.{Fresh, Links, NewChild, Grown}
+use Rattle.tree.specs.Changes.{Fresh, Links, InGroup, Grown}
 use Rattle.tree.proofs.Lists.{in-range, range-has}
 use Rattle.tree.proofs.Reach.{slot-filled}
 use Rattle.tree.proofs.Laws.{child-laws, node-laws, same-laws, change-laws}
@@ -58,7 +58,7 @@ pub record Branches (g : Geometry) (m m' : Memory) (slot f d start : ℕ) : Type
   -- a node reached then is new, or reached before
   pub new-way : (c : ℕ) → c < fanout d → Reaches g m' slot (c ∷ wayOf d f) (start + c)
   pub old-or-new : {k : ℕ} → Reached g m' k → Reached g m k ⊎ ((c : ℕ) × (c < fanout d) × (k ≡ start + c))
-  pub reaches : {i k : ℕ} {w : List ℕ} → Reaches g m' i w k ↔ (Reaches g m i w k ⊎ NewChild slot (wayOf d f) start i w k)
+  pub reaches : {i k : ℕ} {w : List ℕ} → Reaches g m' i w k ↔ (Reaches g m i w k ⊎ InGroup slot (wayOf d f) start i w k)
 
 module _ {g : Geometry} {o : Bool} {im : List ℕ} {rs : List Reel} {slot f d start : ℕ} (v : View g o im rs) (x : FullPath g (reads im) slot f d)
     (deep : d < 31) (run : UnreachedRun g (reads im) (fanout d) start) where
@@ -147,7 +147,7 @@ module _ {g : Geometry} {o : Bool} {im : List ℕ} {rs : List Reel} {slot f d st
   header2 = header-set (nextAt g parent) (start + 1) (still1 .view .header) (omega arith) index
       (omega (arith, run .inside, child-laws .below d f deep, few-nodes (v .header)))
 
-  grown : Grown (ruleOf m1) g m1 m2 (NewChild slot (wayOf d f) start)
+  grown : Grown (ruleOf m1) g m1 m2 (InGroup slot (wayOf d f) start)
   grown = change-laws m2 (still1 .view .sound) .linked links stored2
 
   pub still2 : Still g o rs im im2
@@ -167,7 +167,7 @@ module _ {g : Geometry} {o : Bool} {im : List ℕ} {rs : List Reel} {slot f d st
         absurd (o (inr (record { child = c .0; low = c .1; from = omega (arith, c .2, y .2); to = omega (arith, c .2, y .3) })))
   ]
 
-  new-child : (c : ℕ) → c < fanout d → NewChild slot (wayOf d f) start slot (c ∷ wayOf d f) (start + c)
+  new-child : (c : ℕ) → c < fanout d → InGroup slot (wayOf d f) start slot (c ∷ wayOf d f) (start + c)
   new-child c l = record { child = c; low = rw (child-laws .length-way d f) l; slot = refl; way = refl; is = refl }
 
   pub branches : Branches g m m2 slot f d start
@@ -202,7 +202,7 @@ module _ {g : Geometry} {o : Bool} {im : List ℕ} {rs : List Reel} {slot f d st
   sizes-kept {n = n} y = sym (branches .words (sizeAt g n) y (omega arith) (omega arith))
 
   -- linked, they come, and nothing else
-  pub adds : Adds im im2 64 (NewChild slot (wayOf d f) start)
+  pub adds : Adds im im2 64 (InGroup slot (wayOf d f) start)
   adds = record {
     ways = rw (v .header .geometry, header2 .header .geometry) (branches .reaches);
     sizes = rw (v .header .geometry, header2 .header .geometry) sizes-kept;

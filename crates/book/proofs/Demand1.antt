@@ -8,10 +8,10 @@ use lib.Dec.{eqb, ltb}
 use borrow.Author.Tests.{eqb-true, eqb-false, ltb-true, eq-eqb, lt-ltb}
 use Rattle.tree.specs.Test.{is}
 use Rattle.book.specs.Refusals.{Refusal, refusal, _gives_}
-use Rattle.book.specs.State.{State, Operation, format, recover, openReel, claim, fill, commit, abandon, remove, retire, query, has, list, convert}
+use Rattle.book.specs.State.{State, Operation, format, recover, openReel, claim, fill, commit, abandon, remove, retire, tidy, query, has, list, convert}
 use Rattle.book.specs.Checks.{refusals}
 use Rattle.book.specs.Perform.{leaves, pastChecks, clears, perform}
-use Rattle.book.specs.Demands.{numbers, ClearsMap, unsound, BorrowsScratch, by-list, by-retire, by-convert, Leaves, as-before, map-cleared, Refused, Demand1}
+use Rattle.book.specs.Demands.{numbers, ClearsMap, unsound, BorrowsScratch, by-list, by-retire, by-tidy, by-convert, Leaves, as-before, map-cleared, Refused, Demand1}
 use Rattle.tree.proofs.Laws.{pool-laws}
 use Rattle.tree.proofs.Cases.{test, true-not-false, or-true, or-left, or-right}
 use Rattle.book.proofs.Refusals.{refusal-listed}
@@ -38,6 +38,7 @@ numbered (query (has reel f)) s = without-third _ _ _ _
 numbered (query (list scratch room reel)) s = refusal-listed _
 numbered (query (convert scratch copy)) s = refusal-listed _
 numbered (retire words scratch script reel) s = refusal-listed _
+numbered (tidy words scratch script reel) s = refusal-listed _
 
 cleared-at : {words n : ℕ} → ClearsMap (recover words) n → n ≡ 4
 cleared-at unsound = refl
@@ -57,6 +58,7 @@ left-by (abandon script h) s n = as-before {op = abandon script h} {n = n} (λ c
 left-by (remove script reel f) s n = as-before {op = remove script reel f} {n = n} (λ c. elim c [ ]) refl
 left-by (query q) s n = as-before {op = query q} {n = n} (λ c. elim c [ ]) refl
 left-by (retire words scratch script reel) s n = as-before {op = retire words scratch script reel} {n = n} (λ c. elim c [ ]) refl
+left-by (tidy words scratch script reel) s n = as-before {op = tidy words scratch script reel} {n = n} (λ c. elim c [ ]) refl
 
 -- an end that is none of 1, 2 and 3
 past-checks : (n : ℕ) → (pastChecks n ≡ true) ↔ ((n ≡ 0) ⊎ (3 < n))
@@ -69,6 +71,7 @@ clears-scratch : (op : Operation) (n : ℕ) → (clears op n ≡ true) ↔ (Borr
 unfolding clears
 clears-scratch (query (list scratch room reel)) n = (λ h. (by-list, past-checks n .0 h), λ x. past-checks n .1 (x .1))
 clears-scratch (retire words scratch script reel) n = (λ h. (by-retire, past-checks n .0 h), λ x. past-checks n .1 (x .1))
+clears-scratch (tidy words scratch script reel) n = (λ h. (by-tidy, past-checks n .0 h), λ x. past-checks n .1 (x .1))
 clears-scratch (format words table slots nodes) n = (λ h. absurd (true-not-false h refl), λ x. elim (x .0) [ ])
 clears-scratch (recover words) n = (λ h. absurd (true-not-false h refl), λ x. elim (x .0) [ ])
 clears-scratch (openReel words script reel) n = (λ h. absurd (true-not-false h refl), λ x. elim (x .0) [ ])

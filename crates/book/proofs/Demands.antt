@@ -2,6 +2,7 @@
 use Rattle.book.specs.Demands.{Demand2, Demand3, Placed}
 use Rattle.book.specs.Growth.{Growth}
 use Rattle.book.specs.PathNodes.{PathNodes}
+use Rattle.book.specs.Tidy.{Tidying}
 use Rattle.book.specs.OwnTables.{OwnTables}
 use Rattle.book.specs.Conversions.{Conversions}
 pub use Rattle.book.proofs.Demand1.{demand1}
@@ -10,7 +11,7 @@ pub use Rattle.book.proofs.AsBefore.{claim-as-before}
 pub use Rattle.book.proofs.Fixed.{fixed}
 pub use Rattle.book.proofs.Scripts.{scripts}
 pub use Rattle.book.proofs.Editions.{editions}
-use Rattle.book.proofs.Assembly.{Scripted, opens, claims, fills, commits, abandons, removes, asks, retires, Steps, demand2-from, demand3-from}
+use Rattle.book.proofs.Assembly.{Scripted, opens, claims, fills, commits, abandons, removes, asks, retires, tidies, Steps, demand2-from, demand3-from}
 use Rattle.book.proofs.StepOpen.{step-open}
 use Rattle.book.proofs.StepClaim.{step-claim}
 use Rattle.book.proofs.StepFill.{step-fill}
@@ -19,10 +20,12 @@ use Rattle.book.proofs.StepAbandon.{step-abandon}
 use Rattle.book.proofs.StepRemove.{step-remove}
 use Rattle.book.proofs.StepRead.{step-query}
 use Rattle.book.proofs.StepRetire.{step-retire}
+use Rattle.book.proofs.StepTidy.{step-tidy}
 use Rattle.book.proofs.ClaimPlaced.{claim-placed}
 use Rattle.book.proofs.Placed.{placed-from}
 use Rattle.book.proofs.Growth.{growth-from}
 use Rattle.book.proofs.PathNodes.{path-nodes-from}
+use Rattle.book.proofs.Tidy.{tidying-from}
 use Rattle.book.proofs.OwnTables.{own-tables-from}
 use Rattle.book.proofs.Conversions.{conversions-from}
 use Rattle.book.proofs.Witnesses.{witnesses-from}
@@ -44,6 +47,7 @@ step a (abandons {script} {h}) fit answered = step-abandon a script h fit answer
 step a (removes {script} {reel} {f}) fit answered = step-remove a script reel f fit answered
 step a (asks {q}) fit answered = step-query a q
 step a (retires {words} {scratch} {script} {reel}) fit answered = step-retire a words scratch script reel fit answered
+step a (tidies {words} {scratch} {script} {reel}) fit answered = step-tidy a words scratch script reel fit answered
 
 steps : Steps
 steps = record { step = step }
@@ -62,6 +66,9 @@ growth = growth-from steps
 
 pub path-nodes : PathNodes
 path-nodes = path-nodes-from steps growth demand3
+
+pub tidying : Tidying
+tidying = tidying-from demand3
 
 pub own-tables : OwnTables
 own-tables = own-tables-from demand3

@@ -18,15 +18,16 @@ use Rattle.tree.proofs.Cases.{test, true-not-false}
 use Rattle.tree.proofs.Laws.{table-laws}
 use Rattle.book.specs.Heads.{headCount, busy}
 use Rattle.book.specs.Refusals.{Refusal, _gives_, refusal}
-use Rattle.book.specs.State.{State, Operation, format, recover, openReel, claim, fill, commit, abandon, remove, retire, query, has, list, convert, memory, shape}
+use Rattle.book.specs.State.{State, Operation, format, recover, openReel, claim, fill, commit, abandon, remove, retire, tidy, query, has, list, convert, memory, shape}
 use Rattle.book.specs.Checks.{badMap, badScript, firstThree, refusals}
 use Rattle.book.specs.Ways.{ReelAt}
+use Rattle.tree.specs.Groups.{NoGroup}
 use Rattle.book.specs.Due.{Due, _when_, First, here, later, none, header, checked, Busy, OfReel, NoReel, BadTree, due, RefusalsDue}
 use Rattle.book.proofs.Refusals.{decided}
 use Rattle.book.proofs.Performed.{answer-is}
 use Rattle.book.proofs.DueWords.{plain, turned, either, unsound-test, own-test, given-test, image-test, idle-test, claimed-test, filled-test, outside-test, busy-test, open-test, absent-test, present, of-reel, full-test, run-says}
 use Rattle.book.proofs.DuePaths.{path-test, path-there, room-test, find-test, conflict-test, children-test}
-use Rattle.book.proofs.DueTrees.{tree-test, tree-sound, frames-test}
+use Rattle.book.proofs.DueTrees.{tree-test, tree-sound, group-test, frames-test}
 
 -- ---- a list of tests and a list of conditions
 
@@ -68,7 +69,7 @@ module _ (s : State) where
   busy-of : {reel slot : ℕ} → ReelAt (shape s) (memory s) reel slot → (holds (is (busy (s .heads) slot)) ≡ true) ↔ OfReel s reel (Busy s)
   busy-of {reel} {slot} r = of-reel s reel (Busy s) r (busy-test s slot)
 
-  -- 4 in List and Retire
+  -- 4 in List, Retire and Tidy
   tree-of : {reel slot : ℕ} → ReelAt (shape s) (memory s) reel slot → (holds (is (not (isSoundTree (shape s) (memory s) slot))) ≡ true) ↔ OfReel s reel (BadTree s)
   tree-of {reel} r = of-reel s reel (BadTree s) r (tree-test s (r .has .open-slot))
 
@@ -129,6 +130,12 @@ module _ (s : State) where
       reel-there reel (λ r.
       next (busy-of r) (λ b.
       next (tree-of r) (λ c. end))))
+  decides (tidy map scratch script reel) =
+      after-3 {t = badMap (shape s) map or badMap (shape s) scratch or badScript script} (
+      reel-there reel (λ r.
+      next (busy-of r) (λ b.
+      next (tree-of r) (λ c.
+      next (of-reel s reel (NoGroup (shape s) (memory s)) r (group-test s (r .has .open-slot))) (λ d. end)))))
   decides (query (has reel f)) =
       checks (skip refl (next (table-laws .bad (memory s)) (λ a. reel-there reel (λ r.
       next (of-reel s reel _ r (path-test s f (r .has .open-slot))) (λ b. end)))))

@@ -9,6 +9,7 @@ use native.Mathlib.Omega.{arith}
 use native.Mathlib.Decide.{ℕ-discrete}
 use lib.ListN.{length, length-map}
 use borrow.Author.Tests.{not-true}
+use Rattle.tree.specs.Memory.{isSome}
 use Rattle.tree.specs.Test.{lt, is, holds}
 use Rattle.tree.specs.Lists.{Distinct}
 use Rattle.tree.specs.Layout.{frameAt}
@@ -21,11 +22,12 @@ use Rattle.tree.specs.declared.path.Spot.{Spot}
 use Rattle.tree.specs.Lookup.{spot}
 use Rattle.tree.specs.Subtree.{Visit, visit, tree, heldPlaces, framesIn, listing}
 use Rattle.tree.specs.Check.{isSoundTree}
-use Rattle.tree.proofs.Cases.{test, true-not-false, not-false}
+use Rattle.tree.specs.Groups.{firstGroup, NoGroup}
+use Rattle.tree.proofs.Cases.{test, true-not-false, not-false, seen, nothing, just}
 use Rattle.tree.proofs.Lists.{within, together, map-flatMap, flatMap-cong}
 use Rattle.tree.proofs.Distinct.{distinct-by, distinct-keep, distinct-made, distinct-map, distinct-parts, distinct-upTo}
 use Rattle.tree.proofs.Subtree.{held-places}
-use Rattle.tree.proofs.Laws.{tree-laws, sound-laws}
+use Rattle.tree.proofs.Laws.{tree-laws, group-laws, sound-laws}
 use Rattle.book.specs.State.{State, memory, shape}
 use Rattle.book.specs.Due.{BadTree, malformed, twice, MoreFrames}
 use Rattle.book.proofs.Refusals.{decided}
@@ -83,7 +85,7 @@ module _ (s : State) {slot : ℕ} (open-slot : Filled (shape s) (memory s) slot)
   not-both a (malformed r e) = true-not-false (a .well-formed r) e
   not-both a (twice r r' d) = d (a .once r r')
 
-  -- 4 in List and Retire
+  -- 4 in List, Retire and Tidy
   pub tree-test : (holds (is (not (isSoundTree (shape s) (memory s) slot))) ≡ true) ↔ BadTree s slot
   tree-test =
       let l = sound-laws (ruleOf (memory s)) (shape s) (memory s) .tree open-slot in
@@ -95,6 +97,13 @@ module _ (s : State) {slot : ℕ} (open-slot : Filled (shape s) (memory s) slot)
   -- past it the tree is sound
   pub tree-sound : (BadTree s slot → ⊥) → SoundTree (shape s) (memory s) slot
   tree-sound past = elim sound-or-bad [ inl a ↦ a | inr b ↦ absurd (past b) ]
+
+  -- 18
+  pub group-test : (not (isSome (firstGroup (shape s) (memory s) slot)) ≡ true) ↔ NoGroup (shape s) (memory s) slot
+  group-test = let n = group-laws open-slot .nowhere in elim (seen (firstGroup (shape s) (memory s) slot)) [
+    | nothing q ↦ (λ e. n .0 q, λ x. ap (λ o. not (isSome o)) q)
+    | just v q ↦ (λ e. absurd (true-not-false e (ap (λ o. not (isSome o)) q)), λ x. ap (λ o. not (isSome o)) (n .1 x))
+  ]
 
   -- ---- a reel's frames, by their places
 

@@ -179,7 +179,7 @@ module _ (s : State) (h : ℕ) where
   abbrev pub named : {slot : ℕ} → h < headCount → (Idle s h → ⊥) → slotWord s h ≡ slot → HeadNames s h slot
   named l taken q = record { low = l; target = target; about = about-words taken; of-slot = q }
 
--- 13 in Remove and Retire
+-- 13 in Remove, Retire and Tidy
 abbrev pub busy-of-names : {s : State} {slot k : ℕ} → HeadNames s k slot → Busy s slot
 busy-of-names {s} {slot} {k} x =
     let w = word-target s k (x .about) in

@@ -11,8 +11,8 @@ use Rattle.tree.specs.Layout.{editionAt, geometryOf}
 use Rattle.tree.specs.declared.path.Room.{Room}
 use Rattle.tree.specs.declared.path.Room.the-variants.{Clear, ScaleUp, BranchOut}
 use Rattle.tree.proofs.Memory.{apply-laws, segment-laws, crash-laws}
-use Rattle.book.specs.State.{State, Operation, format, recover, openReel, claim, fill, commit, abandon, remove, retire, query, Work, memory}
-use Rattle.book.specs.Perform.{newNode, openScript, roomScript, claimScript, fillScript, removeScript, granted, perform}
+use Rattle.book.specs.State.{State, Operation, format, recover, openReel, claim, fill, commit, abandon, remove, retire, tidy, query, Work, memory}
+use Rattle.book.specs.Perform.{newNode, openScript, roomScript, claimScript, fillScript, removeScript, tidyScript, granted, perform}
 use Rattle.book.specs.Histories.{done, Steady, answered-format, Interrupted, Attempts, none-yet, refused, interrupted, Recovered}
 use Rattle.book.specs.Editions.{SameHeader, Editions}
 use Rattle.book.proofs.Performed.{work-granted, work-refused}
@@ -42,7 +42,7 @@ record Keeps (s : State) (w : Work) : Type 0 where
   script : Each (Each Past) (w .script)
 
 keeps-granted : (op : Operation) (s : State) → (Steady op 0 → ⊥) → Keeps s (granted op s)
-unfolding granted openScript fillScript removeScript
+unfolding granted openScript fillScript removeScript tidyScript
 keeps-granted (format words table slots nodes) s u = absurd (u answered-format)
 keeps-granted (recover words) s u =
     record { image = λ i l. not-mended (mended-words (geometryOf (memory s)) (s .image)) i (λ n. omega arith); script = tt }
@@ -53,6 +53,7 @@ keeps-granted (commit script h) s u = record { image = λ i l. refl; script = om
 keeps-granted (abandon script h) s u = record { image = λ i l. refl; script = omega arith }
 keeps-granted (remove script reel f) s u = record { image = λ i l. refl; script = omega arith }
 keeps-granted (retire words scratch script reel) s u = record { image = λ i l. refl; script = omega arith }
+keeps-granted (tidy words scratch script reel) s u = record { image = λ i l. refl; script = omega arith }
 keeps-granted (query q) s u = record { image = λ i l. refl; script = tt }
 
 keeps : (op : Operation) (s : State) → (Steady op (perform op s .answer) → ⊥) → Keeps s (perform op s .work)

@@ -5,6 +5,7 @@ use mathlib.Core.Logic.{inl, inr, _↔_}
 use mathlib.Core.List.{List, [], _∷_}
 use Prim.Native.Nat.{ℕ, _+_, _≤_, _<_}
 use native.Mathlib.Omega.{arith}
+use native.Mathlib.Decide.{ℕ-discrete}
 use borrow.Author.Tests.{not-false}
 use lib.ListN.{length, getD}
 use Rattle.tree.specs.Memory.{reads, stores}
@@ -23,16 +24,17 @@ use Rattle.tree.proofs.Fingerprints.{unpacked-at}
 use Rattle.tree.proofs.OwnTables.{given-good, given-none}
 use Rattle.tree.proofs.Memory.{apply-laws, torn-whole}
 use Rattle.book.specs.Refusals.{_gives_, refusal}
-use Rattle.book.specs.State.{State, format, recover, openReel, memory, shape}
+use Rattle.book.specs.State.{State, Operation, format, recover, openReel, claim, fill, commit, abandon, remove, retire, tidy, query, memory, shape}
 use Rattle.book.specs.Checks.{badMap, notSound, refusals}
 use Rattle.tree.specs.Subtree.{nodesOf}
 use Rattle.tree.specs.Recovery.{recoverStores}
 use Rattle.book.specs.Perform.{formatStores, openScript, granted, perform}
 use Rattle.book.specs.Agrees.{Reached}
-use Rattle.book.specs.Fixed.{HeaderRest, no-table, own-table, FormatWrites, RecoverWrites, Right, OpenTakes, Fixed}
+use Rattle.book.specs.Fixed.{HeaderRest, no-table, own-table, FormatWrites, RecoverWrites, Right, OpenTakes, WritesHeads, by-format, by-recover, by-claim, by-fill, by-commit, by-abandon, Fixed}
 use Rattle.book.proofs.Refusals.{Denies, denied, passes, refused-later}
 use Rattle.book.proofs.Performed.{answer-is, work-granted}
-use Rattle.book.proofs.Stores.{claims, fills, commits, abandons, removes, retires, asks}
+use Rattle.book.proofs.Done.{refused-heads}
+use Rattle.book.proofs.Stores.{claims, fills, commits, abandons, removes, retires, tidies, asks}
 use Rattle.book.proofs.GivenTable.{withTable, none-given, beside-table, own-put, entries-put}
 use Rattle.book.proofs.Formatted.{header-stored, root-stored, unread-stored, format-avoids, blank, made, written, granted-format, Answered, format-answered}
 use Rattle.book.proofs.Recovery.{nodes-reached, corrects-stored, stored-once, now-equal, granted-recover, recover-refusals, sound-test}
@@ -137,6 +139,28 @@ recovers words s h =
       heads = refl;
     })
 
+-- ---- heads
+
+granted-heads : (op : Operation) (s : State) → (WritesHeads op → ⊥) → granted op s .after .heads ≡ s .heads
+unfolding granted
+granted-heads (format words table slots nodes) s n = absurd (n by-format)
+granted-heads (recover words) s n = absurd (n by-recover)
+granted-heads (openReel words script reel) s n = refl
+granted-heads (claim words script h reel f) s n = absurd (n by-claim)
+granted-heads (fill script h) s n = absurd (n by-fill)
+granted-heads (commit script h) s n = absurd (n by-commit)
+granted-heads (abandon script h) s n = absurd (n by-abandon)
+granted-heads (remove script reel f) s n = refl
+granted-heads (retire words scratch script reel) s n = refl
+granted-heads (tidy words scratch script reel) s n = refl
+granted-heads (query q) s n = refl
+
+heads-left : (op : Operation) (s : State) → (WritesHeads op → ⊥) → perform op s .work .after .heads ≡ s .heads
+heads-left op s n = elim (ℕ-discrete (perform op s .answer) 0) [
+  | yes h ↦ ap (λ w. w .after .heads) (work-granted op s h) ∙ granted-heads op s n
+  | no h ↦ refused-heads op s h
+]
+
 -- ---- Open
 
 open-passes : (words script reel : ℕ) (s : State) → perform (openReel words script reel) s .answer ≡ 0
@@ -192,11 +216,13 @@ fixed = record {
   sound = sound;
   recovers = recovers;
   opens = opens;
+  heads-left = heads-left;
   claims = claims;
   fills = fills;
   commits = commits;
   abandons = abandons;
   removes = removes;
   retires = retires;
+  tidies = tidies;
   asks = asks;
 }

@@ -36,7 +36,8 @@ use Rattle.book.proofs.SameNodes.{nodes-equal, nodes-on, nodes-back, re
 use Rattle.book.proofs.StepOpen.{grows-open}
 use Rattle.book.proofs.StepClaim.{slotIn, work-is, asked-now, claim-step}
 use Rattle.book.proofs.StepRetire.{grows-retire}
-use Rattle.book.proofs.Assembly.{Steps, Scripted, opens, claims, fills, commits, abandons, removes, asks, retires, Kind, formats, recovers, scripted, kind, granted-image, agreed}
+use Rattle.book.proofs.StepTidy.{grows-tidy}
+use Rattle.book.proofs.Assembly.{Steps, Scripted, opens, claims, fills, commits, abandons, removes, asks, retires, tidies, Kind, formats, recovers, scripted, kind, granted-image, agreed}
 use Rattle.book.proofs.Placed.{script-alone, no-reels}
 
 -- ---- operations that store to no next and to no size
@@ -88,6 +89,7 @@ grows {s} a (abandons {script} {h = k}) fit h = quiet-nodes (abandon-quiet s scr
 grows {s} a (removes {script} {reel} {f}) fit h = quiet-nodes (remove-quiet s script reel f) (λ im' x. x)
 grows {s} a (asks {q}) fit h = quiet-nodes (query-quiet s q) (λ im' x. x)
 grows a (retires {words} {scratch} {script} {reel}) fit h = grows-retire a words scratch script reel h
+grows a (tidies {words} {scratch} {script} {reel}) fit h = grows-tidy a words scratch script reel h
 
 -- ---- any operation
 

@@ -19,7 +19,7 @@ use Rattle.tree.proofs.Laws.{pool-laws}
 use Rattle.book.specs.declared.Target.{Target}
 use Rattle.book.specs.declared.HeadState.{HeadState}
 use Rattle.book.specs.declared.HeadState.the-variants.{Idle, Claimed, Filled}
-use Rattle.book.specs.Heads.{headCount, stateOf, headAt, wordsOf, withHead, idleHeads, isIdle, isClaimed, isFilled, targetOf, names, anyHead, conflicts}
+use Rattle.book.specs.Heads.{headCount, stateOf, headAt, wordsOf, withHead, idleHeads, isIdle, isClaimed, isFilled, targetOf, names, busy, anyHead, conflicts}
 use Rattle.book.specs.Table.{Table, TableHead, idle, tableHead, anyTableHead, withTableHead}
 use Rattle.book.specs.Agrees.{About, by-claim, by-fill}
 
@@ -172,6 +172,10 @@ pub any-head : (passes : HeadState → Bool) (ws : List ℕ)
     → (anyHead passes ws ≡ true) ↔ ((h : ℕ) × (h < headCount) × (passes (headAt ws h) ≡ true))
 unfolding anyHead
 any-head passes ws = found-below (λ h. passes (headAt ws h)) headCount
+
+-- where a slot is not busy, no head is about it
+pub not-busy : (ws : List ℕ) {slot : ℕ} → busy ws slot ≡ false → {x : Target} (h : ℕ) → h < headCount → About x (headAt ws h) → x .slot ≢ slot
+not-busy ws {slot} none {x} h l o q = true-not-false (any-head (names slot) ws .1 (h, l, names-about slot _ .1 (x, o, q))) none
 
 -- ---- a head in a claim's way
 

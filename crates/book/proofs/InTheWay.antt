@@ -14,11 +14,11 @@ use Rattle.tree.proofs.Cases.{true-not-false, and-true, true-and}
 use Rattle.book.specs.declared.Target.{Target}
 use Rattle.book.specs.declared.HeadState.{HeadState}
 use Rattle.book.specs.Heads.{headAt, isIdle, busy}
-use Rattle.book.specs.State.{State, claim, remove, retire, memory, shape}
+use Rattle.book.specs.State.{State, claim, remove, retire, tidy, memory, shape}
 use Rattle.book.specs.Checks.{noRunFor, inConflict}
 use Rattle.book.specs.Table.{Table, TableHead, tableHead, frameOf, isAbout, isTaken}
 use Rattle.book.specs.Agrees.{About, by-claim, by-fill, HeadAgrees, both-claimed, both-filled, Agrees}
-use Rattle.book.specs.Ways.{SlotHas, UsesOf, HeadNames, InTheWay, same-frame, same-node, of-remove, of-retire}
+use Rattle.book.specs.Ways.{SlotHas, UsesOf, HeadNames, InTheWay, same-frame, same-node, of-remove, of-retire, of-tidy}
 use Rattle.book.proofs.Heads.{idle-nothing, names-about, any-table-head}
 use Rattle.book.proofs.Reading.{one-slot, path-there, same-names}
 use Rattle.book.proofs.Level31.{full-above-31, lowest-found}
@@ -50,6 +50,12 @@ module _ {s : State} {t : Table} (a : Agrees s t) {reel slot : ℕ} (r : SlotHas
     λ b. elim b [ of-retire {k = k} r' x ↦ busy-by s slot .1 (k, its-slot r' x) ],
   )
 
+  pub busy-tidy : (words scratch script : ℕ) → (busy (s .heads) slot ≡ true) ↔ InTheWay s (tidy words scratch script reel)
+  busy-tidy words scratch script = (
+    λ e. of-tidy r (busy-by s slot .0 e .1),
+    λ b. elim b [ of-tidy {k = k} r' x ↦ busy-by s slot .1 (k, its-slot r' x) ],
+  )
+
   -- ---- in Claim
 
   module _ (words script f h : ℕ) (idle : isIdle (headAt (s .heads) h) ≡ true) where
@@ -57,7 +63,7 @@ module _ {s : State} {t : Table} (a : Agrees s t) {reel slot : ℕ} (r : SlotHas
     other x q = idle-nothing idle (subst (λ k. About (x .target) (headAt (s .heads) k)) q (x .about))
 
     -- the table's own part: a head with the frame
-    taken-by : (isTaken t reel f ≡ true) ↔ ((k : ℕ) × (x : HeadNames s k slot) × (x .target .frame ≡ f))
+    pub taken-by : (isTaken t reel f ≡ true) ↔ ((k : ℕ) × (x : HeadNames s k slot) × (x .target .frame ≡ f))
     taken-by = (there, back)
       where
         there : isTaken t reel f ≡ true → (k : ℕ) × (x : HeadNames s k slot) × (x .target .frame ≡ f)

@@ -27,6 +27,7 @@ pub mod Demand1
 pub mod Entries
 pub mod Inside
 pub mod Writes
+pub mod TidyFound
 pub mod Scripts
 pub mod Paired
 pub mod Alike
@@ -40,6 +41,7 @@ pub mod Formatted
 pub mod Assembly
 pub mod Editions
 pub mod StepRetire
+pub mod StepTidy
 pub mod Opening
 pub mod StepOpen
 pub mod StepRead
@@ -61,6 +63,7 @@ pub mod ClaimPlaced
 pub mod Growth
 pub mod InUse
 pub mod PathNodes
+pub mod Tidy
 pub mod OwnTables
 pub mod Conversions
 pub mod Demands

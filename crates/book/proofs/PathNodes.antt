@@ -15,7 +15,7 @@ use Rattle.tree.proofs.Cases.{true-not-false, none-some, seen, nothing, just}
 use Rattle.tree.proofs.Reach.{slot-filled}
 use Rattle.tree.proofs.PathNodes.{pathFrom-nodes}
 use Rattle.tree.proofs.Laws.{child-laws, path-laws}
-use Rattle.book.specs.State.{State, Operation, format, recover, openReel, claim, fill, commit, abandon, remove, retire, query, has, list, convert, arguments, memory, shape}
+use Rattle.book.specs.State.{State, Operation, format, recover, openReel, claim, fill, commit, abandon, remove, retire, tidy, query, has, list, convert, arguments, memory, shape}
 use Rattle.book.specs.Checks.{refusals}
 use Rattle.book.specs.Perform.{granted, perform}
 use Rattle.book.specs.Table.{Table, isPresent, fed, tableRefusals, tableWork}
@@ -84,6 +84,7 @@ none-told (commit script h) s n = refl
 none-told (abandon script h) s n = refl
 none-told (remove script reel f) s n = refl
 none-told (retire words scratch script reel) s n = refl
+none-told (tidy words scratch script reel) s n = refl
 
 no-has : (op : Operation) (s : State) → (IsHas op → ⊥) → perform op s .work .handed .path-nodes ≡ 0
 no-has op s n = elim (ℕ-discrete (perform op s .answer) 0) [
@@ -147,6 +148,7 @@ module _ {s : State} {t : Table} (a : Agrees s t) where
   grows-lone (abandon script h) reel fit e few b = lone-same b
   grows-lone (remove script reel' f) reel fit e few b = lone-same b
   grows-lone (retire words scratch script reel') reel fit e few b = lone-from (λ slot n w x. inl (b .2 .ways .0 x .0, b .2 .reels x))
+  grows-lone (tidy words scratch script reel') reel fit e few b = lone-from (λ slot n w x. inl (b .drops .ways .0 x .0, b .drops .reels x))
   grows-lone (query q) reel fit e few b = lone-same b
 
   done-lone : Growing s → (op : Operation) (reel : ℕ) → Fit (arguments op) → length (inUse (replied op s t .work .after) reel) ≤ 64

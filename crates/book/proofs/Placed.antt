@@ -34,18 +34,20 @@ use Rattle.book.proofs.Mended.{Mended, kept, mended-same}
 use Rattle.book.proofs.Recovery.{recover-writes, interrupted-mended}
 use Rattle.book.proofs.Assembly.{Steps, Kind, formats, recovers, scripted, kind, granted-image, itself-same, agreed}
 
--- ---- images that hold no more than another, at its places
+-- ---- images that hold the same as another, at the same places
 
--- what im' holds, im holds at the same place, in a slot of the same reel
-record Held (im im' : List ℕ) : Type 0 where
-  held : {s : ℕ} {w : List ℕ} {n p f : ℕ} → Holds (geometryOf (reads im')) (reads im') s w n p f
+-- what im' holds, im holds at the same place, in a slot of the same reel, and back
+pub record Held (im im' : List ℕ) : Type 0 where
+  pub held : {s : ℕ} {w : List ℕ} {n p f : ℕ} → Holds (geometryOf (reads im')) (reads im') s w n p f
       → Holds (geometryOf (reads im)) (reads im) s w n p f × (reads im (reelAt s) ≡ reads im' (reelAt s))
+  pub still : {s : ℕ} {w : List ℕ} {n p f : ℕ} → Holds (geometryOf (reads im)) (reads im) s w n p f
+      → Holds (geometryOf (reads im')) (reads im') s w n p f
 
 held-same : {im im' : List ℕ} → im' ≡ im → Held im im'
-held-same q = rw q (record { held = λ x. (x, refl) })
+held-same q = rw q (record { held = λ x. (x, refl); still = λ x. x })
 
 held-on : {im im' im'' : List ℕ} → Held im im' → Held im' im'' → Held im im''
-held-on a b = record { held = λ x. let y = b .held x in let z = a .held (y .0) in (z .0, z .1 ∙ y .1) }
+held-on a b = record { held = λ x. let y = b .held x in let z = a .held (y .0) in (z .0, z .1 ∙ y .1); still = λ x. b .still (a .still x) }
 
 keeps-held : {ws im im' im'' : List ℕ} → Keeps ws im im' → Held im' im'' → Keeps ws im im''
 keeps-held a b = record {
@@ -59,7 +61,10 @@ held-mended : {im im' : List ℕ} → Mended (geometryOf (reads im)) (reads im) 
 held-mended {im} {im'} a =
     let same = mended-same a in
     let q = same-geometry (reads im) (reads im') (kept a slotsAt (λ k. omega arith)) (kept a nodesAt (λ k. omega arith)) in
-    record { held = rw (← q) (λ x. let y = same-laws same .holds .1 x in (y, same .reels (slot-filled (y .there)))) }
+    record {
+      held = rw (← q) (λ x. let y = same-laws same .holds .1 x in (y, same .reels (slot-filled (y .there))));
+      still = rw (← q) (λ x. same-laws same .holds .0 x);
+    }
 
 recovered-held : (words : ℕ) (r : State) → Held (r .image) (done (recover words) r .image)
 recovered-held words r =
@@ -69,12 +74,12 @@ recovered-held words r =
 interrupted-held : (words : ℕ) (r : State) (k : ℕ) (m : List ℕ) → Interrupted (recover words) r k m → Held (r .image) m
 interrupted-held words r k m c = held-mended (interrupted-mended words r k m c .1)
 
-attempts-held : {m m' : List ℕ} → Attempts m m' → Held m m'
+pub attempts-held : {m m' : List ℕ} → Attempts m m' → Held m m'
 attempts-held none-yet = held-same refl
 attempts-held (refused words s q h a) = held-on (held-same q) (held-on (recovered-held words s) (attempts-held a))
 attempts-held (interrupted words s k q c a) = held-on (held-same q) (held-on (interrupted-held words s k _ c) (attempts-held a))
 
-ended-held : {m : List ℕ} {s' : State} → Recovered m s' → Held m (s' .image)
+pub ended-held : {m : List ℕ} {s' : State} → Recovered m s' → Held m (s' .image)
 ended-held c = rw (c .is) (held-on (attempts-held (c .attempts)) (held-on (held-same (c .image)) (recovered-held (c .words) (c .from))))
 
 -- ---- an operation done or interrupted

@@ -29,7 +29,7 @@ use Rattle.tree.proofs.Laws.{child-laws}
 use Rattle.tree.specs.Fingerprint.{hasOwn, badOwn}
 use Rattle.book.specs.declared.HeadState.the-variants.{Claimed}
 use Rattle.book.specs.Heads.{headCount, headAt}
-use Rattle.book.specs.State.{State, Operation, format, recover, openReel, claim, fill, commit, abandon, remove, retire, query}
+use Rattle.book.specs.State.{State, Operation, format, recover, openReel, claim, fill, commit, abandon, remove, retire, tidy, query}
 use Rattle.book.specs.Checks.{placeIn, targetIn, refusals}
 use Rattle.book.specs.Perform.{group, locateThen, claimScript, granted, leftBy, perform}
 use Rattle.book.specs.Histories.{done}
@@ -178,6 +178,7 @@ none-left (commit script h) s n = refl
 none-left (abandon script h) s n = refl
 none-left (remove script reel f) s n = refl
 none-left (retire words scratch script reel) s n = refl
+none-left (tidy words scratch script reel) s n = refl
 none-left (query q) s n = refl
 
 no-claim : (op : Operation) (s : State) → (IsClaim op → ⊥) → perform op s .places-left ≡ 0

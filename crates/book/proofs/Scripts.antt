@@ -11,7 +11,7 @@ use Rattle.tree.specs.declared.layout.Geometry.{Geometry}
 use Rattle.tree.specs.Layout.{badImage, slotsAt, nodesAt, geometryOf}
 use Rattle.tree.specs.Fingerprint.{ruleOf}
 use Rattle.book.specs.Refusals.{refusal}
-use Rattle.book.specs.State.{State, Operation, format, recover, openReel, claim, fill, commit, abandon, remove, retire, query, Query, has, list, convert, arguments, Work}
+use Rattle.book.specs.State.{State, Operation, format, recover, openReel, claim, fill, commit, abandon, remove, retire, tidy, query, Query, has, list, convert, arguments, Work}
 use Rattle.book.specs.Checks.{queryRefusals, refusals}
 use Rattle.book.specs.CarryOut.{carry, carried}
 use Rattle.tree.specs.Recovery.{recoverStores}
@@ -26,8 +26,9 @@ use Rattle.book.proofs.Mended.{kept}
 use Rattle.book.proofs.Formatted.{blank, made-geometry}
 use Rattle.book.proofs.Recovery.{mendedImage, mended-words}
 use Rattle.book.proofs.Entries.{each-entry}
+use Rattle.book.proofs.TidyFound.{tidy-found}
 use Rattle.book.proofs.Inside.{sized, find-inside, path-room, run-inside, target-fits}
-use Rattle.book.proofs.Writes.{Writes, Good, no-stores, good-open, good-retire, good-claim, good-fill, good-commit, good-abandon, good-remove}
+use Rattle.book.proofs.Writes.{Writes, Good, no-stores, good-open, good-retire, good-tidy, good-claim, good-fill, good-commit, good-abandon, good-remove}
 
 -- what an answered operation leaves to be carried out: a good script, and an image of the same length with its header in range
 record Answered (s : State) (w : Work) : Type 0 where
@@ -48,6 +49,7 @@ writes-one-way (abandon script h) s = inr refl
 writes-one-way (remove script reel f) s = inr refl
 writes-one-way (query q) s = inr refl
 writes-one-way (retire words scratch script reel) s = inr refl
+writes-one-way (tidy words scratch script reel) s = inr refl
 
 -- Recover stores to locate words alone
 recovered : (im : List ℕ) (g : Geometry) → geometryOf (reads (mendedImage g im)) ≡ geometryOf (reads im)
@@ -113,6 +115,10 @@ answered (query q) s a b c h = record { script = no-stores _; words = refl; head
 answered (retire words scratch script reel) s a b c h =
     let p = passes _ (omega arith) h in
     record { script = good-retire (sized _ _ (p .0)) _ (p .1 .1 .1 .1 .0); words = refl; header = p .0 }
+answered (tidy words scratch script reel) s a b c h =
+    let p = passes _ (omega arith) h in
+    let f = tidy-found s words scratch script reel (answer-is (tidy words scratch script reel) s ∙ h) in
+    rw (f .work) (record { script = good-tidy (sized _ _ (p .0)) (f .parent .node) (f .inside); words = refl; header = p .0 })
 
 -- ---- any operation
 

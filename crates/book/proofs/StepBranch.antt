@@ -13,7 +13,7 @@ use Rattle.tree.specs.Path.{fanout, child, wayOf}
 use Rattle.tree.specs.Node.{held}
 use Rattle.tree.specs.Reach.{Reaches}
 use Rattle.tree.specs.Pool.{used, markAll}
-use Rattle.tree.specs.Changes.{NewChild}
+use Rattle.tree.specs.Changes.{InGroup}
 use Rattle.tree.proofs.Cases.{true-not-false}
 use Rattle.tree.proofs.Lists.{range-has}
 use Rattle.tree.proofs.Memory.{no-bit, torn-whole, apply-single, apply-first}
@@ -206,7 +206,7 @@ module _ {s : State} {t : Table} {h reel f slot d start : ℕ} (a : Asked s t h 
   nodes-marked = quiet-set (still-linked .view .header .geometry) node 1 _ (omega arith) (omega arith) (omega arith)
 
   -- carried out, the group's nodes have come, and no other
-  pub adds-branched : Adds (s .image) last 64 (NewChild slot (wayOf d f) start)
+  pub adds-branched : Adds (s .image) last 64 (InGroup slot (wayOf d f) start)
   adds-branched = adds-on (adds old-view x deep run) nodes-marked
 
   -- every image that a crash leaves has the nodes as before, or as then

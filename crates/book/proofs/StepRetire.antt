@@ -1,7 +1,7 @@
 -- The step of Retire: one store, the root of the reel's slot to 0.
 use mathlib.Core.Path.{_≡_, refl, sym, _∙_, subst}
 use mathlib.Core.Bool.{true, false, not}
-use mathlib.Core.Logic.{inl, inr, _↔_, _≢_}
+use mathlib.Core.Logic.{inl, inr, _↔_}
 use mathlib.Core.List.{List, [], _∷_, List·Memᴰ, Memᴰ·map, Memᴰ·of-map}
 use Prim.Native.Nat.{ℕ, _<_}
 use native.Mathlib.Omega.{arith}
@@ -18,20 +18,18 @@ use Rattle.tree.specs.Subtree.{tree}
 use Rattle.tree.specs.Same.{SameWords, Stores}
 use Rattle.tree.specs.Changes.{Retired}
 use Rattle.tree.specs.Pool.{used, unmarkAll}
-use Rattle.tree.proofs.Cases.{true-not-false}
 use Rattle.tree.proofs.Words.{beside-nodes}
 use Rattle.tree.proofs.Laws.{slot-laws, tree-laws, change-laws, pool-laws}
 use Rattle.tree.proofs.Memory.{apply-single}
 use Rattle.book.specs.declared.Target.{Target}
-use Rattle.book.specs.Heads.{headCount, headAt, names, busy}
+use Rattle.book.specs.Heads.{headCount, headAt, busy}
 use Rattle.book.specs.State.{State, retire, arguments}
 use Rattle.book.specs.Checks.{refusals}
 use Rattle.tree.specs.Subtree.{nodesOf}
 use Rattle.book.specs.Perform.{perform, granted, writing}
 use Rattle.book.specs.Table.{Table, withReels, tableWork}
 use Rattle.book.specs.Agrees.{Reached, Shows, About, Claims, Agrees}
-use Rattle.book.specs.Ways.{SlotHas}
-use Rattle.book.specs.Growth.{shapeIn, Drops}
+use Rattle.book.specs.Growth.{Drops, RetireDrops}
 use Rattle.book.proofs.Refusals.{passes}
 use Rattle.book.proofs.Performed.{answer-is}
 use Rattle.book.proofs.View.{View}
@@ -40,7 +38,7 @@ use Rattle.book.proofs.Reels.{frames-to}
 use Rattle.book.proofs.Views.{view-retired}
 use Rattle.book.proofs.Showing.{shows-view, view-shows}
 use Rattle.book.proofs.Crashed.{through-each}
-use Rattle.book.proofs.Heads.{names-about, any-head}
+use Rattle.book.proofs.Heads.{not-busy}
 use Rattle.book.proofs.Reading.{sizesOf, claim-inside}
 use Rattle.book.proofs.Keeps.{keeps-of, keeps-itself, step-of}
 use Rattle.book.proofs.Claims.{SameClaim, untouched, head-on, locates-on, agrees-of}
@@ -120,13 +118,10 @@ module _ {s : State} {t : Table} (a : Agrees s t) (slot : ℕ) (b : Filled (size
   keeps-cleared : Keeps (s .heads) (s .image) cleared
   keeps-cleared = keeps-of v (header .header) (record { reels = λ {s = s'} x y. reel-kept s'; held = λ x. inl (change .holds .0 x .0) })
 
-  other-slot : {x : Target} (h : ℕ) → h < headCount → About x (headAt (s .heads) h) → x .slot ≢ slot
-  other-slot {x} h l o q = true-not-false (any-head (names slot) (s .heads) .1 (h, l, names-about slot _ .1 (x, o, q))) idle
-
   same-claim : (h : ℕ) → h < headCount → (x : Target) (reel f : ℕ) → About x (headAt (s .heads) h)
       → Claims g m x reel f → SameClaim g m (reads cleared) x
   same-claim h l x reel f o c =
-      untouched x (words (x .node)) (claim-inside (a .shows) c .1) (reel-kept (x .slot)) (λ w r. change .reaches .1 (r, other-slot h l o))
+      untouched x (words (x .node)) (claim-inside (a .shows) c .1) (reel-kept (x .slot)) (λ w r. change .reaches .1 (r, not-busy (s .heads) idle h l o))
       (frames-to (λ w n p y. change .holds .0 y .0))
 
   abbrev pool : List ℕ
@@ -160,7 +155,7 @@ module _ {s : State} {t : Table} (a : Agrees s t) (slot : ℕ) (b : Filled (size
   sizes-kept {n = n} x = sym (words n .words (sizeAt g n) (omega arith) (omega arith))
 
   -- the slot's nodes go, and no other
-  drops : Drops (s .image) cleared slot
+  drops : Drops (s .image) cleared (λ slot' w n. slot' ≡ slot)
   drops = record {
     ways = rw (header .header .geometry) (change .reaches);
     sizes = rw (header .header .geometry) sizes-kept;
@@ -169,7 +164,7 @@ module _ {s : State} {t : Table} (a : Agrees s t) (slot : ℕ) (b : Filled (size
 
 pub grows-retire : {s : State} {t : Table} → Agrees s t → (words scratch script reel : ℕ) → perform (retire words scratch script reel) s .answer ≡ 0
     → Nodes (s .image) (granted (retire words scratch script reel) s .script)
-    (λ im'. (slot : ℕ) × SlotHas (shapeIn (s .image)) (reads (s .image)) reel slot × Drops (s .image) im' slot)
+    (λ im'. RetireDrops (s .image) im' reel)
 grows-retire {s} a words scratch script reel h =
     let p = retire-passes s words scratch script reel h in
     let k = slotOf (sizesOf (s .image)) (reads (s .image)) reel in

@@ -30,16 +30,17 @@ use Rattle.tree.proofs.Fingerprints.{fingerprint-laws}
 use Rattle.book.specs.declared.Target.{Target}
 use Rattle.book.specs.declared.HeadState.the-variants as heads
 use Rattle.book.specs.Heads.{headCount, headAt, wordsOf, withHead, targetOf}
-use Rattle.book.specs.State.{State, Operation, claim, fill, commit, abandon, remove, retire, query, has, memory, shape}
+use Rattle.book.specs.State.{State, Operation, claim, fill, commit, abandon, remove, retire, tidy, query, has, memory, shape}
 use Rattle.book.specs.Checks.{placeIn, refusals}
 use Rattle.book.specs.Perform.{claimScript, roomScript, fillScript, removeScript, foundSpot, granted, perform}
 use Rattle.book.specs.Ways.{Matches}
-use Rattle.book.specs.Stores.{BitOn, BitOff, Recorded, noTarget, FirstMatch, FillStores, CommitStores, AbandonStores, RemoveStores, RetireStores, HasSays, yes, no, ClaimStores, at-clear-place, at-scale-up, at-branch-out, ClaimWrites}
+use Rattle.book.specs.Stores.{BitOn, BitOff, Recorded, noTarget, FirstMatch, FillStores, CommitStores, AbandonStores, RemoveStores, RetireStores, TidyStores, HasSays, yes, no, ClaimStores, at-clear-place, at-scale-up, at-branch-out, ClaimWrites}
 use Rattle.book.proofs.Refusals.{passes}
 use Rattle.book.proofs.Performed.{answer-is, work-granted}
 use Rattle.book.proofs.Heads.{word-written, word-stays, claimed-is, filled-is, about-target}
 use Rattle.book.proofs.DueWords.{reel-slot}
 use Rattle.book.proofs.StepRetire.{tree-nodes}
+use Rattle.book.proofs.TidyFound.{children-freed, tidy-found}
 use Rattle.book.proofs.Rooms.{RoomIs, room-is, at-split, in-front}
 
 -- ---- words and records
@@ -256,12 +257,29 @@ retires words scratch script reel s e =
       slot = slot;
       of-reel = reel-there;
       stores = ap (λ x. x .script) w;
+      map-words = ap (λ x. length (x .after .pool)) w ∙ pool-laws .length-unmark-all (s .pool) _;
       frees = λ n.
           let u = pool-laws .unmarks-all (s .pool) (nodesOf (tree g m slot)) n in
           rw w (
             λ x. (u .0 x .0, λ v y. u .0 x .1 (nodes n .1 (v, y))),
             λ x. u .1 (x .0, λ y. let z = nodes n .0 y in x .1 (z .0) (z .1)),
           );
+    }
+
+pub tidies : (words scratch script reel : ℕ) (s : State) → perform (tidy words scratch script reel) s .answer ≡ 0
+    → TidyStores (tidy words scratch script reel) s reel
+tidies words scratch script reel s e =
+    let f = tidy-found s words scratch script reel e in
+    let w = work-granted (tidy words scratch script reel) s e ∙ f .work in
+    record {
+      slot = slotOf (shape s) (memory s) reel;
+      of-reel = f .of-reel;
+      way = f .parent .way;
+      node = f .parent .node;
+      first = f .first;
+      stores = ap (λ x. x .script) w;
+      map-words = ap (λ x. length (x .after .pool)) w ∙ pool-laws .length-unmark-all (s .pool) _;
+      frees = λ n. rw w (children-freed (shape s) (memory s) (f .parent) (s .pool) n);
     }
 
 -- ---- Claim

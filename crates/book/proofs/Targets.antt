@@ -11,7 +11,7 @@ use Rattle.book.specs.declared.Target.{Target}
 use Rattle.book.specs.declared.HeadState.{HeadState}
 use Rattle.book.specs.declared.HeadState.the-variants.{Idle, Filled}
 use Rattle.book.specs.Heads.{headCount, headAt, isIdle, targetOf, withHead, idleHeads}
-use Rattle.book.specs.State.{State, Operation, format, recover, openReel, claim, fill, commit, abandon, remove, retire, query}
+use Rattle.book.specs.State.{State, Operation, format, recover, openReel, claim, fill, commit, abandon, remove, retire, tidy, query}
 use Rattle.book.specs.Checks.{refusals}
 use Rattle.book.specs.Perform.{granted, perform}
 use Rattle.book.specs.Table.{Table}
@@ -64,6 +64,7 @@ heads-after (abandon script h) s e =
 heads-after (remove script reel f) s e = left
 heads-after (query q) s e = left
 heads-after (retire words scratch script reel) s e = left
+heads-after (tidy words scratch script reel) s e = left
 
 idle-recovered : (words : ℕ) (s : State) (k : ℕ) → headAt (granted (recover words) s .after .heads) k ≡ Idle
 unfolding granted

@@ -17,6 +17,7 @@ use Rattle.tree.specs.Slots.{Filled}
 use Rattle.tree.specs.Reach.{Reaches, Holds, FrameOf}
 use Rattle.tree.specs.Sound.{Sound}
 use Rattle.tree.specs.Same.{Same, Stores}
+use Rattle.tree.specs.Groups.{EmptyGroup}
 use Rattle.tree.specs.Changes.{Opens, Links, Commits, Removes}
 use Rattle.tree.proofs.Reach.{slot-filled, one-node}
 use Rattle.tree.proofs.Same.{filled-on, filled-back}
@@ -44,6 +45,12 @@ module _ {g : Geometry} {o : Bool} {im im' : List ℕ} {rs : List Reel} (v : Vie
       → View g o im' rs
   view-linked {n = n} a t =
       let c = change-laws (reads im') (v .sound) .linked a t in
+      view-of (c .sound) (v .once)
+      (reels-same (node-slots n (omega arith) t) (λ s f. (frames-to (λ w n p x. c .holds .1 x), frames-to (λ w n p x. c .holds .0 x))) (v .same))
+
+  pub view-unlinked : {s : ℕ} {w : List ℕ} {n : ℕ} → EmptyGroup g (reads im) s w n → Stores (reads im) (nextAt g n) 0 (reads im') → View g o im' rs
+  view-unlinked {n = n} a t =
+      let c = change-laws (reads im') (v .sound) .unlinked a t in
       view-of (c .sound) (v .once)
       (reels-same (node-slots n (omega arith) t) (λ s f. (frames-to (λ w n p x. c .holds .1 x), frames-to (λ w n p x. c .holds .0 x))) (v .same))
 

@@ -8,7 +8,7 @@ use lib.ListN.{length}
 use borrow.Author.Tests.{eqb-false}
 use Rattle.tree.specs.Memory.{Memory, Store, entries}
 use Rattle.tree.specs.declared.layout.Geometry.{Geometry}
-use Rattle.tree.specs.Layout.{rootAt, locateAt, setAt, fingerprintsAt}
+use Rattle.tree.specs.Layout.{rootAt, nextAt, locateAt, setAt, fingerprintsAt}
 use Rattle.tree.specs.Lists.{range}
 use Rattle.tree.specs.Path.{fanout}
 use Rattle.tree.specs.Fingerprint.{fingerprint, ruleOf}
@@ -49,6 +49,9 @@ module _ {words : ℕ} {g : Geometry} (z : Sized words g) where
   pub good-open : (slot n reel : ℕ) → slot < g .slots → n < g .nodes → reel < 2 ^ 64 → Good words (openScript g slot n reel)
   unfolding openScript
   good-open slot n reel a b c = record { each = omega arith; few = omega arith }
+
+  pub good-tidy : (n : ℕ) → n < g .nodes → Good words (((nextAt g n, 0) ∷ []) ∷ [])
+  good-tidy n a = record { each = omega arith; few = omega arith }
 
   pub good-retire : (slot : ℕ) → slot < g .slots → Good words (((rootAt slot, 0) ∷ []) ∷ [])
   good-retire slot a = record { each = omega arith; few = omega arith }

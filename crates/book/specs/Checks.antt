@@ -17,11 +17,12 @@ use Rattle.tree.specs.declared.path.Room.the-variants.{Clear, ScaleUp, BranchOu
 use Rattle.tree.specs.Lookup.{spot, pathFrom, find, freeRun}
 use Rattle.tree.specs.Subtree.{listing}
 use Rattle.tree.specs.Check.{isSoundTree, isSound}
+use Rattle.tree.specs.Groups.{firstGroup}
 use Rattle.book.specs.declared.Target.{Target}
 use Rattle.book.specs.Heads.{headCount, headAt, isIdle, isClaimed, isFilled, targetOf, anyHead, busy, conflicts}
 use Rattle.book.specs.Refusals.{Refusal, _gives_}
 use Rattle.tree.specs.Room.{roomOn, needs, atLevel31}
-use Rattle.book.specs.State.{State, Operation, format, recover, openReel, claim, fill, commit, abandon, remove, retire, query, Query, has, list, convert}
+use Rattle.book.specs.State.{State, Operation, format, recover, openReel, claim, fill, commit, abandon, remove, retire, tidy, query, Query, has, list, convert}
 
 -- 3: a map, or a scratch map, is not of the map's length; a script is too short
 abbrev pub badMap : Geometry → ℕ → Test
@@ -146,5 +147,13 @@ refusals op s =
           let slot = slotOf g m reel in
           checked (s .image) (badMap g map or badMap g scratch or badScript script)
           ((le (g .slots) slot gives 5) ∷ (is (busy (s .heads) slot) gives 13) ∷ (is (not (isSoundTree g m slot)) gives 4) ∷ [])
+      | tidy map scratch script reel ↦
+          let slot = slotOf g m reel in
+          checked (s .image) (badMap g map or badMap g scratch or badScript script)
+          ((le (g .slots) slot gives 5)
+          ∷ (is (busy (s .heads) slot) gives 13)
+          ∷ (is (not (isSoundTree g m slot)) gives 4)
+          ∷ (is (not (isSome (firstGroup g m slot))) gives 18)
+          ∷ [])
       | query q ↦ queryRefusals q (s .image)
     ]

@@ -16,13 +16,13 @@ use Rattle.book.specs.declared.Target.{Target}
 use Rattle.book.specs.declared.HeadState.the-variants.{Claimed, Filled}
 use Rattle.book.specs.Heads.{headCount, headAt}
 use Rattle.book.specs.Refusals.{comesTo}
-use Rattle.book.specs.State.{State, Operation, format, recover, openReel, claim, fill, commit, abandon, remove, retire, query, Query, has, list, convert, arguments, nothingHanded}
+use Rattle.book.specs.State.{State, Operation, format, recover, openReel, claim, fill, commit, abandon, remove, retire, tidy, query, Query, has, list, convert, arguments, nothingHanded}
 use Rattle.book.specs.Perform.{perform}
 use Rattle.book.specs.CarryOut.{carry, carried}
 use Rattle.book.specs.Table.{Table, nothing, tableRefusals, allIdle}
 use Rattle.book.specs.Agrees.{EachOnce, Shows, About, Agrees}
 use Rattle.book.specs.Held.{tableOf}
-use Rattle.book.specs.Ways.{Takes, SlotHas, Lacks, InTheWay}
+use Rattle.book.specs.Ways.{Takes, SlotHas, Lacks, LacksGroup, InTheWay}
 use Rattle.book.specs.Histories.{done, replied, Interrupted, Attempts, Recovered, Next, Starts, Follows}
 
 -- ---- 1: over any state, an operation is answered or refused; a refusal hands out nothing and leaves everything
@@ -43,16 +43,18 @@ numbers (commit script h) = 1 ∷ 2 ∷ 3 ∷ 4 ∷ 11 ∷ 12 ∷ 4 ∷ []
 numbers (abandon script h) = 1 ∷ 2 ∷ 3 ∷ 4 ∷ 11 ∷ 12 ∷ 4 ∷ []
 numbers (remove script reel f) = 1 ∷ 2 ∷ 3 ∷ 4 ∷ 5 ∷ 13 ∷ 4 ∷ 10 ∷ []
 numbers (retire words scratch script reel) = 1 ∷ 2 ∷ 3 ∷ 4 ∷ 5 ∷ 13 ∷ 4 ∷ []
+numbers (tidy words scratch script reel) = 1 ∷ 2 ∷ 3 ∷ 4 ∷ 5 ∷ 13 ∷ 4 ∷ 18 ∷ []
 numbers (query q) = queryNumbers q
 
 -- a recovery refused 4 clears the map
 pub data ClearsMap : Operation → ℕ → Type 0 where
   unsound : {words : ℕ} → ClearsMap (recover words) 4
 
--- List, Retire and Convert borrow a scratch map
+-- List, Retire, Tidy and Convert borrow a scratch map
 pub data BorrowsScratch : Operation → Type 0 where
   by-list : {scratch room reel : ℕ} → BorrowsScratch (query (list scratch room reel))
   by-retire : {words scratch script reel : ℕ} → BorrowsScratch (retire words scratch script reel)
+  by-tidy : {words scratch script reel : ℕ} → BorrowsScratch (tidy words scratch script reel)
   by-convert : {scratch copy : ℕ} → BorrowsScratch (query (convert scratch copy))
 
 -- what a refusal leaves: everything, but for the map that a recovery refused 4 clears
@@ -90,6 +92,8 @@ pub record Alike (op : Operation) (s : State) (t : Table) : Type 0 where
   pub one-from : perform op s .answer ≡ 1 → GivesOne s op
   -- where the table comes to an 8, it comes exactly if the operation lacks the nodes that it needs
   pub no-run : comesTo 8 (tableRefusals op nothing t) ≡ true → (perform op s .answer ≡ 8) ↔ Lacks s op
+  -- where it comes to an 18, that comes exactly if no node that the reel reaches has children that are all empty
+  pub no-group : comesTo 18 (tableRefusals op nothing t) ≡ true → (perform op s .answer ≡ 18) ↔ LacksGroup s op
   -- where it comes to a 13, that comes exactly if a head is in the operation's way
   pub busy : comesTo 13 (tableRefusals op nothing t) ≡ true → (perform op s .answer ≡ 13) ↔ InTheWay s op
 

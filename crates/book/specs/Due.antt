@@ -15,10 +15,11 @@ use Rattle.tree.specs.Fingerprint.{ruleOf, LacksByte, BadOwn}
 use Rattle.tree.specs.Node.{wellFormed, frame}
 use Rattle.tree.specs.Reach.{Reaches, Holds}
 use Rattle.tree.specs.Sound.{SoundImage}
+use Rattle.tree.specs.Groups.{NoGroup}
 use Rattle.tree.specs.declared.path.Spot.{Spot}
 use Rattle.tree.specs.Laws.{Malformed, FreeRun}
 use Rattle.book.specs.Heads.{headCount}
-use Rattle.book.specs.State.{State, Operation, format, recover, openReel, claim, fill, commit, abandon, remove, retire, query, has, list, convert, memory, shape}
+use Rattle.book.specs.State.{State, Operation, format, recover, openReel, claim, fill, commit, abandon, remove, retire, tidy, query, has, list, convert, memory, shape}
 use Rattle.book.specs.Perform.{perform}
 use Rattle.book.specs.Ways.{FullPath, SlotHas, ReelAt, Matches, Uses}
 
@@ -139,7 +140,7 @@ module _ (s : State) where
   abbrev pub NoRoom : (f slot : ℕ) → Type 0
   NoRoom f slot = BadPath f slot ⊎ FullPath (shape s) (memory s) slot f 31
 
-  -- 4 in List and Retire: a node reached from the root is malformed, or reached twice
+  -- 4 in List, Retire and Tidy: a node reached from the root is malformed, or reached twice
   pub data BadTree (slot : ℕ) : Type 0 where
     malformed : {w : List ℕ} {n : ℕ} → Reaches (shape s) (memory s) slot w n → wellFormed (shape s) (memory s) (length w) n ≡ false → BadTree slot
     twice : {w w' : List ℕ} {n : ℕ} → Reaches (shape s) (memory s) slot w n → Reaches (shape s) (memory s) slot w' n → w ≢ w' → BadTree slot
@@ -222,6 +223,13 @@ due (retire map scratch script reel) s =
     ((5 when NoReel s reel)
     ∷ (13 when OfReel s reel (Busy s))
     ∷ (4 when OfReel s reel (BadTree s))
+    ∷ [])
+due (tidy map scratch script reel) s =
+    checked s (WrongMap (shape s) map ⊎ (WrongMap (shape s) scratch ⊎ ShortScript script))
+    ((5 when NoReel s reel)
+    ∷ (13 when OfReel s reel (Busy s))
+    ∷ (4 when OfReel s reel (BadTree s))
+    ∷ (18 when OfReel s reel (NoGroup (shape s) (memory s)))
     ∷ [])
 due (query (has reel f)) s =
     header s ((4 when BadOwn (memory s)) ∷ (5 when NoReel s reel) ∷ (4 when OfReel s reel (BadPath s f)) ∷ [])

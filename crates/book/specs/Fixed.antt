@@ -1,4 +1,4 @@
--- What document 01 fixes of single operations besides the demands: statements alone, over any state.
+-- What the paper fixes of single operations besides the demands: statements alone, over any state.
 use mathlib.Core.Path.{_≡_}
 use mathlib.Core.Bool.{true, false}
 use mathlib.Core.Logic.{_⊎_, _↔_, _≢_}
@@ -14,11 +14,11 @@ use Rattle.tree.specs.Fingerprint.{GoodTable}
 use Rattle.tree.specs.Sound.{SoundImage}
 use Rattle.tree.specs.Pool.{used, mark, clearMap}
 use Rattle.book.specs.Heads.{headCount}
-use Rattle.book.specs.State.{State, format, recover, openReel, claim, fill, commit, abandon, remove, retire, query, has, memory, shape}
+use Rattle.book.specs.State.{State, Operation, format, recover, openReel, claim, fill, commit, abandon, remove, retire, tidy, query, has, memory, shape}
 use Rattle.tree.specs.Recovery.{recoverStores}
 use Rattle.book.specs.Perform.{perform}
 use Rattle.book.specs.Agrees.{Reached, IsEdition}
-use Rattle.book.specs.Stores.{ClaimWrites, FillStores, CommitStores, AbandonStores, RemoveStores, RetireStores, HasSays}
+use Rattle.book.specs.Stores.{ClaimWrites, FillStores, CommitStores, AbandonStores, RemoveStores, RetireStores, TidyStores, HasSays}
 
 -- ---- Format
 
@@ -103,6 +103,17 @@ pub record OpenTakes (words script reel : ℕ) (s : State) : Type 0 where
   -- the node is marked
   pub map : perform (openReel words script reel) s .work .after .pool ≡ mark (s .pool) node
 
+-- ---- heads
+
+-- the operations that write records of heads
+pub data WritesHeads : Operation → Type 0 where
+  by-format : {words slots nodes : ℕ} {table : List ℕ} → WritesHeads (format words table slots nodes)
+  by-recover : {words : ℕ} → WritesHeads (recover words)
+  by-claim : {words script h reel f : ℕ} → WritesHeads (claim words script h reel f)
+  by-fill : {script h : ℕ} → WritesHeads (fill script h)
+  by-commit : {script h : ℕ} → WritesHeads (commit script h)
+  by-abandon : {script h : ℕ} → WritesHeads (abandon script h)
+
 -- ---- all of them
 
 pub record Fixed : Type 0 where
@@ -115,6 +126,8 @@ pub record Fixed : Type 0 where
   pub sound : (words : ℕ) (s : State) → Right words s → SoundImage (memory s) → perform (recover words) s .answer ≡ 0
   pub recovers : (words : ℕ) (s : State) → perform (recover words) s .answer ≡ 0 → RecoverWrites s (perform (recover words) s .work .after)
   pub opens : (words script reel : ℕ) (s : State) → perform (openReel words script reel) s .answer ≡ 0 → OpenTakes words script reel s
+  -- no other operation writes a head's record
+  pub heads-left : (op : Operation) (s : State) → (WritesHeads op → ⊥) → perform op s .work .after .heads ≡ s .heads
   -- the other operations; the driver's heads are as many words as their records have
   pub claims : (words script h reel f : ℕ) (s : State) → length (s .heads) ≡ 5 * headCount → perform (claim words script h reel f) s .answer ≡ 0
       → ClaimWrites (claim words script h reel f) s h reel f
@@ -126,5 +139,7 @@ pub record Fixed : Type 0 where
   pub removes : (script reel f : ℕ) (s : State) → perform (remove script reel f) s .answer ≡ 0 → RemoveStores (remove script reel f) s reel f
   pub retires : (words scratch script reel : ℕ) (s : State) → perform (retire words scratch script reel) s .answer ≡ 0
       → RetireStores (retire words scratch script reel) s reel
+  pub tidies : (words scratch script reel : ℕ) (s : State) → perform (tidy words scratch script reel) s .answer ≡ 0
+      → TidyStores (tidy words scratch script reel) s reel
   pub asks : (reel f : ℕ) (s : State) → perform (query (has reel f)) s .answer ≡ 0
       → HasSays s reel f (perform (query (has reel f)) s .work .handed .value)

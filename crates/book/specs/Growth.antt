@@ -4,14 +4,15 @@ use mathlib.Core.Path.{_≡_}
 use mathlib.Core.Bool.{false}
 use mathlib.Core.Logic.{_⊎_, _↔_, _≢_}
 use mathlib.Core.List.{List, []}
-use Prim.Native.Nat.{ℕ, _*_, _<_}
+use Prim.Native.Nat.{ℕ, _-_, _*_, _<_}
 use Rattle.tree.specs.Memory.{reads, isSet, segmented, passed, Fit}
 use Rattle.tree.specs.declared.layout.Geometry.{Geometry}
 use Rattle.tree.specs.Layout.{geometryOf, nextAt, locateAt, sizeAt, reelAt, rootAt}
 use Rattle.tree.specs.Path.{fanout, wayOf}
 use Rattle.tree.specs.Reach.{Reaches}
-use Rattle.tree.specs.Changes.{NewRoot, NewChild}
-use Rattle.book.specs.State.{State, Operation, format, recover, openReel, claim, fill, commit, abandon, remove, retire, query, arguments}
+use Rattle.tree.specs.Groups.{FirstGroup}
+use Rattle.tree.specs.Changes.{NewRoot, InGroup}
+use Rattle.book.specs.State.{State, Operation, format, recover, openReel, claim, fill, commit, abandon, remove, retire, tidy, query, arguments}
 use Rattle.book.specs.Perform.{perform}
 use Rattle.book.specs.Table.{Table}
 use Rattle.book.specs.Agrees.{Reached}
@@ -55,11 +56,11 @@ pub record Doubles (im im' : List ℕ) (k : ℕ) : Type 0 where
   pub sizes : {slot n : ℕ} {w : List ℕ} → ReachesIn im slot w n → n ≢ k → sizeIn im' n ≡ sizeIn im n
   pub reels : {slot n : ℕ} {w : List ℕ} → ReachesIn im slot w n → reelIn im' slot ≡ reelIn im slot
 
--- the nodes of one slot go, all of them; those of the others, and their reels, are as they were
-pub record Drops (im im' : List ℕ) (slot : ℕ) : Type 0 where
-  pub ways : {slot' n : ℕ} {w : List ℕ} → ReachesIn im' slot' w n ↔ (ReachesIn im slot' w n × (slot' ≢ slot))
-  pub sizes : {slot' n : ℕ} {w : List ℕ} → ReachesIn im' slot' w n → sizeIn im' n ≡ sizeIn im n
-  pub reels : {slot' n : ℕ} {w : List ℕ} → ReachesIn im' slot' w n → reelIn im' slot' ≡ reelIn im slot'
+-- some nodes go, by their ways; the others, and their reels, are as they were
+pub record Drops (im im' : List ℕ) (Gone : (slot : ℕ) → List ℕ → (n : ℕ) → Type 0) : Type 0 where
+  pub ways : {slot n : ℕ} {w : List ℕ} → ReachesIn im' slot w n ↔ (ReachesIn im slot w n × (Gone slot w n → ⊥))
+  pub sizes : {slot n : ℕ} {w : List ℕ} → ReachesIn im' slot w n → sizeIn im' n ≡ sizeIn im n
+  pub reels : {slot n : ℕ} {w : List ℕ} → ReachesIn im' slot w n → reelIn im' slot ≡ reelIn im slot
 
 -- ---- what an answered operation does
 
@@ -82,14 +83,29 @@ pub data ClaimGrows (im im' : List ℕ) (slot f : ℕ) : Type 0 where
       → Doubles im im' n → ClaimGrows im im' slot f
   -- none is, and the path ends at level d in a node of size 64: this gets fanout d children, the lowest run that no slot reached
   branches-out : {d start : ℕ} → FullPath (shapeIn im) (reads im) slot f d → LowestRun (shapeIn im) (reads im) (fanout d) start
-      → Adds im im' 64 (NewChild slot (wayOf d f) start) → ClaimGrows im im' slot f
+      → Adds im im' 64 (InGroup slot (wayOf d f) start) → ClaimGrows im im' slot f
 
--- by the operation: nodes come with Open and with a claim that finds no clear place, and go with Format and Retire, whole reels
+-- Retire: all nodes of a slot go
+abbrev pub RetireDrops : (im im' : List ℕ) (reel : ℕ) → Type 0
+RetireDrops im im' reel = (slot : ℕ) × SlotHas (shapeIn im) (reads im) reel slot × Drops im im' (λ slot' w n. slot' ≡ slot)
+
+-- Tidy: the children of one node go, all of them: the first empty group of the reel's slot, in the order of List
+pub record TidyDrops (im im' : List ℕ) (reel : ℕ) : Type 0 where
+  pub slot : ℕ
+  pub of-reel : SlotHas (shapeIn im) (reads im) reel slot
+  pub way : List ℕ
+  pub node : ℕ
+  pub first : FirstGroup (shapeIn im) (reads im) slot way node
+  pub drops : Drops im im' (InGroup slot way (reads im (nextAt (shapeIn im) node) - 1))
+
+-- by the operation: nodes come with Open and with a claim that finds no clear place; they go with Format and Retire, whole reels,
+-- and with Tidy, one empty group
 abbrev pub Grows : Operation → (im im' : List ℕ) → Type 0
 Grows (format words table slots nodes) im im' = (n : ℕ) → Reached (shapeIn im') (reads im') n → ⊥
 Grows (openReel words script reel) im im' = OpenGrows im im' reel
 Grows (claim words script h reel f) im im' = (slot : ℕ) × SlotHas (shapeIn im) (reads im) reel slot × ClaimGrows im im' slot f
-Grows (retire words scratch script reel) im im' = (slot : ℕ) × SlotHas (shapeIn im) (reads im) reel slot × Drops im im' slot
+Grows (retire words scratch script reel) im im' = RetireDrops im im' reel
+Grows (tidy words scratch script reel) im im' = TidyDrops im im' reel
 Grows (recover words) im im' = SameNodes im im'
 Grows (fill script h) im im' = SameNodes im im'
 Grows (commit script h) im im' = SameNodes im im'

@@ -19,7 +19,7 @@ carriedOut w = record { image = apply (w .after .image) (segmented (w .script));
 abbrev pub done : Operation → State → State
 done op s = carriedOut (perform op s .work)
 
--- the table's reply, fed whether the book's answer is 8 or 13
+-- the table's reply, fed whether the book's answer is 8, 13 or 18
 abbrev pub replied : Operation → State → Table → Reply
 replied op s t = reply op (fed (perform op s .answer)) t
 

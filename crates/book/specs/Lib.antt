@@ -16,6 +16,7 @@ pub mod Demands
 pub mod Growth
 pub mod Stores
 pub mod PathNodes
+pub mod Tidy
 pub mod Starred
 pub mod Witnesses
 pub mod Fixed

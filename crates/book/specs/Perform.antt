@@ -2,7 +2,7 @@
 use mathlib.Core.Bool.{Bool, true, false, cond, _&&_, _||_}
 use mathlib.Core.Option.{Option, none, some}
 use mathlib.Core.List.{List, [], _∷_, _++_, map, flatMap}
-use Prim.Native.Nat.{ℕ, suc, _+_, _*_, _%_}
+use Prim.Native.Nat.{ℕ, suc, _+_, _-_, _*_, _%_}
 use lib.ListN.{length}
 use lib.Dec.{eqb, ltb}
 use Rattle.tree.specs.Memory.{Memory, reads, withBit, withoutBit, withByte, Store, stores, apply, isSome}
@@ -14,7 +14,8 @@ use Rattle.tree.specs.Fingerprint.{Rule, fingerprint, ruleOf, isGiven, packed}
 use Rattle.tree.specs.Slots.{slotOf, emptySlot}
 use Rattle.tree.specs.declared.path.Spot.{Spot}
 use Rattle.tree.specs.Lookup.{spot, pathFrom, find, freeRun}
-use Rattle.tree.specs.Subtree.{tree, allTrees, nodesOf, listing}
+use Rattle.tree.specs.Subtree.{Visit, visit, tree, allTrees, nodesOf, listing}
+use Rattle.tree.specs.Groups.{firstGroup}
 use Rattle.tree.specs.Recovery.{recoverStores}
 use Rattle.tree.specs.Convert.{convertedImage}
 use Rattle.tree.specs.Pool.{mark, markAll, unmarkAll, clearMap, mapOf}
@@ -26,7 +27,7 @@ use Rattle.book.specs.Refusals.{refusal}
 use Rattle.tree.specs.declared.path.Room.{Room}
 use Rattle.tree.specs.declared.path.Room.the-variants.{Clear, ScaleUp, BranchOut}
 use Rattle.tree.specs.Room.{roomOn, needs, placesLeft}
-use Rattle.book.specs.State.{State, Operation, format, recover, openReel, claim, fill, commit, abandon, remove, retire, query, Query, has, list, convert, Handed, handing, handingFrames, handingCopy, nothingHanded, Work, leaving, Outcome}
+use Rattle.book.specs.State.{State, Operation, format, recover, openReel, claim, fill, commit, abandon, remove, retire, tidy, query, Query, has, list, convert, Handed, handing, handingFrames, handingCopy, nothingHanded, Work, leaving, Outcome}
 use Rattle.book.specs.Checks.{placeIn, targetIn, refusals}
 
 -- ---- what is written
@@ -57,7 +58,7 @@ newNode g n level size = (nextAt g n, 0) ∷ (locateAt g n, 0) ∷ (setAt g n, 0
 unfoldable pub openScript : Geometry → (slot node reel : ℕ) → List (List Store)
 openScript g slot n reel = (newNode g n 0 16 ++ ((reelAt slot, reel) ∷ [])) ∷ ((rootAt slot, n + 1) ∷ []) ∷ []
 
--- the nodes of a new group of children
+-- the nodes of a group of children
 abbrev pub group : (start depth : ℕ) → List ℕ
 group start d = range start (fanout d)
 
@@ -107,6 +108,19 @@ removeScript g m t = bitOff m (setAt g (t .node)) (t .place) ∷ bitOff m (locat
 abbrev pub foundSpot : Option Spot → Spot
 foundSpot none = spot 0 0
 foundSpot (some t) = t
+
+-- Tidy: 0 to next of the node whose children go
+unfoldable pub tidyScript : Geometry → (node : ℕ) → List (List Store)
+tidyScript g n = ((nextAt g n, 0) ∷ []) ∷ []
+
+-- the node that Tidy's search found; any value where it found none: Tidy is refused 18 before it is used
+abbrev pub foundVisit : Option Visit → Visit
+foundVisit none = visit [] 0
+foundVisit (some v) = v
+
+-- a node's children, where it has any
+abbrev pub childrenOf : Geometry → Memory → Visit → List ℕ
+childrenOf g m v = group (m (nextAt g (v .node)) - 1) (length (v .way))
 
 abbrev pub oneIf : Bool → ℕ
 oneIf b = cond b 1 0
@@ -175,6 +189,10 @@ granted op s =
           let slot = slotOf g m reel in
           writing (((rootAt slot, 0) ∷ []) ∷ [])
           (record { image = s .image; pool = unmarkAll (s .pool) (nodesOf (tree g m slot)); heads = s .heads })
+      | tidy words scratch script reel ↦
+          let v = foundVisit (firstGroup g m (slotOf g m reel)) in
+          writing (tidyScript g (v .node))
+          (record { image = s .image; pool = unmarkAll (s .pool) (childrenOf g m v); heads = s .heads })
       | query q ↦ record { script = []; handed = queried q (s .image); after = s }
     ]
 
@@ -191,6 +209,7 @@ leaves (commit script h) s n = s
 leaves (abandon script h) s n = s
 leaves (remove script reel f) s n = s
 leaves (retire words scratch script reel) s n = s
+leaves (tidy words scratch script reel) s n = s
 leaves (query q) s n = s
 
 -- an end that is none of 1, 2 and 3
@@ -202,10 +221,11 @@ borrowsScratch (has reel f) = false
 borrowsScratch (list scratch room reel) = true
 borrowsScratch (convert scratch copy) = true
 
--- List's, Retire's and Convert's scratch map is all 0 after any end but 1, 2 or 3
+-- List's, Retire's, Tidy's and Convert's scratch map is all 0 after any end but 1, 2 or 3
 unfoldable pub clears : Operation → ℕ → Bool
 clears (query q) n = borrowsScratch q && pastChecks n
 clears (retire words scratch script reel) n = pastChecks n
+clears (tidy words scratch script reel) n = pastChecks n
 clears (format words table slots nodes) n = false
 clears (recover words) n = false
 clears (openReel words script reel) n = false
@@ -229,6 +249,7 @@ leftBy (commit script h) s = 0
 leftBy (abandon script h) s = 0
 leftBy (remove script reel f) s = 0
 leftBy (retire words scratch script reel) s = 0
+leftBy (tidy words scratch script reel) s = 0
 leftBy (query q) s = 0
 
 unfoldable pub perform : Operation → State → Outcome

@@ -40,6 +40,7 @@ pub data Operation : Type 0 where
   abandon : (script : ℕ) (head : ℕ) → Operation
   remove : (script : ℕ) (reel frame : ℕ) → Operation
   retire : (map scratch script : ℕ) (reel : ℕ) → Operation
+  tidy : (map scratch script : ℕ) (reel : ℕ) → Operation
   query : Query → Operation
 
 -- an operation's numbers, without the lengths
@@ -58,6 +59,7 @@ arguments (commit script head) = head ∷ []
 arguments (abandon script head) = head ∷ []
 arguments (remove script reel frame) = reel ∷ frame ∷ []
 arguments (retire map scratch script reel) = reel ∷ []
+arguments (tidy map scratch script reel) = reel ∷ []
 arguments (query q) = queryArguments q
 
 -- what an operation hands back beside its script: Has's yes or no, List's count; the number of nodes on the path of Has's frame;

@@ -5,12 +5,15 @@ use mathlib.Core.Bool.{true, false}
 use mathlib.Core.Logic.{_⊎_, _↔_, _≢_}
 use mathlib.Core.List.{List, [], _∷_, flatMap}
 use Prim.Native.Nat.{ℕ, suc, _+_, _*_, _%_, _≤_, _<_}
+use lib.ListN.{length}
 use Rattle.tree.specs.Memory.{Memory, reads, isSet, byte, Store}
 use Rattle.tree.specs.declared.layout.Geometry.{Geometry}
 use Rattle.tree.specs.Layout.{rootAt, nextAt, locateAt, setAt, sizeAt, fingerprintsAt, frameAt}
 use Rattle.tree.specs.Path.{fanout, child, wayOf}
 use Rattle.tree.specs.Fingerprint.{Rule, fingerprint, ruleOf}
+use Rattle.tree.specs.Node.{childOf}
 use Rattle.tree.specs.Reach.{Reaches}
+use Rattle.tree.specs.Groups.{FirstGroup}
 use Rattle.tree.specs.Laws.{FreeRun}
 use Rattle.tree.specs.Pool.{used}
 use Rattle.book.specs.declared.Target.{Target}
@@ -107,8 +110,21 @@ module _ (op : Operation) (s : State) where
     pub slot : ℕ
     pub of-reel : ReelAt (shape s) (memory s) reel slot
     pub stores : script ≡ ((rootAt slot, 0) ∷ []) ∷ []
+    pub map-words : length (perform op s .work .after .pool) ≡ length (s .pool)
     pub frees : (n : ℕ) → (used (perform op s .work .after .pool) n ≡ true)
         ↔ ((used (s .pool) n ≡ true) × ((w : List ℕ) → Reaches (shape s) (memory s) slot w n → ⊥))
+
+  -- Tidy: next 0 of the first node, in the order of List, whose children are all empty, barrier; the children become free
+  pub record TidyStores (reel : ℕ) : Type 0 where
+    pub slot : ℕ
+    pub of-reel : ReelAt (shape s) (memory s) reel slot
+    pub way : List ℕ
+    pub node : ℕ
+    pub first : FirstGroup (shape s) (memory s) slot way node
+    pub stores : script ≡ ((nextAt (shape s) node, 0) ∷ []) ∷ []
+    pub map-words : length (perform op s .work .after .pool) ≡ length (s .pool)
+    pub frees : (n : ℕ) → (used (perform op s .work .after .pool) n ≡ true)
+        ↔ ((used (s .pool) n ≡ true) × ((c : ℕ) → c < fanout (length way) → n ≢ childOf (shape s) (memory s) node c))
 
   -- Claim's room in a slot, by the nodes free in the map: its script, and the place that it takes
   pub data ClaimStores (slot f : ℕ) : List (List Store) → (node place : ℕ) → Type 0 where

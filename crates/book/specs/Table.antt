@@ -1,5 +1,5 @@
 -- The plain table: reels, each with a set of frames, and what each head is about. It is fed the arguments, the lengths, and
--- of the book's answer whether it is 8 or 13.
+-- of the book's answer whether it is 8, 13 or 18.
 use mathlib.Core.Bool.{Bool, true, false, cond, not, _&&_}
 use mathlib.Core.Option.{Option, none, some}
 use mathlib.Core.List.{List, [], _∷_, map}
@@ -14,7 +14,7 @@ use Rattle.tree.specs.Layout.{badImage, imageWords}
 use Rattle.tree.specs.Fingerprint.{isGiven, badGiven}
 use Rattle.book.specs.Heads.{headCount}
 use Rattle.book.specs.Refusals.{Refusal, _gives_, refusal}
-use Rattle.book.specs.State.{Operation, format, recover, openReel, claim, fill, commit, abandon, remove, retire, query, Query, has, list, convert, Handed, nothingHanded, handing, handingFrames}
+use Rattle.book.specs.State.{Operation, format, recover, openReel, claim, fill, commit, abandon, remove, retire, tidy, query, Query, has, list, convert, Handed, nothingHanded, handing, handingFrames}
 use Rattle.book.specs.Checks.{badMap, badScript}
 
 -- per head idle, or claimed or filled with reel and frame
@@ -35,22 +35,31 @@ pub record Table : Type 0 where
   pub reels : List Reel
   pub heads : List TableHead
 
--- what the table is fed of the book's answer: that it found no run of nodes, or a 13, which Claim takes for the node; else nothing
+-- what the table is fed of the book's answer: that it found no run of nodes, or a 13, which Claim takes for the node, or that it found
+-- no empty group; else nothing
 pub data Fed : Type 0 where
-  nothing noRun sameNode : Fed
+  nothing noRun sameNode noGroup : Fed
 
 abbrev pub fed : ℕ → Fed
-fed answer = cond (eqb answer 8) noRun (cond (eqb answer 13) sameNode nothing)
+fed answer = cond (eqb answer 8) noRun (cond (eqb answer 13) sameNode (cond (eqb answer 18) noGroup nothing))
 
 abbrev pub isNoRun : Fed → Bool
 isNoRun nothing = false
 isNoRun noRun = true
 isNoRun sameNode = false
+isNoRun noGroup = false
 
 abbrev pub isSameNode : Fed → Bool
 isSameNode nothing = false
 isSameNode noRun = false
 isSameNode sameNode = true
+isSameNode noGroup = false
+
+abbrev pub isNoGroup : Fed → Bool
+isNoGroup nothing = false
+isNoGroup noRun = false
+isNoGroup sameNode = false
+isNoGroup noGroup = true
 
 -- ---- reading the table
 
@@ -169,6 +178,12 @@ tableRefusals op fed t =
           ∷ (is (not (isPresent t reel)) gives 5)
           ∷ (is (isBusy t reel) gives 13)
           ∷ []
+      | tidy words scratch script reel ↦
+          (badMap g words or badMap g scratch or badScript script gives 3)
+          ∷ (is (not (isPresent t reel)) gives 5)
+          ∷ (is (isBusy t reel) gives 13)
+          ∷ (is (isNoGroup fed) gives 18)
+          ∷ []
       | query q ↦ tableQueryRefusals q t
     ]
 
@@ -228,6 +243,7 @@ tableWork (commit script h) t =
 tableWork (abandon script h) t = becoming (withTableHead t h idle)
 tableWork (remove script reel f) t = becoming (withReels t (changeFrames reel (without f) (t .reels)))
 tableWork (retire words scratch script reel) t = becoming (withReels t (keep (λ r. not (eqb (r .number) reel)) (t .reels)))
+tableWork (tidy words scratch script reel) t = becoming t
 tableWork (query q) t = record { handed = tableQueried q t; after = t }
 
 -- ---- any operation

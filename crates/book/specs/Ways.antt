@@ -12,9 +12,10 @@ use Rattle.tree.specs.Fingerprint.{Rule, fingerprint}
 use Rattle.tree.specs.Node.{held, frame, storedFingerprint}
 use Rattle.tree.specs.Slots.{Filled}
 use Rattle.tree.specs.Reach.{Reaches}
+use Rattle.tree.specs.Groups.{NoGroup}
 use Rattle.book.specs.declared.Target.{Target}
 use Rattle.book.specs.Heads.{headCount, headAt}
-use Rattle.book.specs.State.{State, Operation, openReel, claim, remove, retire, memory, shape}
+use Rattle.book.specs.State.{State, Operation, openReel, claim, remove, retire, tidy, memory, shape}
 use Rattle.book.specs.Agrees.{Reached, About}
 
 module _ (g : Geometry) (m : Memory) where
@@ -95,6 +96,11 @@ pub data Lacks (s : State) : Operation → Type 0 where
       → FullPath (shape s) (memory s) slot f d
       → ((a : ℕ) → UnreachedRun (shape s) (memory s) (fanout d) a → ⊥) → Lacks s (claim words script h reel f)
 
+-- Tidy needs an empty group, and the reel has none
+pub data LacksGroup (s : State) : Operation → Type 0 where
+  no-group : {words scratch script reel slot : ℕ} → SlotHas (shape s) (memory s) reel slot
+      → NoGroup (shape s) (memory s) slot → LacksGroup s (tidy words scratch script reel)
+
 -- the node that a claim would use, given which run of k nodes is the lowest free one; a claim that finds no run uses none. In
 -- histories no head is at a new child: there a branch-out conflicts by the frame alone
 pub data Uses (Lowest : (k start : ℕ) → Type 0) (g : Geometry) (m : Memory) (slot f : ℕ) : ℕ → Type 0 where
@@ -124,8 +130,10 @@ pub data InTheWay (s : State) : Operation → Type 0 where
       → x .target .frame ≡ f → InTheWay s (claim words script h reel f)
   same-node : {words script h reel f slot k : ℕ} → SlotHas (shape s) (memory s) reel slot → k ≢ h → (x : HeadNames s k slot)
       → UsesOf s slot f (x .target .node) → InTheWay s (claim words script h reel f)
-  -- in Remove and Retire any that names it
+  -- in Remove, Retire and Tidy any that names it
   of-remove : {script reel f slot k : ℕ} → SlotHas (shape s) (memory s) reel slot → HeadNames s k slot
       → InTheWay s (remove script reel f)
   of-retire : {words scratch script reel slot k : ℕ} → SlotHas (shape s) (memory s) reel slot → HeadNames s k slot
       → InTheWay s (retire words scratch script reel)
+  of-tidy : {words scratch script reel slot k : ℕ} → SlotHas (shape s) (memory s) reel slot → HeadNames s k slot
+      → InTheWay s (tidy words scratch script reel)

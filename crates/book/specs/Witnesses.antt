@@ -4,15 +4,16 @@ use mathlib.Core.Path.{_≡_}
 use mathlib.Core.Bool.{false}
 use mathlib.Core.Logic.{_⊎_}
 use mathlib.Core.Option.{Option, some}
-use mathlib.Core.List.{List, [], _∷_, map}
-use Prim.Native.Nat.{ℕ, _+_, _*_, _^_, _<_}
+use mathlib.Core.List.{List, [], _∷_, _++_, map}
+use Prim.Native.Nat.{ℕ, zero, suc, _+_, _-_, _*_, _^_, _<_}
 use lib.ListN.{length, take, set, replicate}
 use Rattle.tree.specs.Memory.{reads, Store, stores, segmented, apply, passed, Fit}
 use Rattle.tree.specs.Layout.{editionAt, reelAt, locateAt}
+use Rattle.tree.specs.Lists.{upTo}
 use Rattle.tree.specs.Slots.{emptySlot}
 use Rattle.book.specs.declared.HeadState.the-variants.{Claimed, Filled}
 use Rattle.book.specs.Heads.{headCount, headAt}
-use Rattle.book.specs.State.{State, Operation, format, recover, openReel, claim, fill, commit, query, has, convert, arguments, memory, shape}
+use Rattle.book.specs.State.{State, Operation, format, recover, openReel, claim, fill, commit, tidy, query, has, convert, arguments, memory, shape}
 use Rattle.book.specs.Perform.{perform}
 use Rattle.book.specs.Table.{Table, Reel, idle, claimed, filled, emptyTable, allIdle}
 use Rattle.book.specs.Agrees.{Agrees}
@@ -197,6 +198,79 @@ pub record ConvertedBook : Type 0 where
   -- with the old edition's fingerprint the copy is not sound
   pub old-print : perform (recover 1) (bookOf (cleanWords 2 144)) .answer ≡ 4
 
+-- ---- Tidy makes room
+
+-- an image of edition 2 with two slots and four nodes: reel 8 has frames 0 to 63 in its root, node 0; reel 7 has no frame, and below
+-- its root, node 1, an empty group, nodes 2 and 3
+abbrev pub groupWords : List Store
+groupWords =
+    (0, 2) ∷ (1, 2) ∷ (2, 4) ∷ (64, 8) ∷ (65, 1) ∷ (66, 7) ∷ (67, 2)
+    ∷ (69, 2 ^ 64 - 1) ∷ (70, 2 ^ 64 - 1) ∷ (72, 64)
+    ∷ (76, 7468908976493748512) ∷ (77, 8047630359198361896) ∷ (78, 8626351741902975280) ∷ (79, 9205073124607588664)
+    ∷ (80, 9783513032335425856) ∷ (81, 10362234415040039240) ∷ (82, 10940955797744652624) ∷ (83, 11519677180449266008)
+    ∷ (148, 3) ∷ (152, 64) ∷ (231, 1) ∷ (232, 64) ∷ (311, 1) ∷ (312, 64) ∷ []
+
+-- and the frames
+abbrev pub roomWords : List Store
+roomWords = groupWords ++ map (λ p. (84 + p, p)) (upTo 64)
+
+-- with a map and heads that mean nothing, and once it is recovered
+unfoldable pub roomBook : State
+roomBook = record { image = apply (replicate 388 0) (stores roomWords); pool = 9 ∷ []; heads = replicate 20 9 }
+
+abbrev pub fullBook : State
+fullBook = done (recover 1) roomBook
+
+abbrev pub tidyBook : State
+tidyBook = done (tidy 1 1 50 7) fullBook
+
+-- a claim of reel 8 lacks two nodes; Tidy of reel 7 gives them back, and the claim is answered. Reel 8 has no empty group, and
+-- then reel 7 has none left
+pub record TidyRoom : Type 0 where
+  pub recovers : perform (recover 1) roomBook .answer ≡ 0
+  pub history : Follows fullBook (tableOf (roomBook .image))
+  pub refused : perform (claim 1 50 0 8 64) fullBook .answer ≡ 8
+  pub none-there : perform (tidy 1 1 50 8) fullBook .answer ≡ 18
+  pub tidied : perform (tidy 1 1 50 7) fullBook .answer ≡ 0
+  pub script : perform (tidy 1 1 50 7) fullBook .work .script ≡ ((148, 0) ∷ []) ∷ []
+  pub map-before : fullBook .pool ≡ (2 ^ 0 + 2 ^ 1 + 2 ^ 2 + 2 ^ 3) ∷ []
+  pub map-after : tidyBook .pool ≡ (2 ^ 0 + 2 ^ 1) ∷ []
+  pub answered : perform (claim 1 50 0 8 64) tidyBook .answer ≡ 0
+  pub none-left : perform (tidy 1 1 50 7) tidyBook .answer ≡ 18
+
+-- ---- which group Tidy takes
+
+-- an image with one slot and seven nodes, reel 7's: its root, nodes 1 and 2, and below each of these an empty group, nodes 3 and 4
+-- and nodes 5 and 6; node 4 with a given locate word
+abbrev pub nestedWords : (locate : ℕ) → List Store
+nestedWords locate =
+    (0, 2) ∷ (1, 1) ∷ (2, 7) ∷ (64, 7) ∷ (65, 1) ∷ (66, 2) ∷ (70, 64)
+    ∷ (146, 4) ∷ (149, 1) ∷ (150, 64) ∷ (226, 6) ∷ (229, 1) ∷ (230, 64)
+    ∷ (309, 2) ∷ (310, 64) ∷ (387, locate) ∷ (389, 2) ∷ (390, 64) ∷ (469, 2) ∷ (470, 64) ∷ (549, 2) ∷ (550, 64) ∷ []
+
+unfoldable pub nested : (locate : ℕ) → State
+nested locate = record { image = apply (replicate 626 0) (stores (nestedWords locate)); pool = 127 ∷ []; heads = replicate 20 0 }
+
+-- the book after a number of them, and what the next stores
+abbrev pub tidiedTimes : ℕ → State → State
+tidiedTimes zero s = s
+tidiedTimes (suc k) s = tidiedTimes k (done (tidy 1 1 50 7) s)
+
+abbrev pub tidyStores : State → List (List Store)
+tidyStores s = perform (tidy 1 1 50 7) s .work .script
+
+pub record TidyOrder : Type 0 where
+  -- a group for each Tidy: that below node 1, that below node 2, then the root's, which has become one; then none is left
+  pub first : tidyStores (nested 0) ≡ ((146, 0) ∷ []) ∷ []
+  pub second : tidyStores (tidiedTimes 1 (nested 0)) ≡ ((226, 0) ∷ []) ∷ []
+  pub third : tidyStores (tidiedTimes 2 (nested 0)) ≡ ((66, 0) ∷ []) ∷ []
+  pub map : tidiedTimes 3 (nested 0) .pool ≡ 1 ∷ []
+  pub none-left : perform (tidy 1 1 50 7) (tidiedTimes 3 (nested 0)) .answer ≡ 18
+  -- with a place of node 4 located, the group below node 1 is not empty, nor is the root's; a recovery clears the place
+  pub located : tidyStores (nested 1) ≡ ((226, 0) ∷ []) ∷ []
+  pub located-left : perform (tidy 1 1 50 7) (tidiedTimes 1 (nested 1)) .answer ≡ 18
+  pub recovered : tidyStores (done (recover 1) (nested 1)) ≡ ((146, 0) ∷ []) ∷ []
+
 -- ---- Format in mid-history
 
 -- a format to another geometry of the same image length, 226 words
@@ -208,7 +282,7 @@ pub record OtherGeometry : Type 0 where
   -- and the history goes on with the table of that geometry
   pub table : replied (format 1 [] 1 2) (formatted 41 1) (emptyTable false 41 1) .work .after ≡ emptyTable false 1 2
 
--- ---- all of them but TwoInTree and CutClaim, whose 64 inserts are computed in the crate `starred`
+-- ---- all of them but TwoInTree, CutClaim, TidyRoom and TidyOrder, which are computed in the crate `starred`
 
 pub record Witnesses : Type 0 where
   -- an answered commit may be cut before and after, in every history

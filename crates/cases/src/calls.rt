@@ -9,6 +9,7 @@ use crate::command::OPEN;
 use crate::command::RECOVER;
 use crate::command::REMOVE;
 use crate::command::RETIRE;
+use crate::command::TIDY;
 use crate::lent::TABLE_WORDS;
 use crate::lent::least;
 use crate::print;
@@ -25,6 +26,7 @@ use reelbook::reelbook_open;
 use reelbook::reelbook_recover;
 use reelbook::reelbook_remove;
 use reelbook::reelbook_retire;
+use reelbook::reelbook_tidy;
 
 // What stands where a count is handed back, or the places left or the number of nodes on a path are, before they are.
 pub const NO_COUNT: u64 = 999;
@@ -106,6 +108,7 @@ pub fn call_scripted(
         CLAIM => reelbook_claim(image, map, heads, script, a, b, c, used, left),
         REMOVE => reelbook_remove(image, heads, script, a, b, used),
         RETIRE => reelbook_retire(image, map, heads, scratch, script, a, used),
+        TIDY => reelbook_tidy(image, map, heads, scratch, script, a, used),
         _ => call_head(name, image, heads, script, a, used),
     }
 }

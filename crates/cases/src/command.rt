@@ -27,36 +27,38 @@ pub const REMOVE: u64 = 8;
 
 pub const RETIRE: u64 = 9;
 
-pub const ADD: u64 = 10;
+pub const TIDY: u64 = 10;
 
-pub const HAS: u64 = 11;
+pub const ADD: u64 = 11;
 
-pub const LIST: u64 = 12;
+pub const HAS: u64 = 12;
 
-pub const CONVERT: u64 = 13;
+pub const LIST: u64 = 13;
 
-pub const CRASH: u64 = 14;
+pub const CONVERT: u64 = 14;
 
-pub const SWAP: u64 = 15;
+pub const CRASH: u64 = 15;
 
-pub const PUT: u64 = 16;
+pub const SWAP: u64 = 16;
 
-pub const ALL: u64 = 17;
+pub const PUT: u64 = 17;
 
-pub const RAMP: u64 = 18;
+pub const ALL: u64 = 18;
 
-pub const SHOW: u64 = 19;
+pub const RAMP: u64 = 19;
 
-pub const LEND: u64 = 20;
+pub const SHOW: u64 = 20;
 
-pub const HOLD: u64 = 21;
+pub const LEND: u64 = 21;
 
-pub const CARRY: u64 = 22;
+pub const HOLD: u64 = 22;
+
+pub const CARRY: u64 = 23;
 
 // An empty line or one that starts with #; and one that cannot be read.
-pub const HEADING: u64 = 23;
+pub const HEADING: u64 = 24;
 
-pub const UNKNOWN: u64 = 24;
+pub const UNKNOWN: u64 = 25;
 
 // A command's number, how many values stand behind it, and the values.
 pub struct Command {
@@ -108,7 +110,7 @@ fn name_of(line: &[u8], count: usize) -> u64 {
 fn named(word: &[u8]) -> u64 {
     let operation = index_of(
         word,
-        b"format recover apply open claim fill commit abandon remove retire add has list convert",
+        b"format recover apply open claim fill commit abandon remove retire tidy add has list convert",
     );
     if operation < CRASH {
         return operation;
@@ -123,7 +125,7 @@ fn named(word: &[u8]) -> u64 {
 fn takes(name: u64, count: usize) -> bool {
     match name {
         RECOVER | APPLY | CONVERT | SWAP | HOLD | CARRY => count == 0,
-        OPEN | FILL | COMMIT | ABANDON | RETIRE | LIST => count == 1,
+        OPEN | FILL | COMMIT | ABANDON | RETIRE | TIDY | LIST => count == 1,
         FORMAT | REMOVE | HAS | ALL | LEND => count == 2,
         CLAIM | CRASH | SHOW => count == 3,
         ADD => count == 4,

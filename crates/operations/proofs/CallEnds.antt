@@ -18,14 +18,14 @@ use Rattle.tree.proofs.Memory.{script-laws, segment-laws}
 use Rattle.tree.proofs.Cases.{test, not-false}
 use Rattle.tree.proofs.Laws.{pool-laws}
 use Rattle.book.specs.Refusals.{refusal}
-use Rattle.book.specs.State.{State, Operation, format, recover, openReel, claim, fill, commit, abandon, remove, retire, query, has, list, convert, Work, scratchAfter, copyAfter}
+use Rattle.book.specs.State.{State, Operation, format, recover, openReel, claim, fill, commit, abandon, remove, retire, tidy, query, has, list, convert, Work, scratchAfter, copyAfter}
 use Rattle.book.specs.Checks.{refusals}
 use Rattle.book.specs.Perform.{granted, leaves, clears, leftBy, perform}
 use Rattle.book.specs.Demands.{Leaves, as-before, map-cleared}
 use Rattle.book.proofs.Demands.{demand1, scripts}
 use Rattle.book.proofs.Performed.{answer-is, work-granted, work-refused}
 use Rattle.operations.specs.Ends.{Buffers, state, Ends, ended, found, ends}
-use Rattle.operations.specs.Chain.{Counted, nothing, script-words, number-alone, frames, counted, wordsIn, framesIn, valueIn, Answered, Refused, OtherMap, by-format, by-recover, by-open, by-claim, by-retire, Cleared, Clears, Unread, Fits}
+use Rattle.operations.specs.Chain.{Counted, nothing, script-words, number-alone, frames, counted, wordsIn, framesIn, valueIn, Answered, Refused, OtherMap, by-format, by-recover, by-open, by-claim, by-retire, by-tidy, Cleared, Clears, Unread, Fits}
 use Rattle.operations.proofs.Endings.{refused as ends-refused, done as ends-done}
 
 -- ---- what is handed back
@@ -66,6 +66,7 @@ granted-over (query (has reel f)) s b = (no-words, refl, refl)
 granted-over (query (list scratch room reel)) s b = (no-words, refl, take-append-seam _ _)
 granted-over (query (convert scratch copy)) s b = (no-words, refl, refl)
 granted-over (retire words scratch script reel) s b = (script-laws .take-written _ _, refl, refl)
+granted-over (tidy words scratch script reel) s b = (script-laws .take-written _ _, refl, refl)
 
 -- and nothing where the count is 0
 pub nothing-over : (k : Counted) (e : Ends) → e .count ≡ 0 → (wordsIn k e ≡ []) × (valueIn k e ≡ 0) × (framesIn k e ≡ [])
@@ -199,6 +200,7 @@ early {image} (by-recover {words} d) heads = checks-only image (λ pool. rw (ne-
 early {image} (by-open {words} d) heads = checks-only image (λ pool. rw (ne-eqb words _ d) refl)
 early {image} (by-claim {words} d) heads = checks-only image (λ pool. rw (ne-eqb words _ d) refl)
 early {image} (by-retire {words} d) heads = checks-only image (λ pool. rw (ne-eqb words _ d) refl)
+early {image} (by-tidy {words} d) heads = checks-only image (λ pool. rw (ne-eqb words _ d) refl)
 
 -- with such a number everything is left
 stays : {s : State} {op : Operation} {n : ℕ} {s' : State} → Leaves s op n s' → n ≤ 3 → s' ≡ s

@@ -24,7 +24,7 @@ use Rattle.book.specs.Conversions.{Writes, written}
 use Rattle.book.specs.PathNodes.{OpensReel, StaysSmall, Small}
 use Rattle.book.specs.Histories.{carriedOut, done, replied, Steady, answered-format, Interrupted, Attempts, Recovered, Follows, found, started, performed, before, after}
 use Rattle.book.specs.Histories.{none-yet as no-attempt, refused as refused-attempt, interrupted as interrupted-attempt}
-use Rattle.book.proofs.Demands.{demand1, demand2, demand3, placed, growth, path-nodes, conversions}
+use Rattle.book.proofs.Demands.{demand1, demand2, demand3, placed, growth, tidying, path-nodes, conversions}
 use Rattle.book.proofs.Performed.{work-granted}
 use Rattle.book.proofs.Done.{refused-image}
 use Rattle.book.proofs.Recovery.{recover-writes}
@@ -177,6 +177,7 @@ stands s t d = let f = follows d in record {
   alike = λ op fit. demand2 .alike s t f op fit;
   places = placed s t f;
   growing = growth s t f;
+  tidies = tidying s t f;
   survives = λ op b e fit call k m c. survives f fit call c;
 }
 

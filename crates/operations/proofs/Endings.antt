@@ -8,7 +8,7 @@ use Rattle.tree.specs.Memory.{Store, segmented, written}
 use Rattle.tree.specs.Subtree.{listed}
 use Rattle.tree.proofs.Memory.{segment-laws}
 use Rattle.book.specs.Refusals.{refusal}
-use Rattle.book.specs.State.{State, Operation, format, recover, openReel, claim, fill, commit, abandon, remove, retire, query, leaving, Outcome, scratchAfter, copyAfter}
+use Rattle.book.specs.State.{State, Operation, format, recover, openReel, claim, fill, commit, abandon, remove, retire, tidy, query, leaving, Outcome, scratchAfter, copyAfter}
 use Rattle.book.specs.Checks.{refusals}
 use Rattle.book.specs.Perform.{granted, leaves, clears, leftBy, perform}
 use Rattle.operations.specs.Ends.{Buffers, allBuffers, endedTelling, ended, countIn, found, ends}
@@ -25,6 +25,7 @@ none-handed (commit script h) s = sym (words-of [])
 none-handed (abandon script h) s = sym (words-of [])
 none-handed (remove script reel f) s = sym (words-of [])
 none-handed (retire map scratch script reel) s = sym (words-of [])
+none-handed (tidy map scratch script reel) s = sym (words-of [])
 none-handed (query q) s = refl
 
 -- where there is no script its buffer stays

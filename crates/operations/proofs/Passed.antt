@@ -60,6 +60,7 @@ number-some enum.Busy = omega arith
 number-some enum.ListShort = omega arith
 number-some enum.GivenTable = omega arith
 number-some enum.OwnTable = omega arith
+number-some enum.NoGroup = omega arith
 
 -- the checks go by what a test computes
 pub same-checks : (image : List ℕ) (bad bad' : Test) (rest : List Refusal) → holds bad ≡ holds bad'

@@ -11,7 +11,7 @@ use lib.Dec.{eqb}
 use Rattle.tree.specs.Memory.{reads, segmented, decode, Fit}
 use Rattle.tree.specs.Layout.{mapWords, geometryOf}
 use Rattle.tree.specs.Fingerprint.{isGiven}
-use Rattle.book.specs.State.{State, Operation, format, recover, openReel, claim, fill, commit, abandon, remove, retire, query, Query, has, list, convert, arguments}
+use Rattle.book.specs.State.{State, Operation, format, recover, openReel, claim, fill, commit, abandon, remove, retire, tidy, query, Query, has, list, convert, arguments}
 use Rattle.book.specs.Perform.{perform}
 use Rattle.book.specs.CarryOut.{carry, carried}
 use Rattle.book.specs.Table.{Table, emptyTable}
@@ -42,6 +42,7 @@ counted (commit script h) = script-words
 counted (abandon script h) = script-words
 counted (remove script reel f) = script-words
 counted (retire words scratch script reel) = script-words
+counted (tidy words scratch script reel) = script-words
 counted (query q) = queryCounted q
 
 -- the script's words
@@ -113,6 +114,7 @@ pub data OtherMap (image : List ℕ) : Operation → Type 0 where
   by-open : {words script reel : ℕ} → words ≢ mapWords (geometryOf (reads image)) → OtherMap image (openReel words script reel)
   by-claim : {words script h reel f : ℕ} → words ≢ mapWords (geometryOf (reads image)) → OtherMap image (claim words script h reel f)
   by-retire : {words scratch script reel : ℕ} → words ≢ mapWords (geometryOf (reads image)) → OtherMap image (retire words scratch script reel)
+  by-tidy : {words scratch script reel : ℕ} → words ≢ mapWords (geometryOf (reads image)) → OtherMap image (tidy words scratch script reel)
 
 -- it is refused with the same number whatever the map has, and leaves everything: so the book's own map may stand in the contract for the one lent
 pub record Unread (op : Operation) (image heads : List ℕ) (b : Buffers) (e : Ends) : Type 0 where

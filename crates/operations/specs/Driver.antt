@@ -4,7 +4,7 @@ use mathlib.Core.Path.{_≡_}
 use mathlib.Core.Bool.{true, cond}
 use mathlib.Core.Logic.{_⊎_, _≢_}
 use mathlib.Core.Option.{some}
-use mathlib.Core.List.{List}
+use mathlib.Core.List.{List, [], _∷_}
 use Prim.Native.Nat.{ℕ, _≤_}
 use lib.ListN.{length}
 use lib.Dec.{eqb}
@@ -18,6 +18,7 @@ use Rattle.book.specs.Held.{tableOf}
 use Rattle.book.specs.Histories.{replied, Steady, Interrupted, Attempts, Recovered, Follows}
 use Rattle.book.specs.Demands.{Alike, Places}
 use Rattle.book.specs.Growth.{Growing}
+use Rattle.book.specs.Tidy.{Tidies}
 use Rattle.book.specs.PathNodes.{inUse, OpensReel, StaysSmall}
 use Rattle.operations.specs.Ends.{Buffers, noBuffers, state, Ends, ends}
 use Rattle.operations.specs.Chain.{counted, wordsIn, next, Fits, Called, afterCall, GoesOn}
@@ -108,11 +109,12 @@ pub record Stands (s : State) (t : Table) : Type 0 where
   pub agrees : Agrees s t
   -- whatever it calls next, it is told what the table replies
   pub goes-on : (op : Operation) (b : Buffers) (e : Ends) → Fits op s → (c : Called op s b e) → GoesOn op s t e (afterCall c)
-  -- book and table answer every operation alike, an 8 exactly where nodes lack, a 13 exactly where a head is in the way; frames
-  -- sit where the tree's rule puts them; and nodes come and go by that rule
+  -- book and table answer every operation alike, an 8 exactly where nodes lack, an 18 exactly where no group is empty, a 13 exactly
+  -- where a head is in the way; frames sit where the tree's rule puts them; nodes come and go by that rule; and Tidy keeps its promises
   pub alike : (op : Operation) → Fit (arguments op) → Alike op s t
   pub places : Places s
   pub growing : Growing s
+  pub tidies : (words scratch script reel : ℕ) → Fit (reel ∷ []) → Tidies words scratch script reel s t
   -- and if it loses power in that, anywhere, recover comes to answer 0
   pub survives : (op : Operation) (b : Buffers) (e : Ends) → Fits op s → Called op s b e → (k : ℕ) (m : List ℕ) (c : CutShort op s e k m)
       → Survives op s t e k m c

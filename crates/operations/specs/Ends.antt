@@ -5,7 +5,7 @@ use Prim.Native.Nat.{ℕ, _*_}
 use lib.ListN.{length}
 use Rattle.tree.specs.Memory.{segmented, written}
 use Rattle.tree.specs.Subtree.{listed}
-use Rattle.book.specs.State.{State, Operation, format, recover, openReel, claim, fill, commit, abandon, remove, retire, query, Work, Outcome, scratchAfter, copyAfter}
+use Rattle.book.specs.State.{State, Operation, format, recover, openReel, claim, fill, commit, abandon, remove, retire, tidy, query, Work, Outcome, scratchAfter, copyAfter}
 use Rattle.book.specs.Perform.{perform}
 
 -- what an operation may borrow beside the state; the copy is Convert's second image
@@ -64,6 +64,7 @@ countIn (commit script h) w = 2 * length (segmented (w .script))
 countIn (abandon script h) w = 2 * length (segmented (w .script))
 countIn (remove script reel f) w = 2 * length (segmented (w .script))
 countIn (retire map scratch script reel) w = 2 * length (segmented (w .script))
+countIn (tidy map scratch script reel) w = 2 * length (segmented (w .script))
 
 -- an outcome, as the driver finds it: the script written at its buffer's start, the frames at the list's
 unfoldable pub found : Operation → Outcome → Buffers → Ends

@@ -19,6 +19,7 @@ pub enum Refusal {
     ListShort,
     GivenTable,
     OwnTable,
+    NoGroup,
 }
 
 // Done, with the count that is handed back (the script's words, Has's yes or no, List's frames), or refused.

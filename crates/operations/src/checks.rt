@@ -71,7 +71,8 @@ pub fn checks(image: &[u64], map: Buffer, scratch: Buffer, script: Buffer) -> Ve
     Verdict::Passed(g)
 }
 
-// What a refusal of the checks leaves of a map that a 4 clears: the scratch map of List, Retire and Convert, Recover's pool map.
+// What a refusal of the checks leaves of a map that a 4 clears: the scratch map of List, Retire, Tidy and Convert, and
+// Recover's pool map.
 pub fn clear_on_4(map: &mut [u64], why: Refusal)
     ensures { λ _. ⌜
         now (map .exit)

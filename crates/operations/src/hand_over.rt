@@ -32,6 +32,7 @@ pub fn number(why: Refusal) -> u64
         Refusal::ListShort => 14,
         Refusal::GivenTable => 16,
         Refusal::OwnTable => 17,
+        Refusal::NoGroup => 18,
     }
 }
 

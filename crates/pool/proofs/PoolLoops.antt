@@ -1,8 +1,8 @@
--- What the loops over the pool map ask: marks made in turn, runs found and passed over, used nodes found.
+-- What the loops over the pool map ask: marks made or taken away in turn, runs found and passed over, used nodes found.
 use mathlib.Core.Path.{_≡_, refl, sym, ap, _∙_}
 use mathlib.Core.Bool.{true, false}
 use mathlib.Core.Logic.{inl, inr, _≢_}
-use mathlib.Core.List.{List}
+use mathlib.Core.List.{List, [], _∷_}
 use Prim.Native.Nat.{ℕ, zero, suc, _+_, _-_, _*_, _/_, _%_, _^_, _≤_, _<_}
 use native.Mathlib.Omega.{arith}
 use native.Mathlib.Decide.{decLt}
@@ -16,27 +16,43 @@ use Rattle.memory.proofs.Laws.{no-bit, trailing-first, lowest-in, lowest-set, f
 use Rattle.tree.specs.declared.layout.Geometry.{Geometry}
 use Rattle.tree.specs.Lists.{range}
 use Rattle.tree.specs.Lookup.{isFreeRun, freeRun}
-use Rattle.tree.specs.Pool.{used, nextUsed, mark, markAll}
+use Rattle.tree.specs.Pool.{used, nextUsed, mark, unmark, markAll, unmarkAll}
 use Rattle.tree.specs.PoolLaws.{NoneUsed}
 use Rattle.tree.proofs.Cases.{test, true-not-false, not-false}
 use Rattle.tree.proofs.Pool.{pool-laws}
 use Rattle.tree.proofs.Runs.{run-laws}
 use Rattle.tree.proofs.Bits.{highOf, high-kept, low-cleared}
 
--- ---- marks
+-- ---- nodes of a run marked or freed in turn
 
--- of a run: none yet, and one more
-mark-suc : (pool : List ℕ) (start i : ℕ) → mark (markAll pool (range start i)) (start + i) ≡ markAll pool (range start (suc i))
-unfolding range markAll
-mark-suc pool start zero = ap (mark pool) (omega arith)
-mark-suc pool start (suc i) = ap (mark (markAll (mark pool start) (range (suc start) i))) (omega arith) ∙ mark-suc (mark pool start) (suc start) i
+-- `all` does to nodes in turn what `one` does to a node
+pub record InTurn (one : List ℕ → ℕ → List ℕ) (all : List ℕ → List ℕ → List ℕ) : Type 0 where
+  none : (pool : List ℕ) → all pool [] ≡ pool
+  onto : (pool : List ℕ) (n : ℕ) (ns : List ℕ) → all pool (n ∷ ns) ≡ all (one pool n) ns
 
-pub mark-more : (pool : List ℕ) (start i : ℕ) → mark (markAll pool (range start i)) (start + i) ≡ markAll pool (range start (i + 1))
-mark-more pool start i = rw (add-one i) (mark-suc pool start i)
+pub marks : InTurn mark markAll
+unfolding markAll
+marks = record { none = λ pool. refl; onto = λ pool n ns. refl }
 
-pub mark-none : (pool : List ℕ) (start : ℕ) → pool ≡ markAll pool (range start 0)
-unfolding range markAll
-mark-none pool start = refl
+pub unmarks : InTurn unmark unmarkAll
+unfolding unmarkAll
+unmarks = record { none = λ pool. refl; onto = λ pool n ns. refl }
+
+module _ {one : List ℕ → ℕ → List ℕ} {all : List ℕ → List ℕ → List ℕ} (t : InTurn one all) where
+  -- none of a run yet, and one node more
+  pub run-none : (pool : List ℕ) (start : ℕ) → pool ≡ all pool (range start 0)
+  unfolding range
+  run-none pool start = sym (t .none pool)
+
+  run-suc : (pool : List ℕ) (start i : ℕ) → one (all pool (range start i)) (start + i) ≡ all pool (range start (suc i))
+  unfolding range
+  run-suc pool start zero = let q : start + 0 ≡ start = omega arith in rw (q, t .none pool, t .onto pool start [], t .none (one pool start)) refl
+  run-suc pool start (suc i) =
+      let q : start + suc i ≡ suc start + i = omega arith in
+      rw (q, t .onto pool start (range (suc start) i), t .onto pool start (suc start ∷ range (suc (suc start)) i)) (run-suc (one pool start) (suc start) i)
+
+  pub run-more : (pool : List ℕ) (start i : ℕ) → one (all pool (range start i)) (start + i) ≡ all pool (range start (i + 1))
+  run-more pool start i = rw (add-one i) (run-suc pool start i)
 
 -- ---- the search for a run
 

@@ -5,10 +5,11 @@ ghost use lib.ListN.{length};
 ghost use Rattle.memory.specs.Words.{reads};
 ghost use Rattle.tree.specs.Lists.{range};
 ghost use Rattle.tree.specs.Lookup.{freeRun};
-ghost use Rattle.tree.specs.Pool.{used, nextUsed, mark, markAll, clearMap};
+ghost use Rattle.tree.specs.Pool.{used, nextUsed, mark, unmark, markAll, unmarkAll, clearMap};
 use memory::search::lowest_unmarked;
 use memory::words::is_set;
 use memory::words::with_bit;
+use memory::words::without_bit;
 use tree::layout::Geometry;
 
 // A word of the map with every node used.
@@ -62,6 +63,25 @@ pub fn mark_run(pool: &mut [u64], start: usize, k: usize)
     let mut i = 0;
     while i < k {
         mark(pool, start + i);
+        i += 1;
+    }
+}
+
+pub fn unmark(pool: &mut [u64], n: usize)
+    requires { ⌜ n < 64 * length (now pool) ⌝ }
+    ensures { λ _. ⌜ now (pool .exit) ≡ unmark (now (pool .entry)) n ⌝ }
+{
+    pool[n / 64] = without_bit(pool[n / 64], (n % 64) as u32);
+}
+
+// Makes k adjacent nodes free.
+pub fn unmark_run(pool: &mut [u64], start: usize, k: usize)
+    requires { ⌜ (start + k ≤ 64 * length (now pool)) × (start + k ≤ 65536) ⌝ }
+    ensures { λ _. ⌜ now (pool .exit) ≡ unmarkAll (now (pool .entry)) (range start k) ⌝ }
+{
+    let mut i = 0;
+    while i < k {
+        unmark(pool, start + i);
         i += 1;
     }
 }

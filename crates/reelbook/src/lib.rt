@@ -8,7 +8,7 @@ ghost use mathlib.Core.Path.{_≡_};
 ghost use mathlib.Core.List.{List, []};
 ghost use Prim.Native.Nat.{ℕ};
 ghost use lib.ListN.{length};
-ghost use Rattle.book.specs.State.{format, recover, openReel, claim, fill, commit, abandon, remove, retire};
+ghost use Rattle.book.specs.State.{format, recover, openReel, claim, fill, commit, abandon, remove, retire, tidy};
 ghost use Rattle.book.specs.State.{query, has, list as list-reel, convert};
 ghost use Rattle.book.specs.CarryOut.{carry, carried};
 ghost use Rattle.operations.specs.Ends.{allBuffers, buffers, noBuffers, state, ended, endedLeft, endedPath, ends};
@@ -27,6 +27,7 @@ use operations::head_words::state_of;
 use reels::list;
 use reels::open;
 use reels::retire;
+use reels::tidy;
 // the length of the heads' words; how many stores a script has, for those who print it
 pub use book::HEAD_WORDS;
 pub use tree::persistent::count_stores;
@@ -263,6 +264,32 @@ pub extern "C" fn reelbook_retire(
 {
     hand_over(
         retire::retire(image, map, read_heads(heads), scratch, script, reel),
+        used,
+    )
+}
+
+// Writes the script that takes the first group of empty children from a reel's tree, and frees them in the map.
+#[no_mangle]
+pub extern "C" fn reelbook_tidy(
+    image: &[u64],
+    map: &mut [u64],
+    heads: &[u64; HEAD_WORDS],
+    scratch: &mut [u64],
+    script: &mut [u64],
+    reel: u64,
+    used: &mut u64,
+) -> u64
+    ensures { λ r. ⌜
+        ended r (now (used .exit)) (state (now (image .entry)) (now (map .exit)) (now (heads .entry)))
+        (buffers (now (scratch .exit)) (now (script .exit)) [])
+        ≡ ends
+        (tidy (length (now (map .entry))) (length (now (scratch .entry))) (length (now (script .entry))) reel)
+        (state (now (image .entry)) (now (map .entry)) (now (heads .entry)))
+        (buffers (now (scratch .entry)) (now (script .entry)) [])
+        ⌝ }
+{
+    hand_over(
+        tidy::tidy(image, map, read_heads(heads), scratch, script, reel),
         used,
     )
 }

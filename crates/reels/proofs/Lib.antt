@@ -1,3 +1,5 @@
+pub mod IdleReels
 pub mod Listing
 pub mod Opening
 pub mod Retiring
+pub mod Tidying

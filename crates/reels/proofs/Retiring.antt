@@ -1,7 +1,7 @@
 -- Retire: how each way through the code ends.
 use mathlib.Core.Path.{_≡_, refl, sym, _∙_, ap}
 use mathlib.Core.Bool.{Bool, true, false, cond, not}
-use mathlib.Core.Option.{none, some}
+use mathlib.Core.Option.{some}
 use mathlib.Core.List.{List, [], _∷_}
 use Prim.Native.Nat.{ℕ, _<_}
 use native.Mathlib.Omega.{arith}
@@ -15,18 +15,17 @@ use Rattle.tree.specs.Subtree.{tree, nodesOf, listed}
 use Rattle.tree.specs.Check.{isSoundTree}
 use Rattle.tree.specs.Pool.{unmarkAll, clearMap}
 use Rattle.book.specs.declared.Head.{Head}
-use Rattle.book.specs.Heads.{names, busy}
 use Rattle.book.specs.Refusals.{Refusal, _gives_}
 use Rattle.book.specs.State.{Operation, State, retire, scratchAfter}
 use Rattle.book.specs.Checks.{refusals}
 use Rattle.book.specs.Perform.{granted, leaves, clears}
-use Rattle.book.proofs.Refusals.{passed-all, refused-here, refused-later}
+use Rattle.book.proofs.Refusals.{passed-all, refused-here}
 use Rattle.operations.specs.HeadLists.{headsIn, busyIn}
-use Rattle.operations.specs.Ends.{Buffers, buffers, state, ended, found, ends}
+use Rattle.operations.specs.Ends.{buffers, state, ended, found, ends}
 use Rattle.operations.proofs.ScriptWords.{words-of, fenced-written}
 use Rattle.operations.proofs.Passed.{same-checks}
-use Rattle.operations.proofs.HeadRecords.{any-read}
-use Rattle.operations.proofs.Tested.{OnReel, SlotRead, rest-bad, rest-done}
+use Rattle.operations.proofs.Tested.{SlotRead}
+use Rattle.reels.proofs.IdleReels.{OnIdleReel, idle-bad, idle-done}
 
 module _ (im pool ws scratch script : List ℕ) (reel : ℕ) where
   abbrev op : Operation
@@ -35,40 +34,30 @@ module _ (im pool ws scratch script : List ℕ) (reel : ℕ) where
   abbrev start : State
   start = state im pool ws
 
-  abbrev borrowed : Buffers
-  borrowed = buffers scratch script []
+  -- 4
+  abbrev retireRest : Geometry → ℕ → List Refusal
+  retireRest g slot = (is (not (isSoundTree g (reads im) slot)) gives 4) ∷ []
 
-  -- 13 and 4
-  abbrev pub retireRest : Geometry → ℕ → List Refusal
-  retireRest g slot = (is (busy ws slot) gives 13) ∷ (is (not (isSoundTree g (reads im) slot)) gives 4) ∷ []
-
-  pub on-retire : OnReel op start (some pool) (some scratch) (some script) true reel retireRest
+  pub on-retire : OnIdleReel op start pool scratch script reel retireRest
   unfolding refusals leaves clears
   on-retire = record { tested = record { tests = same-checks im _ _ _ refl; leaves-all = λ n. refl; clears-past = λ n. refl } }
 
+  -- the slot is not busy: r says whether its tree is sound, and the map is what freeing the tree left
   module _ {g : Geometry} {slot : ℕ} (p : SlotRead im (some pool) (some scratch) (some script) reel g slot) (inside : slot < g .slots)
-      (heads : List Head) (read : headsIn ws ≡ heads) where
-    busy-is : (b : Bool) → busyIn heads slot ≡ b → busy ws slot ≡ b
-    busy-is b e = sym (any-read (names slot) ws heads read) ∙ e
+      (heads : List Head) (read : headsIn ws ≡ heads) (idle : busyIn heads slot ≡ false) (r : Bool) (r-is : r ≡ isSoundTree g (reads im) slot)
+      (pool' : List ℕ) (pool-is : pool' ≡ cond (isSoundTree g (reads im) slot) (unmarkAll pool (nodesOf (tree g (reads im) slot))) pool) where
+    pub tree-bad : not r ≡ true → ended 4 0 (state im pool' ws) (buffers (clearMap (length scratch)) script []) ≡ ends op start (buffers scratch script [])
+    tree-bad taken =
+        let malformed = sym r-is ∙ not-true r taken in
+        rw (pool-is, malformed) (idle-bad on-retire p inside heads read idle 4 (refused-here _ _ (rw malformed refl)) (omega arith))
 
-    pub slot-busy : busyIn heads slot ≡ true → ended 13 0 start (buffers (clearMap (length scratch)) script []) ≡ ends op start borrowed
-    slot-busy e = rest-bad on-retire borrowed p inside 13 (refused-here _ _ (busy-is true e)) (omega arith)
-
-    -- the slot is not busy: r says whether its tree is sound, and the map is what freeing the tree left
-    module _ (idle : busyIn heads slot ≡ false) (r : Bool) (r-is : r ≡ isSoundTree g (reads im) slot) (pool' : List ℕ)
-        (pool-is : pool' ≡ cond (isSoundTree g (reads im) slot) (unmarkAll pool (nodesOf (tree g (reads im) slot))) pool) where
-      pub tree-bad : not r ≡ true → ended 4 0 (state im pool' ws) (buffers (clearMap (length scratch)) script []) ≡ ends op start borrowed
-      tree-bad taken =
-          let malformed = sym r-is ∙ not-true r taken in
-          rw (pool-is, malformed) (rest-bad on-retire borrowed p inside 4
-          (refused-later _ _ (busy-is false idle) ∙ refused-here _ _ (rw malformed refl)) (omega arith))
-
-      pub retired : not r ≡ false → (script' : List ℕ) → script' ≡ written (store (rootAt slot) 0 ∷ barrier ∷ []) script
-          → ended 0 4 (state im pool' ws) (buffers (clearMap (length scratch)) script' []) ≡ ends op start borrowed
-      unfolding granted scratchAfter found listed
-      retired left script' script-is =
-          let fine = sym r-is ∙ not-false r left in
-          let none = passed-all (retireRest g slot) (busy-is false idle, (rw fine refl, tt)) in
-          let root : Store = (rootAt slot, 0) in
-          ap (λ k. ended 0 k (state im pool' ws) (buffers (clearMap (length scratch)) script' [])) (words-of ((root ∷ []) ∷ []))
-          ∙ rw (pool-is, fine, fenced-written root script script' script-is, p .slot-is, p .checked .geometry) (sym (rest-done on-retire borrowed p inside none))
+    pub retired : not r ≡ false → (script' : List ℕ) → script' ≡ written (store (rootAt slot) 0 ∷ barrier ∷ []) script
+        → ended 0 4 (state im pool' ws) (buffers (clearMap (length scratch)) script' []) ≡ ends op start (buffers scratch script [])
+    unfolding granted scratchAfter found listed
+    retired left script' script-is =
+        let fine = sym r-is ∙ not-false r left in
+        let none = passed-all (retireRest g slot) (rw fine refl, tt) in
+        let root : Store = (rootAt slot, 0) in
+        ap (λ k. ended 0 k (state im pool' ws) (buffers (clearMap (length scratch)) script' [])) (words-of ((root ∷ []) ∷ []))
+        ∙ rw (pool-is, fine, fenced-written root script script' script-is, p .slot-is, p .checked .geometry)
+        (sym (idle-done on-retire p inside heads read idle none))

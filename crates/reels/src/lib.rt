@@ -1,4 +1,5 @@
-// The operations on a whole reel: Open, List and Retire.
+// The operations on a whole reel: Open, List, Retire and Tidy.
 pub mod list;
 pub mod open;
 pub mod retire;
+pub mod tidy;

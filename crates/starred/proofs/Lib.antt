@@ -2,3 +2,4 @@ pub mod Starred
 pub mod FullReel
 pub mod TwoInTree
 pub mod CutClaim
+pub mod TidyRoom

@@ -9,6 +9,7 @@ use Rattle.tree.proofs.Reach.{one-node, depth, slot-filled}
 use Rattle.tree.proofs.Nodes.{wellFormed-facts}
 use Rattle.tree.proofs.Grows.{opened}
 use Rattle.tree.proofs.Link.{linked}
+use Rattle.tree.proofs.Unlink.{unlinked}
 use Rattle.tree.proofs.Retire.{retired}
 use Rattle.tree.proofs.SetBit.{committed, removed}
 pub use Rattle.tree.proofs.Slots.{slot-laws}
@@ -18,7 +19,9 @@ pub use Rattle.tree.proofs.Paths.{path-laws}
 pub use Rattle.tree.proofs.Spots.{spot-laws}
 pub use Rattle.tree.proofs.Lookup.{lookup-says, lookup-rule}
 pub use Rattle.tree.proofs.PlacesLeft.{left-laws}
+pub use Rattle.tree.proofs.Order.{order-laws}
 pub use Rattle.tree.proofs.Listing.{tree-laws}
+pub use Rattle.tree.proofs.Groups.{group-laws}
 pub use Rattle.tree.proofs.Decide.{sound-laws}
 pub use Rattle.tree.proofs.Runs.{run-laws}
 pub use Rattle.tree.proofs.Pigeon.{room}
@@ -37,4 +40,11 @@ pub node-laws : (g : Geometry) (m : Memory) → NodeLaws g m
 node-laws g m = record { facts = wellFormed-facts g m }
 
 pub change-laws : {r : Rule} {g : Geometry} {m : Memory} (m' : Memory) (d : Sound r g m) → ChangeLaws r g m m' d
-change-laws m' d = record { opened = opened d; linked = linked d; retired = retired d; committed = committed d; removed = removed d }
+change-laws m' d = record {
+  opened = opened d;
+  linked = linked d;
+  unlinked = unlinked d;
+  retired = retired d;
+  committed = committed d;
+  removed = removed d;
+}

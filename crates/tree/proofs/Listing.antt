@@ -16,6 +16,7 @@ use Rattle.tree.proofs.Distinct.{distinct-by, distinct-keep, distinct-m
 use Rattle.tree.proofs.Reach.{one-node}
 use Rattle.tree.proofs.Subtree.{visited, held-places, listed}
 use Rattle.tree.proofs.Lookup.{sound-tree}
+use Rattle.tree.proofs.Order.{in-order}
 use Rattle.tree.proofs.Trees.{distinct-tree}
 
 module _ {g : Geometry} {m : Memory} {s : ℕ} (b : Filled g m s) where
@@ -47,6 +48,7 @@ module _ {g : Geometry} {m : Memory} {s : ℕ} (b : Filled g m s) where
   tree-laws = record {
     visited = visited g m b;
     listed = listed g m b;
+    in-order = in-order g m b;
     visited-once = λ a. distinct-tree g m a b;
     listed-once = λ r d. listed-once d;
   }

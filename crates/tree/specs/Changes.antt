@@ -1,5 +1,6 @@
--- The stores that change what is reached or held, one word each: a root filled or cleared, a group of children linked, a
--- set bit put on or off. Here is what each asks of a sound memory, and what the memory is afterwards; Laws.antt joins them.
+-- The stores that change what is reached or held, one word each: a root filled or cleared, a group of children linked or
+-- unlinked, a set bit put on or off. Here is what each asks of a sound memory, and what the memory is afterwards; Laws.antt
+-- joins them.
 use mathlib.Core.Path.{_≡_}
 use mathlib.Core.Bool.{true, false}
 use mathlib.Core.Logic.{_⊎_, _↔_, _≢_}
@@ -46,7 +47,8 @@ pub record Links (g : Geometry) (m : Memory) (s : ℕ) (w : List ℕ) (n start :
   pub inside : start + fanout (length w) ≤ g .nodes
   pub fresh : (c : ℕ) → c < fanout (length w) → Fresh g m (suc (length w)) (start + c)
 
-pub record NewChild (s : ℕ) (w : List ℕ) (start s' : ℕ) (w' : List ℕ) (n' : ℕ) : Type 0 where
+-- a node of the group of children from start on, of the node that the way reaches
+pub record InGroup (s : ℕ) (w : List ℕ) (start s' : ℕ) (w' : List ℕ) (n' : ℕ) : Type 0 where
   pub child : ℕ
   pub low : child < fanout (length w)
   pub slot : s' ≡ s
@@ -56,6 +58,14 @@ pub record NewChild (s : ℕ) (w : List ℕ) (start s' : ℕ) (w' : List ℕ) (n
 -- afterwards: the new ways besides the old, the same frames, sound again
 pub record Grown (r : Rule) (g : Geometry) (m m' : Memory) (New : ℕ → List ℕ → ℕ → Type 0) : Type 0 where
   pub reaches : {s : ℕ} {w : List ℕ} {n : ℕ} → Reaches g m' s w n ↔ (Reaches g m s w n ⊎ New s w n)
+  pub holds : {s : ℕ} {w : List ℕ} {n p f : ℕ} → Holds g m' s w n p f ↔ Holds g m s w n p f
+  pub sound : Sound r g m'
+
+-- ---- Tidy: the children of a node go, which are all empty
+
+-- afterwards: the old ways but those that are gone, the same frames, sound again
+pub record Pruned (r : Rule) (g : Geometry) (m m' : Memory) (Gone : ℕ → List ℕ → ℕ → Type 0) : Type 0 where
+  pub reaches : {s : ℕ} {w : List ℕ} {n : ℕ} → Reaches g m' s w n ↔ (Reaches g m s w n × (Gone s w n → ⊥))
   pub holds : {s : ℕ} {w : List ℕ} {n p f : ℕ} → Holds g m' s w n p f ↔ Holds g m s w n p f
   pub sound : Sound r g m'
 

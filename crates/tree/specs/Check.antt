@@ -26,7 +26,7 @@ module _ (g : Geometry) (m : Memory) where
   unfoldable pub walkable : List Visit → Bool
   walkable vs = every (λ v. wellFormed g m (length (v .way)) (v .node)) vs && distinct (λ v. v .node) vs
 
-  -- what List and Retire test of a reel's slot
+  -- what List, Retire and Tidy test of a reel's slot
   unfoldable pub isSoundTree : ℕ → Bool
   isSoundTree s = walkable (tree g m s)
 

@@ -5,7 +5,7 @@ use mathlib.Core.Bool.{Bool, true, false, not, cond}
 use mathlib.Core.Logic.{_⊎_, _↔_, _≢_}
 use mathlib.Core.Option.{none, some}
 use mathlib.Core.List.{List, [], _∷_, _++_, List·Memᴰ}
-use Prim.Native.Nat.{ℕ, suc, _+_, _/_, _%_, _^_, _≤_, _<_}
+use Prim.Native.Nat.{ℕ, suc, _+_, _-_, _/_, _%_, _^_, _≤_, _<_}
 use lib.ListN.{length, getElem?}
 use lib.Dec.{ltb}
 use Rattle.memory.specs.Words.{Memory, byte, marked}
@@ -24,10 +24,12 @@ use Rattle.tree.specs.Sound.{Sound, SoundTree}
 use Rattle.tree.specs.Lookup.{spot, firstSpot, pathFrom, clearAt, matches, lookup, find, isFreeRun, freeRun}
 use Rattle.tree.specs.declared.path.Room.the-variants.{ScaleUp, BranchOut}
 use Rattle.tree.specs.Room.{clearPlaces, leftAt, placesLeft}
-use Rattle.tree.specs.Subtree.{visit, tree, framesIn, listing}
+use Rattle.tree.specs.Subtree.{Visit, visit, Before, tree, framesIn, listing}
 use Rattle.tree.specs.Check.{isSoundTree, isSound}
+use Rattle.tree.specs.Groups.{firstGroup, EmptyGroup, NoGroup, FirstGroup, foundWay}
+use Rattle.tree.specs.Outline.{outline}
 use Rattle.tree.specs.Same.{Same, Stores}
-use Rattle.tree.specs.Changes.{Opens, NewRoot, Links, NewChild, Grown, Retired, Commits, Committed, Removes, Removed}
+use Rattle.tree.specs.Changes.{Opens, NewRoot, Links, InGroup, Grown, Pruned, Retired, Commits, Committed, Removes, Removed}
 
 -- ---- children and ways
 
@@ -183,8 +185,26 @@ pub record TreeLaws (g : Geometry) (m : Memory) (s : ℕ) (filled : Filled g m s
   -- the nodes of a filled slot's tree are those that it reaches, and what it lists are its frames
   pub visited : (w : List ℕ) (n : ℕ) → List·Memᴰ (visit w n) (tree g m s) ↔ Reaches g m s w n
   pub listed : (f : ℕ) → List·Memᴰ f (listing g m s) ↔ FrameOf g m s f
+  -- they come in the order that `Before` says, a node before all that come after it
+  pub in-order : (earlier later : List Visit) (v : Visit) → tree g m s ≡ earlier ++ v ∷ later
+      → (u : Visit) → List·Memᴰ u later → Before (v .way) (u .way)
   pub visited-once : SoundTree g m s → Distinct (λ v. v .node) (tree g m s)
   pub listed-once : (r : Rule) → Sound r g m → Distinct (λ f. f) (listing g m s)
+
+-- the order of List is one: with `in-order` it is that in which a tree's nodes come
+pub record OrderLaws : Type 0 where
+  pub asymmetric : (w w' : List ℕ) → Before w w' → Before w' w → ⊥
+
+-- ---- empty groups
+
+pub record GroupLaws (g : Geometry) (m : Memory) (s : ℕ) (filled : Filled g m s) : Type 0 where
+  -- the search finds the first empty group in the order of List
+  pub found : (v : Visit) → firstGroup g m s ≡ some v → FirstGroup g m s (v .way) (v .node)
+  -- and none exactly where there is none
+  pub nowhere : (firstGroup g m s ≡ none) ↔ NoGroup g m s
+  -- it goes by the outline alone: of another tree with the same outline it finds the same way, or none in both
+  pub by-outline : (g' : Geometry) (m' : Memory) (s' : ℕ) → Filled g' m' s' → outline g m s ≡ outline g' m' s'
+      → foundWay (firstGroup g m s) ≡ foundWay (firstGroup g' m' s')
 
 -- ---- soundness
 
@@ -241,7 +261,9 @@ pub record SameLaws (g : Geometry) (m m' : Memory) (same : Same g m m') : Type 0
 
 pub record ChangeLaws (r : Rule) (g : Geometry) (m m' : Memory) (sound : Sound r g m) : Type 0 where
   pub opened : {s n : ℕ} → Opens g m s n → Stores m (rootAt s) (suc n) m' → Grown r g m m' (NewRoot s n)
-  pub linked : {s : ℕ} {w : List ℕ} {n start : ℕ} → Links g m s w n start → Stores m (nextAt g n) (suc start) m' → Grown r g m m' (NewChild s w start)
+  pub linked : {s : ℕ} {w : List ℕ} {n start : ℕ} → Links g m s w n start → Stores m (nextAt g n) (suc start) m' → Grown r g m m' (InGroup s w start)
+  pub unlinked : {s : ℕ} {w : List ℕ} {n : ℕ} → EmptyGroup g m s w n → Stores m (nextAt g n) 0 m'
+      → Pruned r g m m' (InGroup s w (m (nextAt g n) - 1))
   pub retired : {s : ℕ} → Filled g m s → Stores m (rootAt s) 0 m' → Retired r g m m' s
   pub committed : {s : ℕ} {w : List ℕ} {n p f v : ℕ} → Commits r g m s w n p f v → Stores m (setAt g n) v m' → Committed r g m m' s w n p f
   pub removed : {s : ℕ} {w : List ℕ} {n p v : ℕ} → Removes g m s w n p v → Stores m (setAt g n) v m' → Removed r g m m' n p

@@ -11,6 +11,8 @@ pub mod Lookup
 pub mod Room
 pub mod Subtree
 pub mod Check
+pub mod Groups
+pub mod Outline
 pub mod Recovery
 pub mod Convert
 pub mod Same

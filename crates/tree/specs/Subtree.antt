@@ -1,7 +1,7 @@
 -- The nodes reached from a slot, in the order of List, and its frames.
 use mathlib.Core.Bool.{cond}
 use mathlib.Core.List.{List, [], _∷_, _++_, map, flatMap}
-use Prim.Native.Nat.{ℕ, zero, suc}
+use Prim.Native.Nat.{ℕ, zero, suc, _<_}
 use lib.ListN.{length, drop}
 use lib.Dec.{eqb}
 use Rattle.memory.specs.Words.{Memory}
@@ -19,6 +19,12 @@ pub record Visit : Type 0 where
 
 abbrev pub visit : List ℕ → ℕ → Visit
 visit w n = record { way = w; node = n }
+
+-- the order of List, by ways: a node comes before all below it, and a child's whole subtree before those of children with higher
+-- numbers
+pub data Before : List ℕ → List ℕ → Type 0 where
+  above : (w below : List ℕ) (c : ℕ) → Before w (below ++ c ∷ w)
+  aside : (w below below' : List ℕ) (c c' : ℕ) → c < c' → Before (below ++ c ∷ w) (below' ++ c' ∷ w)
 
 -- the nodes of a walk
 unfoldable pub nodesOf : List Visit → List ℕ

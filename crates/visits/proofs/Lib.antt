@@ -4,6 +4,7 @@ pub mod Places
 pub mod Walked
 pub mod Kept
 pub mod SlotWalks
+pub mod Checked
 pub mod Visits
 pub mod MarkedNodes
 pub mod MarkedNodesCount

@@ -6,8 +6,12 @@ ghost use Rattle.memory.specs.Words.{reads};
 ghost use Rattle.tree.specs.Layout.{Sized, mapWords};
 ghost use Rattle.tree.specs.Path.{levels};
 ghost use Rattle.tree.specs.Slots.{Filled};
+ghost use Rattle.tree.specs.Subtree.{tree, nodesOf};
+ghost use Rattle.tree.specs.Check.{isSoundTree};
+ghost use Rattle.tree.specs.Pool.{clearMap, mapOf};
 ghost use Rattle.visits.specs.Walk.{stops, groupStops, formedAt, walked, kept, walkedSlot};
 use nodes::node::well_formed;
+use pool::pool_map::clear_map;
 use pool::pool_map::is_used;
 use pool::pool_map::mark;
 use tree::layout::Geometry;
@@ -72,4 +76,29 @@ pub fn visit_slot(image: &[u64], pool: &mut [u64], g: Geometry, slot: usize) -> 
 {
     let root = root_of(image, g, slot) as usize;
     visit_node(image, pool, g, 32, root - 1)
+}
+
+// Is no node of a filled slot's tree malformed or met twice? Then the scratch map, whatever it held, marks exactly its nodes.
+pub fn check_tree(image: &[u64], scratch: &mut [u64], g: Geometry, slot: usize) -> bool
+    requires { ⌜ Sized (now image) g × Filled g (reads (now image)) slot × (length (now scratch) ≡ mapWords g) ⌝ }
+    ensures { λ r. ⌜
+        kept r (now (scratch .exit))
+        ≡ kept (isSoundTree g (reads (now (image .entry))) slot)
+        (mapOf g (nodesOf (tree g (reads (now (image .entry))) slot)))
+        ⌝ }
+{
+    clear_map(scratch);
+    visit_slot(image, scratch, g, slot)
+}
+
+// The same, with the scratch map all 0 in the end.
+pub fn sound_tree(image: &[u64], scratch: &mut [u64], g: Geometry, slot: usize) -> bool
+    requires { ⌜ Sized (now image) g × Filled g (reads (now image)) slot × (length (now scratch) ≡ mapWords g) ⌝ }
+    ensures { λ r. ⌜
+        (r ≡ isSoundTree g (reads (now (image .entry))) slot) × (now (scratch .exit) ≡ clearMap (mapWords g))
+        ⌝ }
+{
+    let sound = check_tree(image, scratch, g, slot);
+    clear_map(scratch);
+    sound
 }

@@ -9,13 +9,12 @@ ghost use Rattle.tree.specs.Subtree.{tree, nodesOf};
 ghost use Rattle.tree.specs.Check.{isSoundTree};
 ghost use Rattle.tree.specs.Pool.{unmarkAll, clearMap, mapOf};
 ghost use Rattle.walks.specs.Answers.{listingFrom, listAfter};
-ghost use Rattle.visits.specs.Walk.{kept};
 use crate::listing::list_slot;
 use pool::pool_map::clear_map;
 use tree::layout::Geometry;
 use visits::marked::count_frames;
 use visits::marked::take_out;
-use visits::visit::visit_slot;
+use visits::visit::check_tree;
 
 // What listing a tree comes to.
 pub enum Listing {
@@ -25,19 +24,6 @@ pub enum Listing {
     Short,
     // So many frames.
     Listed(usize),
-}
-
-// Is no node of a filled slot's tree malformed or met twice? Then the scratch map, whatever it held, marks exactly its nodes.
-fn check_tree(image: &[u64], scratch: &mut [u64], g: Geometry, slot: usize) -> bool
-    requires { ⌜ Sized (now image) g × Filled g (reads (now image)) slot × (length (now scratch) ≡ mapWords g) ⌝ }
-    ensures { λ r. ⌜
-        kept r (now (scratch .exit))
-        ≡ kept (isSoundTree g (reads (now (image .entry))) slot)
-        (mapOf g (nodesOf (tree g (reads (now (image .entry))) slot)))
-        ⌝ }
-{
-    clear_map(scratch);
-    visit_slot(image, scratch, g, slot)
 }
 
 // Writes the frames of a checked tree, whose nodes are marked, to a list that has room for all of them.

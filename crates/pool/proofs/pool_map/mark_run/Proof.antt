@@ -6,7 +6,7 @@ use lib.ListN.{length}
 use borrow.Author.Needs.{needs}
 use Rattle.tree.specs.Lists.{range}
 use Rattle.tree.specs.Pool.{mark, markAll}
-use Rattle.pool.proofs.PoolLoops.{mark-none, mark-more}
+use Rattle.pool.proofs.PoolLoops.{marks, run-none, run-more}
 use Rattle.pool.proofs.pool_map.mark_run.Statement.{statement}
 use Rattle.pool.proofs.pool_map.mark_run.Tie as tie
 
@@ -21,7 +21,7 @@ loop-again c =
     let b = c .before .before in
     let l = b .before .before .before .loop in
     let a = b .before .before .before .before .before .args in
-    (search needs, b .mark .kept .0 ∙ l .inv .1, b .mark .ensures ∙ ap (λ (p : List ℕ). mark p (a .start + l .i)) (l .inv .2) ∙ mark-more _ _ _)
+    (search needs, b .mark .kept .0 ∙ l .inv .1, b .mark .ensures ∙ ap (λ (p : List ℕ). mark p (a .start + l .i)) (l .inv .2) ∙ run-more marks _ _ _)
 
 returns : tie.Need-returns Inv-loop μ-loop
 returns c =
@@ -36,7 +36,7 @@ mark-run-spec =
     (tie.spec
     Inv-loop
     μ-loop
-    (λ c. (search needs, refl, mark-none _ _))
+    (λ c. (search needs, refl, run-none marks _ _))
     (λ c. search needs)
     (λ c κs. search needs)
     (λ c. search needs)

@@ -7,7 +7,8 @@ use borrow.Author.Needs.{needs}
 use Rattle.operations.specs.Ends.{buffers}
 use Rattle.operations.proofs.Passed.{Checked, all-checked}
 use Rattle.operations.proofs.Tested.{SlotRead, filled-slot, check-bad, no-reel}
-use Rattle.reels.proofs.Retiring.{on-retire, slot-busy, tree-bad, retired}
+use Rattle.reels.proofs.IdleReels.{slot-busy}
+use Rattle.reels.proofs.Retiring.{on-retire, tree-bad, retired}
 use Rattle.reels.proofs.retire.retire.Statement.{statement}
 use Rattle.reels.proofs.retire.retire.Tie as tie
 
@@ -53,8 +54,9 @@ returns-3 c ws e =
     let busy = c .before .before .before .before in
     let tested = busy .before .before in
     let reel = tested .before .before in
+    let a = reel .before .before .before .before .before .before .before .before .before .args in
     rw (c .before .before .clear-map2 .ensures)
-    (slot-busy _ _ ws _ _ _ (slot-read reel)
+    (slot-busy (on-retire (a .image .now) (a .pool .now) ws (a .scratch .now) (a .script .now) (a .reel)) (slot-read reel)
     (tested .if1 .left) _ e (sym (busy .before .is-busy .ensures) ∙ busy .if2 .taken))
 
 free-tree-requires : tie.Need-free-tree-requires

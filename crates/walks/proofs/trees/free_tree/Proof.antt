@@ -3,7 +3,8 @@ use lib.ListN.{length}
 use mathlib.Core.Path.{refl, sym, _∙_}
 use Rattle.memory.specs.Words.{reads as readsWords}
 use Rattle.visits.proofs.Kept.{cleared}
-use Rattle.walks.proofs.Checked.{unsound, sound, freed}
+use Rattle.visits.proofs.Checked.{unsound, sound}
+use Rattle.walks.proofs.Checked.{freed}
 use borrow.Author.Needs.{needs}
 use Rattle.walks.proofs.trees.free_tree.Statement.{statement}
 use Rattle.walks.proofs.trees.free_tree.Tie as tie

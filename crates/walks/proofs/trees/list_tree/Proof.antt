@@ -2,7 +2,8 @@ use Rattle.tree.specs.Layout.{mapWords}
 use lib.ListN.{length}
 use Rattle.memory.specs.Words.{reads as readsWords}
 use Rattle.visits.proofs.Kept.{cleared}
-use Rattle.walks.proofs.Checked.{sound, marks-tree, none-listed}
+use Rattle.visits.proofs.Checked.{sound, marks-tree}
+use Rattle.walks.proofs.Checked.{none-listed}
 use borrow.Author.Needs.{needs}
 use Rattle.walks.proofs.trees.list_tree.Statement.{statement}
 use Rattle.walks.proofs.trees.list_tree.Tie as tie

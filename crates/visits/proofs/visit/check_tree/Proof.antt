@@ -1,10 +1,10 @@
 use lib.ListN.{length}
 use borrow.Author.Needs.{needs}
 use Rattle.tree.specs.Layout.{mapWords}
 use Rattle.visits.proofs.Kept.{cleared}
-use Rattle.walks.proofs.Checked.{whole-tree}
-use Rattle.walks.proofs.trees.check_tree.Statement.{statement}
-use Rattle.walks.proofs.trees.check_tree.Tie as tie
+use Rattle.visits.proofs.Checked.{whole-tree}
+use Rattle.visits.proofs.visit.check_tree.Statement.{statement}
+use Rattle.visits.proofs.visit.check_tree.Tie as tie
 
 returns : tie.Need-returns
 returns c =

@@ -161,10 +161,6 @@ static uint64_t answer_due(unsigned faults) {
                                                    REELBOOK_DONE;
 }
 
-static size_t length(size_t right, int wrong, unsigned variant) {
-    return !wrong ? right : variant % 3 == 0 ? right - 1 : variant % 3 == 1 ? right + 1 : 0;
-}
-
 /* Place 0 of a child of the first reel's root gets another frame, with its fingerprint. */
 static void put_frame(struct book *b, unsigned rule, uint64_t frame) {
     uint64_t *prints = &b->image[node_index(b, 1, REELBOOK_NODE_FINGERPRINTS)];
@@ -209,9 +205,9 @@ static void check_faults(unsigned faults, unsigned variant) {
     }
     longer = zeroed(b.image_words + 1);
     memcpy(longer, b.image, b.image_words * sizeof *longer);
-    lend_call(&c, longer, length(b.image_words, (faults & IMAGE_LENGTH) != 0, variant),
-              length(b.image_words, (faults & COPY_LENGTH) != 0, variant + 1),
-              length(b.map_words, (faults & SCRATCH_LENGTH) != 0, variant + 2));
+    lend_call(&c, longer, lent_length(b.image_words, (faults & IMAGE_LENGTH) != 0, variant),
+              lent_length(b.image_words, (faults & COPY_LENGTH) != 0, variant + 1),
+              lent_length(b.map_words, (faults & SCRATCH_LENGTH) != 0, variant + 2));
     check_call(&c, answer_due(faults), "convert with every mixture of faults");
     call_back(&c);
     free(longer);

@@ -20,6 +20,10 @@ static void on_fault(int number) {
     _exit(1);
 }
 
+size_t lent_length(size_t right, int wrong, unsigned variant) {
+    return !wrong ? right : variant % 3 == 0 ? right - 1 : variant % 3 == 1 ? right + 1 : 0;
+}
+
 void lent_for(const char *what) {
     checked = what;
     signal(SIGSEGV, on_fault);

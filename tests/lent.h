@@ -20,6 +20,9 @@ void lent_writable(const struct lent *l);
 /* Checks that what is before the words, in their page, is as it was. */
 void lent_back(struct lent *l);
 
+/* The length to lend: the right one, or where it is to be wrong one word less, one more, or none. */
+size_t lent_length(size_t right, int wrong, unsigned variant);
+
 /* What is checked from now on. */
 void lent_for(const char *what);
 

@@ -32,10 +32,6 @@ static uint64_t answer_due(unsigned faults) {
                                                                     REELBOOK_DONE;
 }
 
-static size_t length(size_t right, int wrong, unsigned variant) {
-    return !wrong ? right : variant % 3 == 0 ? right - 1 : variant % 3 == 1 ? right + 1 : 0;
-}
-
 /* A length, or a number that it does not go with. */
 enum { LENGTHS = 3 };
 static void set_numbers(struct book *b, unsigned variant) {
@@ -100,9 +96,9 @@ static void check_faults(unsigned faults, unsigned variant) {
     struct group g = {1, 2, 2};
     make_faulty(&b, faults, variant);
     l = right_lengths(&b);
-    l.image = length(l.image, faults & IMAGE_LENGTH && variant < LENGTHS, variant);
-    l.map = length(l.map, faults & MAP_LENGTH, variant / 2);
-    l.scratch = length(l.scratch, faults & SCRATCH_LENGTH, variant / 2 + 1);
+    l.image = lent_length(l.image, faults & IMAGE_LENGTH && variant < LENGTHS, variant);
+    l.map = lent_length(l.map, faults & MAP_LENGTH, variant / 2);
+    l.scratch = lent_length(l.scratch, faults & SCRATCH_LENGTH, variant / 2 + 1);
     l.script = faults & SCRIPT_LENGTH ? (variant % 2 == 0 ? REELBOOK_SCRIPT_WORDS - 1 : 0) : REELBOOK_SCRIPT_WORDS + variant % 2;
     lend_call(&c, &b, l, !(faults & NO_REEL) ? FAULTY_REEL : variant % 2 == 0 ? FAULTY_REEL - 1 : FAULTY_REEL + 1);
     check_call(&c, answer_due(faults), "tidy with something wrong");

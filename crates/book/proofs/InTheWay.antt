@@ -14,7 +14,7 @@ use Rattle.tree.proofs.Cases.{true-not-false, and-true, true-and}
 use Rattle.book.specs.declared.Target.{Target}
 use Rattle.book.specs.declared.HeadState.{HeadState}
 use Rattle.book.specs.Heads.{headAt, isIdle, busy}
-use Rattle.book.specs.State.{State, claim, remove, retire, tidy, memory, shape}
+use Rattle.book.specs.State.{State, Operation, claim, remove, retire, tidy, memory, shape}
 use Rattle.book.specs.Checks.{noRunFor, inConflict}
 use Rattle.book.specs.Table.{Table, TableHead, tableHead, frameOf, isAbout, isTaken}
 use Rattle.book.specs.Agrees.{About, by-claim, by-fill, HeadAgrees, both-claimed, both-filled, Agrees}
@@ -38,23 +38,19 @@ module _ {s : State} {t : Table} (a : Agrees s t) {reel slot : ℕ} (r : SlotHas
   its-use : {f n slot' : ℕ} → SlotHas (shape s) (memory s) reel slot' → UsesOf s slot' f n → UsesOf s slot f n
   its-use {f} {n} r' u = subst (λ i. UsesOf s i f n) (one-slot (a .shows) r' r) u
 
+  -- in an operation that any head in the slot is in the way of
+  busy-in : {op : Operation} → ((k : ℕ) → HeadNames s k slot → InTheWay s op) → (InTheWay s op → (k : ℕ) × HeadNames s k slot)
+      → (busy (s .heads) slot ≡ true) ↔ InTheWay s op
+  busy-in there back = (λ e. let x = busy-by s slot .0 e in there (x .0) (x .1), λ b. busy-by s slot .1 (back b))
+
   pub busy-remove : (script f : ℕ) → (busy (s .heads) slot ≡ true) ↔ InTheWay s (remove script reel f)
-  busy-remove script f = (
-    λ e. of-remove r (busy-by s slot .0 e .1),
-    λ b. elim b [ of-remove {k = k} r' x ↦ busy-by s slot .1 (k, its-slot r' x) ],
-  )
+  busy-remove script f = busy-in (λ k x. of-remove r x) (λ b. elim b [ of-remove {k = k} r' x ↦ (k, its-slot r' x) ])
 
   pub busy-retire : (words scratch script : ℕ) → (busy (s .heads) slot ≡ true) ↔ InTheWay s (retire words scratch script reel)
-  busy-retire words scratch script = (
-    λ e. of-retire r (busy-by s slot .0 e .1),
-    λ b. elim b [ of-retire {k = k} r' x ↦ busy-by s slot .1 (k, its-slot r' x) ],
-  )
+  busy-retire words scratch script = busy-in (λ k x. of-retire r x) (λ b. elim b [ of-retire {k = k} r' x ↦ (k, its-slot r' x) ])
 
   pub busy-tidy : (words scratch script : ℕ) → (busy (s .heads) slot ≡ true) ↔ InTheWay s (tidy words scratch script reel)
-  busy-tidy words scratch script = (
-    λ e. of-tidy r (busy-by s slot .0 e .1),
-    λ b. elim b [ of-tidy {k = k} r' x ↦ busy-by s slot .1 (k, its-slot r' x) ],
-  )
+  busy-tidy words scratch script = busy-in (λ k x. of-tidy r x) (λ b. elim b [ of-tidy {k = k} r' x ↦ (k, its-slot r' x) ])
 
   -- ---- in Claim
 

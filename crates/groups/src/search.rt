@@ -82,7 +82,11 @@ fn search_group(image: &[u64], g: Geometry, left: u64, start: usize, count: usiz
 
 // The first node with children that are all empty, in the order of List, of a filled slot's tree, which is known to be sound.
 pub fn search_slot(image: &[u64], g: Geometry, slot: usize) -> Search
-    requires { ⌜ Sized (now image) g × Filled g (reads (now image)) slot × (isSoundTree g (reads (now image)) slot ≡ true) ⌝ }
+    requires { ⌜
+        Sized (now image) g
+        × Filled g (reads (now image)) slot
+        × (isSoundTree g (reads (now image)) slot ≡ true)
+        ⌝ }
     ensures { λ r. ⌜ r ≡ searchOf (firstGroup g (reads (now (image .entry))) slot) ⌝ }
 {
     let root = root_of(image, g, slot) as usize;

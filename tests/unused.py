@@ -9,8 +9,8 @@ DECLARED = re.compile(rf"^(?:  )*(?:pub |abbrev |unfoldable )*({NAME}(?: {NAME})
 IMPORT = re.compile(r"^(?:pub |unfoldable )*use [^{\s]+\.\{(.*)\}$")
 # what the checker itself looks for, and theorems that nothing is derived from
 THEOREMS = (
-    "witnesses|own-tables|conversions|tidying|every-starred|two-in-tree|cut-claim|tidy-room|tidy-order"
-    "|order-laws|walk-laws|recovery-laws|clear-grows-nothing"
+    "witnesses|own-tables|conversions|tidying|every-starred|two-in-tree|cut-claim|tidy-room|tidy-order|high-node"
+    "|layout-laws|order-laws|walk-laws|recovery-laws|clear-grows-nothing"
 )
 KEPT = re.compile(rf".*-spec$|^(Inv|μ)-.*|^({THEOREMS})$")
 WORDS = re.compile(NAME)

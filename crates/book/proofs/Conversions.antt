@@ -346,6 +346,7 @@ pub conversions-from : Demand3 → Conversions
 conversions-from demand3 = record {
   answered = λ scratch copy s h. (convertedImage (s .image), written h (copied scratch copy s h));
   alone = alone;
+  all = λ op s ws w. record { by = op; writes = w };
   only-reads = λ scratch copy s. (no-script (convert scratch copy) s, query-leaves (convert scratch copy) s);
   there = there;
   and-back = and-back;

@@ -10,6 +10,7 @@ pub use Rattle.book.proofs.Due.{refusals-due}
 pub use Rattle.book.proofs.AsBefore.{claim-as-before}
 pub use Rattle.book.proofs.Fixed.{fixed}
 pub use Rattle.book.proofs.Scripts.{scripts}
+pub use Rattle.book.proofs.CarryOut.{carry-laws}
 pub use Rattle.book.proofs.Editions.{editions}
 use Rattle.book.proofs.Assembly.{Scripted, opens, claims, fills, commits, abandons, removes, asks, retires, tidies, Steps, demand2-from, demand3-from}
 use Rattle.book.proofs.StepOpen.{step-open}

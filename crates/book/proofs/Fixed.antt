@@ -34,7 +34,7 @@ use Rattle.book.specs.Fixed.{HeaderRest, no-table, own-table, FormatWrit
 use Rattle.book.proofs.Refusals.{Denies, denied, passes, refused-later}
 use Rattle.book.proofs.Performed.{answer-is, work-granted}
 use Rattle.book.proofs.Done.{refused-heads}
-use Rattle.book.proofs.Stores.{claims, fills, commits, abandons, removes, retires, tidies, asks}
+use Rattle.book.proofs.Stores.{claims, fills, commits, abandons, removes, retires, tidies, asks, lists}
 use Rattle.book.proofs.GivenTable.{withTable, none-given, beside-table, own-put, entries-put}
 use Rattle.book.proofs.Formatted.{header-stored, root-stored, unread-stored, format-avoids, blank, made, written, granted-format, Answered, format-answered}
 use Rattle.book.proofs.Recovery.{nodes-reached, corrects-stored, stored-once, now-equal, granted-recover, recover-refusals, sound-test}
@@ -225,4 +225,5 @@ fixed = record {
   retires = retires;
   tidies = tidies;
   asks = asks;
+  lists = lists;
 }

@@ -74,6 +74,7 @@ pub mod Witnesses
 pub mod Stores
 pub mod Fixed
 pub mod DueWords
+pub mod CarryOut
 pub mod DuePaths
 pub mod DueTrees
 pub mod Due

@@ -240,6 +240,11 @@ module _ (steps : Steps) (growth : Growth) (kept : Demand3) where
     refused = refused;
     no-has = no-has;
     one = one;
-    small = record { opened = opened; goes-on = λ h reel op fit x p. (p, x .1, x .0); through-crashes = through-crashes };
+    small = record {
+      opens = λ words script reel s h. answered-open h;
+      opened = opened;
+      goes-on = λ h reel op fit x p. (p, x .1, x .0);
+      through-crashes = through-crashes;
+    };
     each-once = λ h. once-each (agreed steps h);
   }

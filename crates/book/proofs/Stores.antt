@@ -1,10 +1,10 @@
 -- What each answered operation stores, over any state.
 use mathlib.Core.Path.{_≡_, refl, sym, _∙_, ap, subst}
-use mathlib.Core.Bool.{true, false}
+use mathlib.Core.Bool.{Bool, true, false}
 use mathlib.Core.Logic.{_⊎_, inl, inr, _↔_}
 use mathlib.Core.Option.{Option, none, some}
-use mathlib.Core.List.{List, _∷_}
-use Prim.Native.Nat.{ℕ, _+_, _*_, _%_, _≤_, _<_}
+use mathlib.Core.List.{List, [], _∷_, _++_, List·Memᴰ, List·Memᴰ·not-nil}
+use Prim.Native.Nat.{ℕ, zero, suc, _+_, _*_, _%_, _≤_, _<_}
 use native.Mathlib.Omega.{arith}
 use lib.ListN.{length, getElem?}
 use borrow.Author.Tests.{eqb-false, not-false}
@@ -21,20 +21,23 @@ use Rattle.tree.specs.declared.path.Room.the-variants.{Clear, ScaleUp, BranchOu
 use Rattle.tree.specs.Room.{roomOn, needs, atLevel31}
 use Rattle.tree.specs.Lookup.{pathFrom, matches, foundAt, lookup, find, freeRun}
 use Rattle.tree.specs.Laws.{FirstAt}
-use Rattle.tree.specs.Subtree.{tree, nodesOf}
+use Rattle.tree.specs.Subtree.{tree, nodesOf, heldPlaces, framesIn, listing}
+use Rattle.tree.specs.Lists.{range, upTo, keep}
 use Rattle.tree.proofs.Memory.{bit-laws, byte-laws, first-laws}
-use Rattle.tree.proofs.Cases.{true-not-false, seen, nothing, just}
+use Rattle.tree.proofs.Cases.{test, true-not-false, seen, nothing, just}
+use Rattle.tree.proofs.Lists.{in-range, kept}
+use Rattle.tree.proofs.Subtree.{held-places}
 use Rattle.tree.proofs.Lookup.{of-index, match-facts}
-use Rattle.tree.proofs.Laws.{child-laws, path-laws, spot-laws, run-laws, pool-laws}
+use Rattle.tree.proofs.Laws.{child-laws, path-laws, spot-laws, run-laws, pool-laws, tree-laws}
 use Rattle.tree.proofs.Fingerprints.{fingerprint-laws}
 use Rattle.book.specs.declared.Target.{Target}
 use Rattle.book.specs.declared.HeadState.the-variants as heads
 use Rattle.book.specs.Heads.{headCount, headAt, wordsOf, withHead, targetOf}
-use Rattle.book.specs.State.{State, Operation, claim, fill, commit, abandon, remove, retire, tidy, query, has, memory, shape}
+use Rattle.book.specs.State.{State, Operation, claim, fill, commit, abandon, remove, retire, tidy, query, has, list, memory, shape}
 use Rattle.book.specs.Checks.{placeIn, refusals}
-use Rattle.book.specs.Perform.{claimScript, roomScript, fillScript, removeScript, foundSpot, granted, perform}
+use Rattle.book.specs.Perform.{claimScript, roomScript, taken, fillScript, removeScript, foundSpot, granted, perform}
 use Rattle.book.specs.Ways.{Matches}
-use Rattle.book.specs.Stores.{BitOn, BitOff, Recorded, noTarget, FirstMatch, FillStores, CommitStores, AbandonStores, RemoveStores, RetireStores, TidyStores, HasSays, yes, no, ClaimStores, at-clear-place, at-scale-up, at-branch-out, ClaimWrites}
+use Rattle.book.specs.Stores.{BitOn, BitOff, Recorded, noTarget, FirstMatch, FillStores, CommitStores, AbandonStores, RemoveStores, RetireStores, TidyStores, HasSays, yes, no, ListGives, ClaimStores, at-clear-place, at-scale-up, at-branch-out, ClaimWrites}
 use Rattle.book.proofs.Refusals.{passes}
 use Rattle.book.proofs.Performed.{answer-is, work-granted}
 use Rattle.book.proofs.Heads.{word-written, word-stays, claimed-is, filled-is, about-target}
@@ -296,7 +299,7 @@ module _ (s : State) (op : Operation) (slot f : ℕ) where
   startOf r = freeRun g (reads (s .pool)) (needs r)
 
   by-room : (r : Room) → RoomIs g m slot f r → atLevel31 r ≡ false → (needs r ≤ 0) ⊎ (startOf r < g .nodes)
-      → ClaimStores op s slot f (claimScript g m r (startOf r) f) (placeIn r (startOf r) f .node) (placeIn r (startOf r) f .place)
+      → ClaimStores op s slot f (claimScript g m r (startOf r) f) (placeIn r (startOf r) f .node) (placeIn r (startOf r) f .place) (taken r (startOf r))
   unfolding claimScript roomScript
   by-room (Clear t) c low run = at-clear-place (c .depth) (c .there) (c .above) (c .place) (c .clear-bit) (c .lower) (bit-on _ _)
   by-room (ScaleUp n size) c low run = at-scale-up (c .there) (c .ends) (sym (c .is)) (c .small) (c .full) (bit-on _ _)
@@ -307,6 +310,15 @@ module _ (s : State) (op : Operation) (slot f : ℕ) where
       let there : startOf (BranchOut parent d) < g .nodes = elim run [ inl k ↦ absurd (omega arith) | inr k ↦ k ] in
       let laws = run-laws g map (fanout d) in
       rw (← c .is) (at-branch-out (c .path) deep (laws .found there) (λ a y. laws .lowest a some y .0) (bit-on _ _))
+
+  -- the nodes taken are inside the pool
+  taken-inside : (r : Room) → (needs r ≤ 0) ⊎ (startOf r < g .nodes) → (n : ℕ) → List·Memᴰ n (taken r (startOf r)) → n < g .nodes
+  taken-inside (Clear t) run n x = absurd (List·Memᴰ·not-nil x)
+  taken-inside (ScaleUp n' size) run n x = absurd (List·Memᴰ·not-nil x)
+  taken-inside (BranchOut parent d) run n x =
+      let i = in-range (startOf (BranchOut parent d)) (fanout d) x in
+      let there : startOf (BranchOut parent d) < g .nodes = elim run [ inl k ↦ absurd (omega arith) | inr k ↦ k ] in
+      omega (arith, i, run-laws g (reads (s .pool)) (fanout d) .found there .inside)
 
 pub claims : (words script h reel f : ℕ) (s : State) → length (s .heads) ≡ 5 * headCount → perform (claim words script h reel f) s .answer ≡ 0
     → ClaimWrites (claim words script h reel f) s h reel f
@@ -323,11 +335,68 @@ claims words script h reel f s l e =
     let is : RoomIs shape-of (memory s) slot f room = rw (path .1) (room-is f (path .0) open-slot (path .1)) in
     let w = work-granted op s e in
     let place = placeIn room (startOf s op slot f room) f in
+    let nodes = taken room (startOf s op slot f room) in
+    let run = p .1 .1 .1 .1 .1 .1 .1 .1 .1 .1 .0 in
     record {
       slot = slot;
       of-reel = reel-there;
       node = place .node;
       place = place .place;
-      stores = subst (λ x. ClaimStores op s slot f x (place .node) (place .place)) (sym (ap (λ x. x .script) w)) (by-room s op slot f room is (p .1 .1 .1 .1 .1 .1 .1 .0 .1) (p .1 .1 .1 .1 .1 .1 .1 .1 .1 .1 .0));
+      taken = nodes;
+      stores = subst (λ x. ClaimStores op s slot f x (place .node) (place .place) nodes) (sym (ap (λ x. x .script) w)) (by-room s op slot f room is (p .1 .1 .1 .1 .1 .1 .1 .0 .1) run);
       head = rw w (record-claimed (s .heads) h (inside s l (p .1 .1 .1 .1 .0)) (record { slot = slot; node = place .node; place = place .place; frame = f }));
+      map-words = rw w (pool-laws .length-mark-all (s .pool) nodes);
+      marks = λ q n. rw w (pool-laws .marks-all (s .pool) nodes n (λ k x. rw q (pool-laws .inside shape-of k (taken-inside s op slot f room run k x))));
     }
+
+-- ---- List
+
+-- each below all that come after it
+abbrev Rising : List ℕ → Type 0
+Rising [] = Unit {0}
+Rising (p ∷ ps) = ((q : ℕ) → List·Memᴰ q ps → p < q) × Rising ps
+
+rising-range : (from n : ℕ) → Rising (range from n)
+unfolding range
+rising-range from zero = tt
+rising-range from (suc n) = (λ q x. let r = in-range (suc from) n x in omega arith, rising-range (suc from) n)
+
+rising-keep : (p : ℕ → Bool) (xs : List ℕ) → Rising xs → Rising (keep p xs)
+unfolding keep
+rising-keep p [] a = tt
+rising-keep p (x ∷ xs) a = elim (test (p x)) [
+  | inl e ↦ rw e (λ q y. a .0 q (kept p xs y .0), rising-keep p xs (a .1))
+  | inr e ↦ rw e (rising-keep p xs (a .1))
+]
+
+above-it : (xs ys : List ℕ) (p : ℕ) → Rising (xs ++ p ∷ ys) → (q : ℕ) → List·Memᴰ q ys → p < q
+above-it [] ys p a = a .0
+above-it (x ∷ xs) ys p a = above-it xs ys p (a .1)
+
+places-rise : (g : Geometry) (m : Memory) (n : ℕ) → Rising (heldPlaces g m n)
+unfolding heldPlaces upTo
+places-rise g m n = rising-keep _ (range 0 64) (rising-range 0 64)
+
+pub lists : (scratch room reel : ℕ) (s : State) → perform (query (list scratch room reel)) s .answer ≡ 0
+    → ListGives s reel (perform (query (list scratch room reel)) s .work .handed .value) (perform (query (list scratch room reel)) s .work .handed .listing)
+unfolding refusals granted listing framesIn
+lists scratch room reel s e =
+    let op = query (list scratch room reel) in
+    let g = shape s in
+    let m = memory s in
+    let slot = slotOf g m reel in
+    let p = passes (refusals op s) (omega arith) (sym (answer-is op s) ∙ e) in
+    let reel-there = reel-slot s reel (p .1 .1 .1 .1 .0) in
+    let l = tree-laws (reel-there .has .open-slot) in
+    rw (work-granted op s e) (record {
+      slot = slot;
+      of-reel = reel-there;
+      visits = tree g m slot;
+      reached = l .visited;
+      in-order = l .in-order;
+      places = heldPlaces g m;
+      held = held-places g m;
+      rising = λ n lower higher q is. above-it lower higher q (rw is at (places-rise g m n));
+      are = refl;
+      counted = refl;
+    })

@@ -1,6 +1,6 @@
 -- That the model of histories is not too small.
 use mathlib.Core.Path.{_≡_, refl, _∙_, ap}
-use mathlib.Core.Logic.{_⊎_, inl, inr}
+use mathlib.Core.Logic.{_⊎_, inl, inr, _≢_}
 use mathlib.Core.List.{List, [], _∷_, List·Memᴰ, List·Memᴰ·head, Memᴰ·append-right}
 use Prim.Native.Nat.{ℕ, _<_}
 use native.Mathlib.Omega.{arith}
@@ -14,14 +14,14 @@ use Rattle.tree.specs.Layout.{mapWords, reelAt, geometryOf}
 use Rattle.tree.specs.Slots.{emptySlot}
 use Rattle.tree.specs.Lookup.{freeRun}
 use Rattle.tree.proofs.Memory.{segment-laws, crash-laws}
-use Rattle.book.specs.State.{State, Operation, recover, openReel, commit, query, has, arguments}
+use Rattle.book.specs.State.{State, Operation, format, recover, openReel, claim, fill, commit, abandon, remove, retire, tidy, query, has, list, convert, arguments}
 use Rattle.book.specs.Perform.{newNode, openScript, granted, perform}
 use Rattle.book.specs.Table.{Table, allIdle}
 use Rattle.book.specs.Agrees.{Agrees}
-use Rattle.book.specs.Histories.{done, replied, Steady, Interrupted, Attempts, none-yet, interrupted, Recovered, Follows, performed, before, after}
+use Rattle.book.specs.Histories.{done, replied, Steady, answered-format, Interrupted, Attempts, none-yet, refused, interrupted, Recovered, crashed, Follows, performed, before, after}
 use Rattle.book.specs.Demands.{Demand3}
 use Rattle.book.specs.Heads.{headCount}
-use Rattle.book.specs.Witnesses.{CommitCut, allClaimed, fourOpen, FourClaims, GoesOn, Witnesses}
+use Rattle.book.specs.Witnesses.{CommitCut, allClaimed, fourOpen, FourClaims, GoesOn, NumbersFit, Witnesses}
 use Rattle.book.proofs.Performed.{work-granted}
 use Rattle.book.proofs.StepRead.{query-after}
 use Rattle.book.proofs.OldBook.{old-book}
@@ -164,9 +164,37 @@ module _ (kept : Demand3) where
     all-idle = computed .all-idle;
   }
 
+-- no operation but an answered format is on steady power
+pub not-steady : {op : Operation} {n : ℕ} → ((words slots nodes : ℕ) (table : List ℕ) → op ≡ format words table slots nodes → n ≢ 0) → Steady op n → ⊥
+not-steady h (answered-format {words} {slots} {nodes} {table}) = h words slots nodes table refl refl
+
+-- an operation's numbers are words
+numbers-fit : (op : Operation) → NumbersFit op → Fit (arguments op)
+numbers-fit (format map table slots nodes) w = words-fit (slots ∷ nodes ∷ []) (w .0, (w .1, tt))
+numbers-fit (recover map) w = words-fit [] tt
+numbers-fit (openReel map script reel) w = words-fit (reel ∷ []) (w, tt)
+numbers-fit (claim map script h reel f) w = words-fit (h ∷ reel ∷ f ∷ []) (w .0, (w .1, (w .2, tt)))
+numbers-fit (fill script h) w = words-fit (h ∷ []) (w, tt)
+numbers-fit (commit script h) w = words-fit (h ∷ []) (w, tt)
+numbers-fit (abandon script h) w = words-fit (h ∷ []) (w, tt)
+numbers-fit (remove script reel f) w = words-fit (reel ∷ f ∷ []) (w .0, (w .1, tt))
+numbers-fit (retire map scratch script reel) w = words-fit (reel ∷ []) (w, tt)
+numbers-fit (tidy map scratch script reel) w = words-fit (reel ∷ []) (w, tt)
+numbers-fit (query (has reel f)) w = words-fit (reel ∷ f ∷ []) (w .0, (w .1, tt))
+numbers-fit (query (list scratch room reel)) w = words-fit (reel ∷ []) (w, tt)
+numbers-fit (query (convert scratch copy)) w = words-fit [] tt
+
 -- all of them, where every history agrees with its table through every crash
 pub witnesses-from : Demand3 → Witnesses
 witnesses-from kept = record {
+  cuts = λ op s k itself m h l e c. record { unsteady = not-steady h; itself = itself; same-length = l; old-or-new = e; script = c };
+  none-tried = λ m. none-yet;
+  refused-tried = λ words s m h a. refused words s refl h a;
+  cut-tried = λ words s k m m' c a. interrupted words s k refl c a;
+  ends-there = λ m words s a h. record { left = s .image; attempts = a; words = words; from = s; image = refl; answered = h; is = refl };
+  any-numbers = numbers-fit;
+  done-next = λ op s fit. performed op fit;
+  crash-next = λ op s s' k m fit c r. crashed op fit k c r;
   commit-cut = commit-cut kept;
   four-claims = four-claims kept;
   later-kept = later-kept;

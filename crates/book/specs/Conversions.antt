@@ -63,6 +63,8 @@ pub record Conversions : Type 0 where
   pub answered : (scratch copy : ℕ) (s : State) → perform (query (convert scratch copy)) s .answer ≡ 0
       → (ws : List ℕ) × Writes (query (convert scratch copy)) s ws
   pub alone : (op : Operation) (s : State) (ws : List ℕ) → perform op s .work .handed .copy ≡ some ws → Writes op s ws
+  -- of all of these the following speaks
+  pub all : (op : Operation) (s : State) (ws : List ℕ) → Writes op s ws → Converts s ws
   -- the image is only read: there is no script, and image, map and heads are as they were, answered or refused
   pub only-reads : (scratch copy : ℕ) (s : State) → let w = perform (query (convert scratch copy)) s .work in
       (w .script ≡ []) × (w .after ≡ s)

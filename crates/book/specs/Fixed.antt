@@ -14,11 +14,11 @@ use Rattle.tree.specs.Fingerprint.{GoodTable}
 use Rattle.tree.specs.Sound.{SoundImage}
 use Rattle.tree.specs.Pool.{used, mark, clearMap}
 use Rattle.book.specs.Heads.{headCount}
-use Rattle.book.specs.State.{State, Operation, format, recover, openReel, claim, fill, commit, abandon, remove, retire, tidy, query, has, memory, shape}
+use Rattle.book.specs.State.{State, Operation, format, recover, openReel, claim, fill, commit, abandon, remove, retire, tidy, query, has, list, memory, shape}
 use Rattle.tree.specs.Recovery.{recoverStores}
 use Rattle.book.specs.Perform.{perform}
 use Rattle.book.specs.Agrees.{Reached, IsEdition}
-use Rattle.book.specs.Stores.{ClaimWrites, FillStores, CommitStores, AbandonStores, RemoveStores, RetireStores, TidyStores, HasSays}
+use Rattle.book.specs.Stores.{ClaimWrites, FillStores, CommitStores, AbandonStores, RemoveStores, RetireStores, TidyStores, HasSays, ListGives}
 
 -- ---- Format
 
@@ -143,3 +143,5 @@ pub record Fixed : Type 0 where
       → TidyStores (tidy words scratch script reel) s reel
   pub asks : (reel f : ℕ) (s : State) → perform (query (has reel f)) s .answer ≡ 0
       → HasSays s reel f (perform (query (has reel f)) s .work .handed .value)
+  pub lists : (scratch room reel : ℕ) (s : State) → perform (query (list scratch room reel)) s .answer ≡ 0
+      → ListGives s reel (perform (query (list scratch room reel)) s .work .handed .value) (perform (query (list scratch room reel)) s .work .handed .listing)

@@ -63,6 +63,8 @@ SmallSoFar reel op {s} {t} h = (OpensReel reel s op ⊎ Small reel h) × (length
 
 -- that `Small` is no less than the paper says
 pub record SmallRules : Type 0 where
+  -- an Open that is answered opens the reel
+  pub opens : (words script reel : ℕ) (s : State) → perform (openReel words script reel) s .answer ≡ 0 → OpensReel reel s (openReel words script reel)
   -- a reel just opened has no frame
   pub opened : {s : State} {t : Table} → Follows s t → (reel : ℕ) (op : Operation) → Fit (arguments op) → OpensReel reel s op
       → inUse (replied op s t .work .after) reel ≡ []

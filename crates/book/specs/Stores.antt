@@ -3,16 +3,17 @@
 use mathlib.Core.Path.{_≡_}
 use mathlib.Core.Bool.{true, false}
 use mathlib.Core.Logic.{_⊎_, _↔_, _≢_}
-use mathlib.Core.List.{List, [], _∷_, flatMap}
+use mathlib.Core.List.{List, [], _∷_, _++_, map, flatMap, List·Memᴰ}
 use Prim.Native.Nat.{ℕ, suc, _+_, _*_, _%_, _≤_, _<_}
 use lib.ListN.{length}
 use Rattle.tree.specs.Memory.{Memory, reads, isSet, byte, Store}
 use Rattle.tree.specs.declared.layout.Geometry.{Geometry}
-use Rattle.tree.specs.Layout.{rootAt, nextAt, locateAt, setAt, sizeAt, fingerprintsAt, frameAt}
+use Rattle.tree.specs.Layout.{mapWords, rootAt, nextAt, locateAt, setAt, levelAt, sizeAt, fingerprintsAt, frameAt}
 use Rattle.tree.specs.Path.{fanout, child, wayOf}
 use Rattle.tree.specs.Fingerprint.{Rule, fingerprint, ruleOf}
 use Rattle.tree.specs.Node.{childOf}
 use Rattle.tree.specs.Reach.{Reaches}
+use Rattle.tree.specs.Subtree.{Visit, visit, Before}
 use Rattle.tree.specs.Groups.{FirstGroup}
 use Rattle.tree.specs.Laws.{FreeRun}
 use Rattle.tree.specs.Pool.{used}
@@ -20,7 +21,8 @@ use Rattle.book.specs.declared.Target.{Target}
 use Rattle.book.specs.declared.HeadState.the-variants.{Claimed, Filled}
 use Rattle.book.specs.Heads.{headAt}
 use Rattle.book.specs.State.{State, Operation, memory, shape}
-use Rattle.book.specs.Perform.{newNode, group, perform}
+use Rattle.book.specs.Perform.{perform}
+use Rattle.tree.specs.Lists.{range}
 use Rattle.book.specs.Agrees.{About}
 use Rattle.book.specs.Ways.{Full, FullAbove, FullPath, ReelAt, Matches}
 
@@ -126,35 +128,55 @@ module _ (op : Operation) (s : State) where
     pub frees : (n : ℕ) → (used (perform op s .work .after .pool) n ≡ true)
         ↔ ((used (s .pool) n ≡ true) × ((c : ℕ) → c < fanout (length way) → n ≢ childOf (shape s) (memory s) node c))
 
-  -- Claim's room in a slot, by the nodes free in the map: its script, and the place that it takes
-  pub data ClaimStores (slot f : ℕ) : List (List Store) → (node place : ℕ) → Type 0 where
+  -- Claim's room in a slot, by the nodes free in the map: its script, the place that it takes, and the nodes
+  pub data ClaimStores (slot f : ℕ) : List (List Store) → (node place : ℕ) → (taken : List ℕ) → Type 0 where
     -- the first node from the root with a clear place, and the lowest such place: locate with the bit, barrier
     at-clear-place : {n p w : ℕ} (d : ℕ) → Reaches (shape s) (memory s) slot (wayOf d f) n → FullAbove (shape s) (memory s) slot f d
         → p < memory s (sizeAt (shape s) n) → isSet (memory s (locateAt (shape s) n)) p ≡ false
         → ((q : ℕ) → q < p → isSet (memory s (locateAt (shape s) n)) q ≡ true) → BitOn (memory s (locateAt (shape s) n)) p w
-        → ClaimStores slot f (((locateAt (shape s) n, w) ∷ []) ∷ []) n p
+        → ClaimStores slot f (((locateAt (shape s) n, w) ∷ []) ∷ []) n p []
     -- none, and the root is the only node, with size 16 or 32: size doubled, barrier; then locate with the lowest place above
     at-scale-up : {n size w : ℕ} → Reaches (shape s) (memory s) slot [] n → memory s (nextAt (shape s) n) ≡ 0 → memory s (sizeAt (shape s) n) ≡ size
         → (size ≡ 16) ⊎ (size ≡ 32) → Full (shape s) (memory s) n → BitOn (memory s (locateAt (shape s) n)) size w
-        → ClaimStores slot f (((sizeAt (shape s) n, 2 * size) ∷ []) ∷ ((locateAt (shape s) n, w) ∷ []) ∷ []) n size
+        → ClaimStores slot f (((sizeAt (shape s) n, 2 * size) ∷ []) ∷ ((locateAt (shape s) n, w) ∷ []) ∷ []) n size []
     -- none at size 64: the children made in turn, barrier; next of the parent, barrier; then locate of the child on the path with place 0
     at-branch-out : {d start w : ℕ} (x : FullPath (shape s) (memory s) slot f d) → d < 31 → FreeRun (shape s) (reads (s .pool)) (fanout d) start
         → ((a : ℕ) → FreeRun (shape s) (reads (s .pool)) (fanout d) a → start ≤ a) → BitOn 0 0 w
-        → ClaimStores slot f (flatMap (λ n. newNode (shape s) n (suc d) 64) (group start d)
+        → ClaimStores slot f (flatMap (λ n. (nextAt (shape s) n, 0) ∷ (locateAt (shape s) n, 0) ∷ (setAt (shape s) n, 0) ∷ (levelAt (shape s) n, suc d) ∷ (sizeAt (shape s) n, 64) ∷ [])
+        (range start (fanout d))
         ∷ ((nextAt (shape s) (x .last), start + 1) ∷ [])
         ∷ ((locateAt (shape s) (start + child d f), w) ∷ [])
-        ∷ []) (start + child d f) 0
+        ∷ []) (start + child d f) 0 (range start (fanout d))
 
   pub record ClaimWrites (h reel f : ℕ) : Type 0 where
     pub slot : ℕ
     pub of-reel : ReelAt (shape s) (memory s) reel slot
     pub node : ℕ
     pub place : ℕ
-    pub stores : ClaimStores slot f script node place
+    pub taken : List ℕ
+    pub stores : ClaimStores slot f script node place taken
     pub head : Recorded h 1 (record { slot = slot; node = node; place = place; frame = f }) (s .heads) (perform op s .work .after .heads)
+    -- the children made become used, and no other node of the map
+    pub map-words : length (perform op s .work .after .pool) ≡ length (s .pool)
+    pub marks : length (s .pool) ≡ mapWords (shape s) → (n : ℕ) → (used (perform op s .work .after .pool) n ≡ true)
+        ↔ (List·Memᴰ n taken ⊎ (used (s .pool) n ≡ true))
 
 -- Has: yes or no, by the lookup's rule
 pub data HasSays (s : State) (reel f : ℕ) : ℕ → Type 0 where
   yes : {slot d n p : ℕ} → ReelAt (shape s) (memory s) reel slot → Matches (ruleOf (memory s)) (shape s) (memory s) slot f d n p → HasSays s reel f 1
   no : {slot : ℕ} → ReelAt (shape s) (memory s) reel slot → ((d n p : ℕ) → Matches (ruleOf (memory s)) (shape s) (memory s) slot f d n p → ⊥)
       → HasSays s reel f 0
+
+-- List: of each node that the slot reaches, in the order of `Before`, the places whose set bit is 1, rising; their frames, and how many.
+-- `Before` is asymmetric, so that no node's way is there twice
+pub record ListGives (s : State) (reel count : ℕ) (frames : List ℕ) : Type 0 where
+  pub slot : ℕ
+  pub of-reel : ReelAt (shape s) (memory s) reel slot
+  pub visits : List Visit
+  pub reached : (w : List ℕ) (n : ℕ) → List·Memᴰ (visit w n) visits ↔ Reaches (shape s) (memory s) slot w n
+  pub in-order : (earlier later : List Visit) (v : Visit) → visits ≡ earlier ++ v ∷ later → (u : Visit) → List·Memᴰ u later → Before (v .way) (u .way)
+  pub places : (node : ℕ) → List ℕ
+  pub held : (n p : ℕ) → List·Memᴰ p (places n) ↔ ((p < 64) × (isSet (memory s (setAt (shape s) n)) p ≡ true))
+  pub rising : (n : ℕ) (lower higher : List ℕ) (p : ℕ) → places n ≡ lower ++ p ∷ higher → (q : ℕ) → List·Memᴰ q higher → p < q
+  pub are : frames ≡ flatMap (λ (v : Visit). map (λ (p : ℕ). memory s (frameAt (shape s) (v .node) p)) (places (v .node))) visits
+  pub counted : count ≡ length frames

@@ -2,23 +2,23 @@
 -- (That every mixture of stores kept and lost is a crash image is `possible` of the memory layer.)
 use mathlib.Core.Path.{_≡_}
 use mathlib.Core.Bool.{false}
-use mathlib.Core.Logic.{_⊎_}
+use mathlib.Core.Logic.{_⊎_, _≢_}
 use mathlib.Core.Option.{Option, some}
 use mathlib.Core.List.{List, [], _∷_, _++_, map}
 use Prim.Native.Nat.{ℕ, zero, suc, _+_, _-_, _*_, _^_, _<_}
 use lib.ListN.{length, take, set, replicate}
-use Rattle.tree.specs.Memory.{reads, Store, stores, segmented, apply, passed, Fit}
+use Rattle.tree.specs.Memory.{reads, Store, stores, segmented, apply, CrashImage, passed, Fit}
 use Rattle.tree.specs.Layout.{editionAt, reelAt, locateAt}
 use Rattle.tree.specs.Lists.{upTo}
 use Rattle.tree.specs.Slots.{emptySlot}
 use Rattle.book.specs.declared.HeadState.the-variants.{Claimed, Filled}
 use Rattle.book.specs.Heads.{headCount, headAt}
-use Rattle.book.specs.State.{State, Operation, format, recover, openReel, claim, fill, commit, tidy, query, has, convert, arguments, memory, shape}
+use Rattle.book.specs.State.{State, Operation, format, recover, openReel, claim, fill, commit, abandon, remove, retire, tidy, query, has, list, convert, arguments, memory, shape}
 use Rattle.book.specs.Perform.{perform}
 use Rattle.book.specs.Table.{Table, Reel, idle, claimed, filled, emptyTable, allIdle}
 use Rattle.book.specs.Agrees.{Agrees}
 use Rattle.book.specs.Held.{tableOf}
-use Rattle.book.specs.Histories.{done, replied, Interrupted, Attempts, Recovered, Follows}
+use Rattle.book.specs.Histories.{done, replied, Interrupted, Attempts, Recovered, Next, Follows}
 use Rattle.book.specs.PathNodes.{hasOf, inUse, Small}
 use Rattle.book.specs.Starred.{run, formatted, withFrames}
 
@@ -282,9 +282,66 @@ pub record OtherGeometry : Type 0 where
   -- and the history goes on with the table of that geometry
   pub table : replied (format 1 [] 1 2) (formatted 41 1) (emptyTable false 41 1) .work .after ≡ emptyTable false 1 2
 
--- ---- all of them but TwoInTree, CutClaim, TidyRoom and TidyOrder, which are computed in the crate `starred`
+-- ---- a map of two words
+
+-- an image with two slots and 66 nodes: reel 7 has slot 0 and node 65, whose bit is in the map's second word
+abbrev pub highWords : List Store
+highWords = (0, 2) ∷ (1, 2) ∷ (2, 66) ∷ (64, 7) ∷ (65, 66) ∷ (5272, 16) ∷ []
+
+-- with a map and heads that mean nothing; and with a map that has nodes 0 to 63 and node 65 used, heads idle
+unfoldable pub highBook : (pool heads : List ℕ) → State
+highBook pool heads = record { image = apply (replicate 5348 0) (stores highWords); pool = pool; heads = heads }
+
+abbrev pub crowded : State
+crowded = highBook ((2 ^ 64 - 1) ∷ 2 ^ 1 ∷ []) (replicate 20 0)
+
+-- bit n mod 64 of word n div 64, in the second word as in the first
+pub record HighNode : Type 0 where
+  pub recovers : perform (recover 2) (highBook (9 ∷ 9 ∷ []) (replicate 20 9)) .answer ≡ 0
+  pub map : done (recover 2) (highBook (9 ∷ 9 ∷ []) (replicate 20 9)) .pool ≡ 0 ∷ 2 ^ 1 ∷ []
+  -- the lowest free node is 64, and Retire of reel 7 gives node 65 back
+  pub opens : done (openReel 2 50 8) crowded .pool ≡ (2 ^ 64 - 1) ∷ (2 ^ 0 + 2 ^ 1) ∷ []
+  pub retires : done (retire 2 2 50 7) crowded .pool ≡ (2 ^ 64 - 1) ∷ 0 ∷ []
+
+-- ---- an operation's numbers
+
+-- each below 2^64, and nothing else is asked of them
+abbrev pub NumbersFit : Operation → Type 0
+NumbersFit (format map table slots nodes) = (slots < 2 ^ 64) × (nodes < 2 ^ 64)
+NumbersFit (recover map) = Unit {0}
+NumbersFit (openReel map script reel) = reel < 2 ^ 64
+NumbersFit (claim map script h reel f) = (h < 2 ^ 64) × (reel < 2 ^ 64) × (f < 2 ^ 64)
+NumbersFit (fill script h) = h < 2 ^ 64
+NumbersFit (commit script h) = h < 2 ^ 64
+NumbersFit (abandon script h) = h < 2 ^ 64
+NumbersFit (remove script reel f) = (reel < 2 ^ 64) × (f < 2 ^ 64)
+NumbersFit (retire map scratch script reel) = reel < 2 ^ 64
+NumbersFit (tidy map scratch script reel) = reel < 2 ^ 64
+NumbersFit (query (has reel f)) = (reel < 2 ^ 64) × (f < 2 ^ 64)
+NumbersFit (query (list scratch room reel)) = reel < 2 ^ 64
+NumbersFit (query (convert scratch copy)) = Unit {0}
+
+-- ---- all of them but TwoInTree, CutClaim, TidyRoom, TidyOrder and HighNode, which are computed in the crate `starred`
 
 pub record Witnesses : Type 0 where
+  -- power may be lost in every operation but a format that is answered: whatever it stored itself kept or lost, word by word, then
+  -- after any number of its script's entries, with whatever these can leave
+  pub cuts : (op : Operation) (s : State) (k : ℕ) (itself m : List ℕ)
+      → ((words slots nodes : ℕ) (table : List ℕ) → op ≡ format words table slots nodes → perform op s .answer ≢ 0) → length itself ≡ length (s .image)
+      → ((i : ℕ) → (reads itself i ≡ memory s i) ⊎ (reads itself i ≡ memory (perform op s .work .after) i))
+      → CrashImage itself (segmented (perform op s .work .script)) k m → Interrupted op s k m
+  -- then recoveries, with any map and any heads: none, one that is refused, or one that is interrupted, and others after it
+  pub none-tried : (m : List ℕ) → Attempts m m
+  pub refused-tried : (words : ℕ) (s : State) (m : List ℕ) → perform (recover words) s .answer ≢ 0 → Attempts (done (recover words) s .image) m
+      → Attempts (s .image) m
+  pub cut-tried : (words : ℕ) (s : State) (k : ℕ) (m m' : List ℕ) → Interrupted (recover words) s k m → Attempts m m' → Attempts (s .image) m'
+  -- and one that is answered ends them
+  pub ends-there : (m : List ℕ) (words : ℕ) (s : State) → Attempts m (s .image) → perform (recover words) s .answer ≡ 0
+      → Recovered m (done (recover words) s)
+  -- what may come next in a history: any operation, with any words for its numbers, done, or interrupted and recovered from
+  pub any-numbers : (op : Operation) → NumbersFit op → Fit (arguments op)
+  pub done-next : (op : Operation) (s : State) → Fit (arguments op) → Next s (done op s)
+  pub crash-next : (op : Operation) (s s' : State) (k : ℕ) (m : List ℕ) → Fit (arguments op) → Interrupted op s k m → Recovered m s' → Next s s'
   -- an answered commit may be cut before and after, in every history
   pub commit-cut : (s : State) (t : Table) → Follows s t → (script h : ℕ) → h < headCount → perform (commit script h) s .answer ≡ 0
       → CommitCut s t script h

@@ -155,8 +155,11 @@ stores-counted n (store i v ∷ es) h =
 stores-counted n (barrier ∷ es) h = stores-counted n es (λ j u x. h j u (List·Memᴰ·tail x))
 
 pub script-laws : ScriptLaws
-unfolding apply decode carryOut
+unfolding apply decode carryOut encode
 script-laws = record {
+  none-words = refl;
+  store-words = λ i v es. refl;
+  barrier-words = λ es. refl;
   length-encode = length-encode;
   read-back = read-back;
   was-encoded = was-encoded;
@@ -168,5 +171,6 @@ script-laws = record {
   length-written = length-written;
   room-written = room-written;
   take-written = take-written;
+  drop-written = drop-written;
   stores-counted = stores-counted;
 }

@@ -4,7 +4,7 @@ use mathlib.Core.Bool.{Bool, true, false}
 use mathlib.Core.Logic.{_⊎_, _↔_, _≢_}
 use mathlib.Core.Option.{some}
 use mathlib.Core.List.{List, [], _∷_, _++_, map, List·Memᴰ}
-use Prim.Native.Nat.{ℕ, zero, suc, _+_, _*_, _^_, _≤_, _<_}
+use Prim.Native.Nat.{ℕ, zero, suc, _+_, _-_, _*_, _^_, _≤_, _<_}
 use lib.ListN.{length, set, take, drop, getElem?}
 use Rattle.memory.specs.Words.{reads, isSet, withBit, withoutBit, byte, withByte}
 use Rattle.memory.specs.Search.{first}
@@ -65,6 +65,10 @@ abbrev pub FitStores : List Entry → Type 0
 FitStores es = (i v : ℕ) → List·Memᴰ (store i v) es → v < 2 ^ 64
 
 pub record ScriptLaws : Type 0 where
+  -- an entry is two words: index and value for a store, 2^64 − 1 and 0 for a barrier
+  pub none-words : encode [] ≡ []
+  pub store-words : (i v : ℕ) (es : List Entry) → encode (store i v ∷ es) ≡ i ∷ v ∷ encode es
+  pub barrier-words : (es : List Entry) → encode (barrier ∷ es) ≡ (2 ^ 64 - 1) ∷ 0 ∷ encode es
   pub length-encode : (es : List Entry) → length (encode es) ≡ 2 * length es
   -- what is encoded is read back, and what is read back was encoded
   pub read-back : (n : ℕ) (es : List Entry) → Inside n es → decode n (encode es) ≡ some es
@@ -81,6 +85,8 @@ pub record ScriptLaws : Type 0 where
   -- a buffer that keeps its length has room for them, and its first words are theirs
   pub room-written : (es : List Entry) (buffer : List ℕ) → length (written es buffer) ≡ length buffer → 2 * length es ≤ length buffer
   pub take-written : (es : List Entry) (buffer : List ℕ) → take (2 * length es) (written es buffer) ≡ encode es
+  -- its other words stay
+  pub drop-written : (es : List Entry) (buffer : List ℕ) → drop (2 * length es) (written es buffer) ≡ drop (2 * length es) buffer
   -- the stores counted in words are those of the entries
   pub stores-counted : (n : ℕ) (es : List Entry) → Inside n es → storesIn (encode es) ≡ storeCount es
 

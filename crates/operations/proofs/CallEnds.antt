@@ -6,10 +6,11 @@ use mathlib.Core.Option.{some}
 use mathlib.Core.List.{List, [], _∷_, List·Memᴰ, List·Memᴰ·head, List·Memᴰ·tail, List·Memᴰ·not-nil}
 use Prim.Native.Nat.{ℕ, _≤_}
 use native.Mathlib.Omega.{arith}
-use lib.ListN.{length}
-use lib.Seq.{take-append-seam}
+use lib.ListN.{length, drop}
+use lib.Seq.{take-append-seam, drop-at}
+use native.Mathlib.Decide.{ℕ-discrete}
 use borrow.Author.Tests.{ne-eqb}
-use Rattle.tree.specs.Memory.{reads, encode, decode, segmented, carryOut, Inside}
+use Rattle.tree.specs.Memory.{reads, encode, written, decode, segmented, carryOut, Inside}
 use Rattle.tree.specs.Test.{holds}
 use Rattle.tree.specs.declared.layout.Geometry.{Geometry}
 use Rattle.tree.specs.Layout.{badImage, mapWords, geometryOf, badEdition}
@@ -23,9 +24,10 @@ use Rattle.book.specs.Checks.{refusals}
 use Rattle.book.specs.Perform.{granted, leaves, clears, leftBy, perform}
 use Rattle.book.specs.Demands.{Leaves, as-before, map-cleared}
 use Rattle.book.proofs.Demands.{demand1, scripts}
+use Rattle.book.proofs.Due.{refusals-due}
 use Rattle.book.proofs.Performed.{answer-is, work-granted, work-refused}
 use Rattle.operations.specs.Ends.{Buffers, state, Ends, ended, found, ends}
-use Rattle.operations.specs.Chain.{Counted, nothing, script-words, number-alone, frames, counted, wordsIn, framesIn, valueIn, Answered, Refused, OtherMap, by-format, by-recover, by-open, by-claim, by-retire, by-tidy, Cleared, Clears, Unread, Fits}
+use Rattle.operations.specs.Chain.{Counted, nothing, script-words, number-alone, frames, counted, wordsIn, framesIn, valueIn, Answered, Tells, Refused, OtherMap, by-format, by-recover, by-open, by-claim, by-retire, by-tidy, Cleared, Clears, Unread, Fits}
 use Rattle.operations.proofs.Endings.{refused as ends-refused, done as ends-done}
 
 -- ---- what is handed back
@@ -92,6 +94,14 @@ module _ (op : Operation) (s : State) (b : Buffers) where
   unfolding ends found
   nodes-ends = refl
 
+  script-ends : ends op s b .buffers .script ≡ written (segmented (perform op s .work .script)) (b .script)
+  unfolding ends found
+  script-ends = refl
+
+  list-ends : ends op s b .buffers .list ≡ listed (perform op s .work .handed .listing) (b .list)
+  unfolding ends found
+  list-ends = refl
+
   pub copy-ends : ends op s b .buffers .copy ≡ copyAfter (perform op s .work .handed .copy) (b .copy)
   unfolding ends found
   copy-ends = refl
@@ -113,9 +123,6 @@ module _ (op : Operation) (s : State) (b : Buffers) (h : perform op s .answer �
         carried-out = rw (hands-over .0, after-ends op s b) (good .carried-out h);
         pool = ap (λ (x : State). x .pool) (after-ends op s b);
         heads = ap (λ (x : State). x .heads) (after-ends op s b);
-        places-left = left-ends op s b;
-        path-nodes = nodes-ends op s b;
-        copied = λ ws e. copy-ends op s b ∙ ap (λ o. copyAfter o (b .copy)) e;
       }
 
 -- ---- refused
@@ -142,6 +149,41 @@ module _ (op : Operation) (s : State) (b : Buffers) (h : perform op s .answer �
         after = rw (d .no-store) (ap (λ (im : List ℕ). state im (perform op s .work .after .pool) (perform op s .work .after .heads))
             (sym (segment-laws .apply-none (perform op s .work .after .image))));
         left = d .left;
+      }
+
+-- ---- answered or refused
+
+-- the list's words after the frames stay
+drop-listed : (fs buffer : List ℕ) → drop (length fs) (listed fs buffer) ≡ drop (length fs) buffer
+unfolding listed
+drop-listed fs buffer = drop-at fs _ _ refl
+
+module _ (op : Operation) (s : State) (b : Buffers) where
+  handed-over : HandsOver op (perform op s .work) (ends op s b)
+  handed-over = elim (ℕ-discrete (perform op s .answer) 0) [
+    | yes h ↦ hands-over op s b h
+    | no h ↦
+        let d = demand1 .refused op s h in
+        let n = nothing-over (counted op) (ends op s b) (refused op s b h .count) in
+        rw (d .no-store, d .none-handed) (n .0 ∙ no-words, n .1, n .2)
+  ]
+
+  pub tells : Tells op s b (ends op s b)
+  tells =
+      let o = handed-over in
+      let es = segmented (perform op s .work .script) in
+      record {
+        number-due = rw (answer-ends op s b) (refusals-due op s);
+        words = o .0;
+        value = o .1;
+        listing = o .2;
+        places-left = left-ends op s b;
+        path-nodes = nodes-ends op s b;
+        after = after-ends op s b;
+        copied = λ ws e. copy-ends op s b ∙ ap (λ o. copyAfter o (b .copy)) e;
+        copy-stays = λ e. copy-ends op s b ∙ ap (λ o. copyAfter o (b .copy)) e;
+        script-tail = rw (o .0, script-ends op s b, script-laws .length-encode es) (script-laws .drop-written es (b .script));
+        list-tail = rw (o .2, list-ends op s b) (drop-listed (perform op s .work .handed .listing) (b .list));
       }
 
 -- ---- the scratch map

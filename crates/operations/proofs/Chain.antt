@@ -23,9 +23,9 @@ use Rattle.book.proofs.Demands.{demand1, demand2}
 use Rattle.book.proofs.Done.{done-same}
 use Rattle.book.proofs.Performed.{answer-is}
 use Rattle.operations.specs.Ends.{Buffers, state, Ends, ended, ends}
-use Rattle.operations.specs.Chain.{counted, framesIn, valueIn, next, Fits, OtherBuffer, another-length, to-format, Called, with-its-map, with-another, afterCall, GoesOn, Chain}
+use Rattle.operations.specs.Chain.{counted, next, Fits, OtherBuffer, another-length, to-format, Called, with-its-map, with-another, afterCall, GoesOn, Chain}
 use Rattle.operations.proofs.Endings.{refused as ends-refused}
-use Rattle.operations.proofs.CallEnds.{none-carried, nothing-over, answer-ends, hands-over, answered, refused, scratch-cleared, scratch-left, one-to-three, unread}
+use Rattle.operations.proofs.CallEnds.{none-carried, nothing-over, answer-ends, tells, answered, refused, scratch-cleared, scratch-left, one-to-three, unread}
 
 -- ---- the next state
 
@@ -34,32 +34,14 @@ nothing-carried : (m : List ℕ) → carry m [] .image ≡ m
 unfolding carry
 nothing-carried m = elim (test (holds (badImage (length m) (geometryOf (reads m))))) [ inl e ↦ rw e refl | inr e ↦ rw e (none-carried m) ]
 
--- answered or refused, the driver is told the value and the frames of the operation's work, and comes to the state of the step
-pub record Told (op : Operation) (s : State) (e : Ends) : Type 0 where
-  value : valueIn (counted op) e ≡ perform op s .work .handed .value
-  listing : framesIn (counted op) e ≡ perform op s .work .handed .listing
-  pub step : next op e ≡ done op s
-
-pub told : (op : Operation) (s : State) (b : Buffers) → Fits op s → Told op s (ends op s b)
-told op s b fit = elim (test (eqb (perform op s .answer) 0)) [
-  | inl t ↦
-      let h = eqb-true (perform op s .answer) 0 t in
-      let a = answered op s b h fit in
-      record {
-        value = hands-over op s b h .1;
-        listing = hands-over op s b h .2;
-        step = rw (a .carried-out, a .pool, a .heads) refl;
-      }
+-- answered or refused, the driver comes to the state of the step
+pub steps : (op : Operation) (s : State) (b : Buffers) → Fits op s → next op (ends op s b) ≡ done op s
+steps op s b fit = elim (test (eqb (perform op s .answer) 0)) [
+  | inl t ↦ let a = answered op s b (eqb-true (perform op s .answer) 0 t) fit in rw (a .carried-out, a .pool, a .heads) refl
   | inr t ↦
-      let h = eqb-false (perform op s .answer) 0 t in
-      let d = demand1 .refused op s h in
-      let r = refused op s b h in
+      let r = refused op s b (eqb-false (perform op s .answer) 0 t) in
       let n = nothing-over (counted op) (ends op s b) (r .count) in
-      record {
-        value = n .1 ∙ sym (ap (λ x. x .value) (d .none-handed));
-        listing = n .2 ∙ sym (ap (λ x. x .listing) (d .none-handed));
-        step = rw (n .0, nothing-carried (ends op s b .after .image)) (r .after);
-      }
+      rw (n .0, nothing-carried (ends op s b .after .image)) (r .after)
 ]
 
 -- ---- in a history, with the book's map
@@ -67,12 +49,12 @@ told op s b fit = elim (test (eqb (perform op s .answer) 0)) [
 goes-on : (op : Operation) (s : State) (t : Table) (b : Buffers) → Follows s t → Fits op s → GoesOn op s t (ends op s b) (next op (ends op s b))
 goes-on op s t b f fit =
     let a = demand2 .alike s t f op (fit .numbers) in
-    let d = told op s b fit in
+    let d = tells op s b in
     record {
       answer = answer-ends op s b ∙ a .answer;
       value = d .value ∙ a .value;
       listing = rw (d .listing) (a .listing);
-      follows = rw (d .step) (performed f op (fit .numbers));
+      follows = rw (steps op s b fit) (performed f op (fit .numbers));
     }
 
 -- ---- with another buffer
@@ -172,7 +154,7 @@ format-goes-on words table slots nodes s t map b {e} f fit q h =
       answer = answer;
       value = own .value;
       listing = own .listing;
-      follows = rw (format-table words table slots nodes s t (sym answer ∙ h), q, told op s' b fit' .step) (started (formatted words table slots nodes s' (fit .image) h'));
+      follows = rw (format-table words table slots nodes s t (sym answer ∙ h), q, steps op s' b fit') (started (formatted words table slots nodes s' (fit .image) h'));
     }
 
 -- one that is lent a map of another length is never answered
@@ -192,6 +174,7 @@ called-goes-on op s t b e f fit (with-another map o q) = elim (test (eqb (e .ans
 
 pub chain : Chain
 chain = record {
+  tells = λ op s b e q. rw q (tells op s b);
   answered = λ op s b e fit q h. rw q (answered op s b (sym (answer-ends op s b) ∙ sym (ap (λ (x : Ends). x .answer) q) ∙ h) fit);
   refused = λ op s b e q h. rw q (refused op s b (λ z. h (ap (λ (x : Ends). x .answer) q ∙ answer-ends op s b ∙ z)));
   scratch-cleared = λ op s b e q c. rw q (scratch-cleared op s b (rw q at c));
@@ -200,10 +183,10 @@ chain = record {
   starts = λ words table slots nodes s b e fit q h.
       let op = format words table slots nodes in
       let h' : perform op s .answer ≡ 0 = sym (answer-ends op s b) ∙ sym (ap (λ (x : Ends). x .answer) q) ∙ h in
-      rw (q, told op s b fit .step) (started (formatted words table slots nodes s (fit .image) h'));
+      rw (q, steps op s b fit) (started (formatted words table slots nodes s (fit .image) h'));
   starts-on = λ words s b e fit q h.
       let op = recover words in
       let h' : perform op s .answer ≡ 0 = sym (answer-ends op s b) ∙ sym (ap (λ (x : Ends). x .answer) q) ∙ h in
-      rw (q, told op s b fit .step) (started (demand2 .starts-on words s (fit .image) h' (done op s) (at-once words s h')));
+      rw (q, steps op s b fit) (started (demand2 .starts-on words s (fit .image) h' (done op s) (at-once words s h')));
   goes-on = called-goes-on;
 }

@@ -9,7 +9,8 @@ use native.Mathlib.Decide.{ℕ-discrete}
 use lib.ListN.{length}
 use lib.Dec.{eqb}
 use borrow.Author.Tests.{ne-eqb}
-use Rattle.tree.specs.Memory.{decode, segmented}
+use Rattle.tree.specs.Layout.{mapWords, geometryOf}
+use Rattle.tree.specs.Memory.{reads, decode, segmented}
 use Rattle.tree.specs.Fingerprint.{isGiven}
 use Rattle.tree.specs.Pool.{clearMap}
 use Rattle.tree.proofs.Memory.{segment-laws}
@@ -29,11 +30,12 @@ use Rattle.book.proofs.Performed.{work-granted}
 use Rattle.book.proofs.Done.{refused-image}
 use Rattle.book.proofs.Recovery.{recover-writes}
 use Rattle.book.proofs.Held.{idle-held}
+use Rattle.book.proofs.Witnesses.{not-steady}
 use Rattle.operations.specs.Ends.{Buffers, noBuffers, state, Ends, ends}
-use Rattle.operations.specs.Chain.{counted, wordsIn, Fits, OtherBuffer, another-length, to-format, Called, with-its-map, with-another, afterCall}
-use Rattle.operations.specs.Driver.{CutShort, RecoverEnds, Retries, none-yet, refused, cut-short, Recovers, Whole, as-before, as-after, Driven, formats, finds, calls, loses-power, KeptSmall, Survives, Stands, Driver}
+use Rattle.operations.specs.Chain.{OtherMap, by-recover as lent-recover, by-open as lent-open, by-claim as lent-claim, by-retire as lent-retire, by-tidy as lent-tidy, counted, wordsIn, Fits, OtherBuffer, another-length, to-format, Called, with-its-map, with-another, afterCall}
+use Rattle.operations.specs.Driver.{CutShort, RecoverEnds, Retries, none-yet, refused, cut-short, Recovers, Whole, as-before, as-after, Driven, formats, finds, calls, loses-power, KeptSmall, Survives, Stands, BorrowsMap, by-recover, by-open, by-claim, by-retire, by-tidy, Driver}
 use Rattle.operations.proofs.CallEnds.{no-entries, nothing-over, answer-ends, after-ends, copy-ends, nodes-ends, one-to-three}
-use Rattle.operations.proofs.Chain.{told, sent-back, sent-back-next, format-table, chain}
+use Rattle.operations.proofs.Chain.{steps, sent-back, sent-back-next, format-table, chain}
 
 -- ---- power lost
 
@@ -201,7 +203,7 @@ another-reel {s = s} {t} reel f fit map b (to-format {words} {slots} {nodes} {ta
 -- so the driver comes to the state of the step
 called-next : {op : Operation} {s : State} {t : Table} {b : Buffers} {e : Ends} (reel : ℕ) → Follows s t → Fits op s → (c : Called op s b e)
     → isPresent (replied op s t .work .after) reel ≡ true → afterCall c ≡ done op s
-called-next {op} {s} {b = b} reel f fit (with-its-map q) p = rw q (told op s b fit .step)
+called-next {op} {s} {b = b} reel f fit (with-its-map q) p = rw q (steps op s b fit)
 called-next {op} {s} {b = b} reel f fit (with-another map o q) p =
     let z = another-reel reel f fit map b o q p in
     rw (ne-eqb _ 0 z) (sent-back-next (rw (← q) at (sent-back {op = op} {s = s} map b o)) z)
@@ -332,9 +334,17 @@ recovered-recovers r =
 copy-of : {op : Operation} {s : State} {ws : List ℕ} → Writes op s ws → perform op s .work .handed .copy ≡ some ws
 copy-of (written h c) = c
 
+other-map : {image : List ℕ} {op : Operation} {words : ℕ} → BorrowsMap op words → words ≢ mapWords (geometryOf (reads image)) → OtherMap image op
+other-map by-recover d = lent-recover d
+other-map by-open d = lent-open d
+other-map by-claim d = lent-claim d
+other-map by-retire d = lent-retire d
+other-map by-tidy d = lent-tidy d
+
 pub driver : Driver
 driver = record {
   stands = stands;
+  starts = λ words table slots nodes s b e fit q h. formats words table slots nodes s b e fit q h;
   starts-on = λ image map heads e fit q h s r.
       let answered = sym (answer-ends (recover (length map)) (state image map heads) noBuffers) ∙ sym (ap (λ (x : Ends). x .answer) q) ∙ h in
       subst (Driven s) (idle-held image) (finds (demand2 .shown (length map) (state image map heads) fit answered) r);
@@ -351,7 +361,13 @@ driver = record {
       ap (λ (x : Ends). x .answer) q ∙ answer-ends (recover (length map)) (state m' map heads) noBuffers
       ∙ demand2 .accepted m m' t v (retries-attempts r) (length map) (state m' map heads) refl;
   all-met = record {
+    every-cut = λ op s e k itself m es h l o d c.
+        record { unsteady = not-steady h; itself = itself; same-length = l; old-or-new = o; entries = es; decoded = d; cut = c };
     cuts = λ op s b e k m fit q c. interrupted-cut (rw q (performs op s b fit)) c;
+    any-words = λ op s image heads numbers. record { image = image; heads = heads; numbers = numbers };
+    its-map = λ op s b e q. with-its-map q;
+    other-length = λ op words s b e borrows d map q. with-another map (another-length (other-map borrows d)) q;
+    format-lent = λ words slots nodes table s b e map q. with-another map to-format q;
     retries = λ m m' a. attempts-retries a;
     recovers = λ m s' r. recovered-recovers r;
   };

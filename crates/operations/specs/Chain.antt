@@ -3,17 +3,18 @@
 use mathlib.Core.Path.{_≡_}
 use mathlib.Core.Bool.{cond}
 use mathlib.Core.Logic.{_⊎_, _≢_}
-use mathlib.Core.Option.{some}
+use mathlib.Core.Option.{none, some}
 use mathlib.Core.List.{List, [], _∷_, List·Memᴰ}
 use Prim.Native.Nat.{ℕ, _<_}
-use lib.ListN.{length, take}
+use lib.ListN.{length, take, drop}
 use lib.Dec.{eqb}
-use Rattle.tree.specs.Memory.{reads, segmented, decode, Fit}
+use Rattle.tree.specs.Memory.{reads, segmented, encode, decode, Fit}
 use Rattle.tree.specs.Layout.{mapWords, geometryOf}
 use Rattle.tree.specs.Fingerprint.{isGiven}
 use Rattle.book.specs.State.{State, Operation, format, recover, openReel, claim, fill, commit, abandon, remove, retire, tidy, query, Query, has, list, convert, arguments}
 use Rattle.book.specs.Perform.{perform}
 use Rattle.book.specs.CarryOut.{carry, carried}
+use Rattle.book.specs.Due.{First, due}
 use Rattle.book.specs.Table.{Table, emptyTable}
 use Rattle.book.specs.Agrees.{EachOnce}
 use Rattle.book.specs.Held.{tableOf}
@@ -79,12 +80,26 @@ pub record Answered (op : Operation) (s : State) (e : Ends) : Type 0 where
   pub carried-out : carry (e .after .image) (wordsIn (counted op) e) ≡ carried 0 (done op s .image)
   pub pool : e .after .pool ≡ done op s .pool
   pub heads : e .after .heads ≡ done op s .heads
-  -- of places left the driver is told what `PlacesLeft` (book, specs) says of that image and these heads
+
+-- what the driver is told by every call, answered or refused, over any state: all that it is handed, and what stays of its buffers
+pub record Tells (op : Operation) (s : State) (b : Buffers) (e : Ends) : Type 1 where
+  -- the number is the one that is due
+  pub number-due : First (due op s) (e .answer)
+  -- the words are those of the stores and barriers, the value and the frames those of which `Fixed` (book, specs) speaks
+  pub words : wordsIn (counted op) e ≡ encode (segmented (perform op s .work .script))
+  pub value : valueIn (counted op) e ≡ perform op s .work .handed .value
+  pub listing : framesIn (counted op) e ≡ perform op s .work .handed .listing
+  -- of places left what `PlacesLeft` (book, specs) says, of a frame's path what `PathNodes` does
   pub places-left : e .places-left ≡ perform op s .places-left
-  -- and of a frame's path what `PathNodes` (book, specs) says
   pub path-nodes : e .path-nodes ≡ perform op s .work .handed .path-nodes
-  -- and in the second image it finds the words of which `Conversions` (book, specs) speaks
+  -- in the second image the words of which `Conversions` (book, specs) speaks; where there are none it stays
   pub copied : (ws : List ℕ) → perform op s .work .handed .copy ≡ some ws → e .buffers .copy ≡ ws
+  pub copy-stays : perform op s .work .handed .copy ≡ none → e .buffers .copy ≡ b .copy
+  -- image, map and heads as it leaves them, before the words are carried out
+  pub after : e .after ≡ perform op s .work .after
+  -- of script and list the words after those handed over stay
+  pub script-tail : drop (length (wordsIn (counted op) e)) (e .buffers .script) ≡ drop (length (wordsIn (counted op) e)) (b .script)
+  pub list-tail : drop (length (framesIn (counted op) e)) (e .buffers .list) ≡ drop (length (framesIn (counted op) e)) (b .list)
 
 pub record Refused (op : Operation) (s : State) (b : Buffers) (e : Ends) : Type 0 where
   pub count : e .count ≡ 0
@@ -152,7 +167,8 @@ pub record GoesOn (op : Operation) (s : State) (t : Table) (e : Ends) (s' : Stat
   pub listing : EachOnce (framesIn (counted op) e) (replied op s t .work .handed .listing)
   pub follows : Follows s' (replied op s t .work .after)
 
-pub record Chain : Type 0 where
+pub record Chain : Type 1 where
+  pub tells : (op : Operation) (s : State) (b : Buffers) (e : Ends) → e ≡ ends op s b → Tells op s b e
   pub answered : (op : Operation) (s : State) (b : Buffers) (e : Ends) → Fits op s → e ≡ ends op s b → e .answer ≡ 0 → Answered op s e
   pub refused : (op : Operation) (s : State) (b : Buffers) (e : Ends) → e ≡ ends op s b → e .answer ≢ 0 → Refused op s b e
   pub scratch-cleared : (op : Operation) (s : State) (b : Buffers) (e : Ends) → e ≡ ends op s b → Clears op e

@@ -11,7 +11,7 @@ use lib.Dec.{eqb}
 use Rattle.tree.specs.Memory.{reads, Entry, decode, CrashImage, passed, Fit}
 use Rattle.tree.specs.Layout.{mapWords, geometryOf}
 use Rattle.tree.specs.Fingerprint.{isGiven}
-use Rattle.book.specs.State.{State, Operation, format, recover, query, has, convert, arguments}
+use Rattle.book.specs.State.{State, Operation, format, recover, openReel, claim, retire, tidy, query, has, convert, arguments}
 use Rattle.book.specs.Table.{Table, isPresent, emptyTable, allIdle}
 use Rattle.book.specs.Agrees.{Shows, Agrees}
 use Rattle.book.specs.Held.{tableOf}
@@ -121,10 +121,30 @@ pub record Stands (s : State) (t : Table) : Type 0 where
 
 -- ---- not too small
 
+-- the operation borrows the book's map, of so many words
+pub data BorrowsMap : Operation → (words : ℕ) → Type 0 where
+  by-recover : {words : ℕ} → BorrowsMap (recover words) words
+  by-open : {words script reel : ℕ} → BorrowsMap (openReel words script reel) words
+  by-claim : {words script h reel f : ℕ} → BorrowsMap (claim words script h reel f) words
+  by-retire : {words scratch script reel : ℕ} → BorrowsMap (retire words scratch script reel) words
+  by-tidy : {words scratch script reel : ℕ} → BorrowsMap (tidy words scratch script reel) words
+
 -- whatever the histories of the demands have, a driver can meet: each crash, each recovery refused or cut short, each that ends
 pub record AllMet : Type 0 where
+  -- in its own terms: every image that the words of a call can leave, cut after any number of entries, but for a format that is answered
+  pub every-cut : (op : Operation) (s : State) (e : Ends) (k : ℕ) (itself m : List ℕ) (es : List Entry)
+      → ((words slots nodes : ℕ) (table : List ℕ) → op ≡ format words table slots nodes → e .answer ≢ 0) → length itself ≡ length (s .image)
+      → ((i : ℕ) → (reads itself i ≡ reads (s .image) i) ⊎ (reads itself i ≡ reads (e .after .image) i))
+      → decode (length (s .image)) (wordsIn (counted op) e) ≡ some es → CrashImage itself es k m → CutShort op s e k m
   pub cuts : (op : Operation) (s : State) (b : Buffers) (e : Ends) (k : ℕ) (m : List ℕ) → Fits op s → e ≡ ends op s b → Interrupted op s k m
       → CutShort op s e k m
+  -- every call: with words of 64 bits, with the book's map, with one of another length, a format with any
+  pub any-words : (op : Operation) (s : State) → Fit (s .image) → Fit (s .heads) → Fit (arguments op) → Fits op s
+  pub its-map : (op : Operation) (s : State) (b : Buffers) (e : Ends) → e ≡ ends op s b → Called op s b e
+  pub other-length : (op : Operation) (words : ℕ) (s : State) (b : Buffers) (e : Ends) → BorrowsMap op words → words ≢ mapWords (geometryOf (reads (s .image)))
+      → (map : List ℕ) → e ≡ ends op (state (s .image) map (s .heads)) b → Called op s b e
+  pub format-lent : (words slots nodes : ℕ) (table : List ℕ) (s : State) (b : Buffers) (e : Ends) (map : List ℕ)
+      → e ≡ ends (format words table slots nodes) (state (s .image) map (s .heads)) b → Called (format words table slots nodes) s b e
   pub retries : (m m' : List ℕ) → Attempts m m' → Retries m m'
   pub recovers : (m : List ℕ) (s' : State) → Recovered m s' → Recovers m s'
 
@@ -132,6 +152,9 @@ pub record AllMet : Type 0 where
 -- until this answers 0, stands with its table, wherever it has come to
 pub record Driver : Type 0 where
   pub stands : (s : State) (t : Table) → Driven s t → Stands s t
+  -- a format that is answered, over any memory, any map and any heads, is a start
+  pub starts : (words : ℕ) (table : List ℕ) (slots nodes : ℕ) (s : State) (b : Buffers) (e : Ends) → Fits (format words table slots nodes) s
+      → e ≡ ends (format words table slots nodes) s b → e .answer ≡ 0 → Driven (next (format words table slots nodes) e) (emptyTable (isGiven table) slots nodes)
   -- where it finds an image that recover accepts, it may start there, with the one that ends, from the frames held there
   pub starts-on : (image map heads : List ℕ) (e : Ends) → Fit image → RecoverEnds image map heads e → e .answer ≡ 0
       → (s : State) → Recovers image s → Driven s (tableOf image)

@@ -3,3 +3,4 @@ pub mod FullReel
 pub mod TwoInTree
 pub mod CutClaim
 pub mod TidyRoom
+pub mod HighNode

@@ -178,4 +178,16 @@ rule-lt m f = elim (test (hasOwn m)) [
 ]
 
 pub fingerprint-laws : FingerprintLaws
-fingerprint-laws = record { table-once = table-once; fits = λ t k f. folded-lt t k f; alike = folded-alike; by-each = λ t. folded-by-each t; rule-fits = rule-lt }
+unfolding tableEntry folded fingerprint ruleFor
+fingerprint-laws = record {
+  entries = λ i. refl;
+  editions = (refl, refl, refl, refl);
+  fold-none = λ table f. refl;
+  fold-next = λ table k f. refl;
+  by-rule = λ r f. refl;
+  table-once = table-once;
+  fits = λ t k f. folded-lt t k f;
+  alike = folded-alike;
+  by-each = λ t. folded-by-each t;
+  rule-fits = rule-lt;
+}

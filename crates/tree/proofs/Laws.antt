@@ -1,9 +1,12 @@
 -- The laws that specs/Laws.antt and specs/ConvertLaws.antt state, by their names.
+use mathlib.Core.Path.{refl}
+use native.Mathlib.Omega.{arith}
 use Rattle.memory.specs.Words.{Memory}
 use Rattle.tree.specs.declared.layout.Geometry.{Geometry}
 use Rattle.tree.specs.Fingerprint.{Rule}
 use Rattle.tree.specs.Sound.{Sound}
-use Rattle.tree.specs.Laws.{ChildLaws, ReachLaws, NodeLaws, ChangeLaws}
+use Rattle.tree.specs.Layout.{geometryOf}
+use Rattle.tree.specs.Laws.{LayoutLaws, ChildLaws, ReachLaws, NodeLaws, ChangeLaws}
 use Rattle.tree.proofs.Ways.{child-lt, child-base, child-remainder, same-way, length-way}
 use Rattle.tree.proofs.Reach.{one-node, depth, slot-filled}
 use Rattle.tree.proofs.Nodes.{wellFormed-facts}
@@ -29,6 +32,21 @@ pub use Rattle.tree.proofs.Pool.{pool-laws}
 pub use Rattle.tree.proofs.Level.{level-laws}
 pub use Rattle.tree.proofs.Same.{same-laws}
 pub use Rattle.tree.proofs.ConvertedBook.{convert-laws, converted-image}
+
+pub layout-laws : (g : Geometry) → LayoutLaws g
+unfolding geometryOf
+layout-laws g = record {
+  reel = λ s. refl;
+  root = λ s. omega arith;
+  next = λ n. refl;
+  locate = λ n. refl;
+  set = λ n. refl;
+  level = λ n. refl;
+  size = λ n. refl;
+  fingerprints = λ n p. refl;
+  frames = λ n p. refl;
+  geometry = λ m. (refl, refl);
+}
 
 pub child-laws : ChildLaws
 child-laws = record { below = child-lt; digit = child-base; remainder = child-remainder; same-way = same-way; length-way = length-way }

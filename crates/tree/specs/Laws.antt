@@ -5,7 +5,8 @@ use mathlib.Core.Bool.{Bool, true, false, not, cond}
 use mathlib.Core.Logic.{_⊎_, _↔_, _≢_}
 use mathlib.Core.Option.{none, some}
 use mathlib.Core.List.{List, [], _∷_, _++_, List·Memᴰ}
-use Prim.Native.Nat.{ℕ, suc, _+_, _-_, _/_, _%_, _^_, _≤_, _<_}
+use Prim.Native.Nat.{ℕ, suc, _+_, _-_, _*_, _/_, _%_, _^_, _≤_, _<_}
+use lib.Bits.{bitXor}
 use lib.ListN.{length, getElem?}
 use lib.Dec.{ltb}
 use Rattle.memory.specs.Words.{Memory, byte, marked}
@@ -14,7 +15,7 @@ use Rattle.memory.specs.Apply.{isSome}
 use Rattle.tree.specs.Test.{holds}
 use Rattle.tree.specs.Lists.{Distinct}
 use Rattle.tree.specs.declared.layout.Geometry.{Geometry}
-use Rattle.tree.specs.Layout.{tableAt, reelAt, rootAt, nextAt, locateAt, setAt, levelAt, sizeAt}
+use Rattle.tree.specs.Layout.{tableAt, reelAt, rootAt, nextAt, locateAt, setAt, levelAt, sizeAt, fingerprintsAt, frameAt, geometryOf}
 use Rattle.tree.specs.Path.{fanout, child, wayOf, bitsTo}
 use Rattle.tree.specs.Fingerprint.{Rule, folded, fingerprint, tableEntry, theTable, ruleFor, entryIn, ownRule, hasOwn, packed, storedTable, ruleOf, hasEvery, badOwn, badGiven, OnceEach, GoodTable, LacksByte, BadOwn}
 use Rattle.tree.specs.Node.{childOf, wellFormed, held, frame}
@@ -30,6 +31,22 @@ use Rattle.tree.specs.Groups.{firstGroup, EmptyGroup, NoGroup, FirstGrou
 use Rattle.tree.specs.Outline.{outline}
 use Rattle.tree.specs.Same.{Same, Stores}
 use Rattle.tree.specs.Changes.{Opens, NewRoot, Links, InGroup, Grown, Pruned, Retired, Commits, Committed, Removes, Removed}
+
+-- ---- the layout
+
+-- where each word stands, by the paper's numbers
+pub record LayoutLaws (g : Geometry) : Type 0 where
+  pub reel : (s : ℕ) → reelAt s ≡ 64 + 2 * s
+  pub root : (s : ℕ) → rootAt s ≡ 65 + 2 * s
+  pub next : (n : ℕ) → nextAt g n ≡ 64 + 2 * g .slots + 80 * n
+  pub locate : (n : ℕ) → locateAt g n ≡ nextAt g n + 1
+  pub set : (n : ℕ) → setAt g n ≡ nextAt g n + 2
+  pub level : (n : ℕ) → levelAt g n ≡ nextAt g n + 3
+  pub size : (n : ℕ) → sizeAt g n ≡ nextAt g n + 4
+  pub fingerprints : (n p : ℕ) → fingerprintsAt g n p ≡ nextAt g n + 8 + p / 8
+  pub frames : (n p : ℕ) → frameAt g n p ≡ nextAt g n + 16 + p
+  -- R and N are words 1 and 2
+  pub geometry : (m : Memory) → (geometryOf m .slots ≡ m 1) × (geometryOf m .nodes ≡ m 2)
 
 -- ---- children and ways
 
@@ -76,6 +93,13 @@ pub record SlotLaws (g : Geometry) (m : Memory) : Type 0 where
 -- ---- fingerprints
 
 pub record FingerprintLaws : Type 0 where
+  -- entry i of the paper's table; edition 1 folds four bytes, edition 2 eight
+  pub entries : (i : ℕ) → tableEntry i ≡ (167 * i + 13) % 256
+  pub editions : (ruleFor 1 .bytes ≡ 4) × (ruleFor 2 .bytes ≡ 8) × (ruleFor 1 .table ≡ tableEntry) × (ruleFor 2 .table ≡ tableEntry)
+  -- from 0, and for each byte in turn, lowest first, entry (h xor byte)
+  pub fold-none : (table : ℕ → ℕ) (f : ℕ) → folded table 0 f ≡ 0
+  pub fold-next : (table : ℕ → ℕ) (k f : ℕ) → folded table (suc k) f ≡ table (bitXor (folded table k f) (byte f k))
+  pub by-rule : (r : Rule) (f : ℕ) → fingerprint r f ≡ folded (r .table) (r .bytes) f
   -- in the paper's table every byte occurs once
   pub table-once : OnceEach tableEntry
   -- with such a table a fingerprint is a byte, whatever number of bytes is folded

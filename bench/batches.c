@@ -52,8 +52,19 @@ BATCH(retire, reelbook_retire(IMAGE, MAP, c->heads, SCRATCH, SCRIPT, b->reel, &b
 BATCH(tidy, reelbook_tidy(IMAGE, MAP, c->heads, SCRATCH, SCRIPT, b->reel, &b->number) ^ REELBOOK_NO_EMPTY_GROUP)
 #endif
 
+/* Builds before 5.2 have no Translate. */
+#ifdef REELBOOK_FLUSH
+#define MODULE b->module, MODULE_WORDS
+BATCH(translate_50, reelbook_translate(b->longest, 50, MODULE, b->image_words, &b->number))
+BATCH(translate_4, reelbook_translate(b->shortest, 4, MODULE, b->image_words, &b->number))
+#else
+#define translate_50 NULL
+#define translate_4 NULL
+#endif
+
 const struct build build = {
     .run = {[FORMAT] = format, [RECOVER] = recover, [OPEN] = open_reel, [CLAIM] = claim, [FILL] = fill, [COMMIT] = commit,
-            [ABANDON] = abandon, [REMOVE] = take_out, [HIT] = has, [MISS] = has, [LIST] = list, [RETIRE] = retire, [TIDY] = tidy},
+            [ABANDON] = abandon, [REMOVE] = take_out, [HIT] = has, [MISS] = has, [LIST] = list, [RETIRE] = retire, [TIDY] = tidy,
+            [TRANSLATE_50] = translate_50, [TRANSLATE_4] = translate_4},
     .tells_nodes = REELBOOK_VERSION_MAJOR >= 5,
 };

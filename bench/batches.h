@@ -4,9 +4,10 @@
 
 #include "reelbook.h"
 
-enum operation { FORMAT, RECOVER, OPEN, CLAIM, FILL, COMMIT, ABANDON, REMOVE, HIT, MISS, LIST, RETIRE, TIDY, OPERATIONS };
+enum operation { FORMAT, RECOVER, OPEN, CLAIM, FILL, COMMIT, ABANDON, REMOVE, HIT, MISS, LIST, RETIRE, TIDY, TRANSLATE_50,
+                 TRANSLATE_4, OPERATIONS };
 
-enum { SLOTS = 8, NODES = 128, MAP_WORDS = (NODES + 63) / 64, LIST_WORDS = 1024, CALLS = 64 };
+enum { SLOTS = 8, NODES = 128, MAP_WORDS = (NODES + 63) / 64, LIST_WORDS = 1024, MODULE_WORDS = 98, CALLS = 64 };
 
 /* What an operation changes is each call's own, so that all calls of a batch find the same. */
 struct call {
@@ -26,6 +27,7 @@ struct batch {
     uint64_t scratch[MAP_WORDS];
     uint64_t script[REELBOOK_SCRIPT_WORDS];
     uint64_t list[LIST_WORDS];
+    uint64_t longest[REELBOOK_SCRIPT_WORDS], shortest[4], module[MODULE_WORDS]; /* scripts to translate, and what they become */
     uint64_t number, left, nodes; /* what the last call handed back */
 };
 

@@ -41,7 +41,7 @@ static void map_file(struct book *b, const char *path) {
         fail(path, NULL);
     if (posix_fallocate(fd, 0, (off_t)(b->image_words * sizeof(uint64_t))) != 0)
         fail(path, "no room for the image; MEMORY= and DISK= take other folders");
-    if (medium_map(&b->medium, fd, b->image_words, 1) != 0)
+    if (medium_map(&b->medium, fd, b->image_words, 1, 0) != 0)
         fail(path, NULL);
     close(fd);
     unlink(path);

@@ -52,7 +52,7 @@ bench-operations: $(LIBRARY)
 	@mkdir -p build
 	@$(call make_batches,now,$(LIBRARY),include)
 	@$(if $(BEFORE),$(call make_batches,before,$(BEFORE),$(BEFORE_INCLUDE)))
-	@$(CC) $(WARNINGS) $(CFLAGS) -Iinclude -Itests -Wl,-z,now -o build/operations bench/operations.c $(PLACES:%=build/now-%.o) \
+	@$(CC) $(WARNINGS) $(CFLAGS) -Iinclude -Itests -Wl,-z,now -o build/operations bench/operations.c driver/medium.c $(PLACES:%=build/now-%.o) \
 	    $(if $(BEFORE),-DHAVE_BEFORE $(PLACES:%=build/before-%.o)) $(LIBRARY)
 	@$(RUN) build/operations
 

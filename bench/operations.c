@@ -8,6 +8,7 @@
  * Where code and stack lie makes more of a difference than most changes of the code. So each build is there four times, at four
  * places in a line of the cache, and each round has its stack elsewhere: the least counts. Linux on x86-64. */
 #define _GNU_SOURCE
+#include "../driver/medium.h"
 #include "batches.h"
 #include "traps.h"
 
@@ -21,7 +22,8 @@
 enum { PLACES = 4, ROUNDS = 128, TURN = 4, COUNTED = 8, PAGE = 4096, REEL = 1, OTHER_REEL = 2, HEAD = 0 };
 
 static const char *const names[OPERATIONS] = {"Format", "Recover",  "Open",      "Claim", "Fill",   "Commit",  "Abandon",
-                                              "Remove", "Has, hit", "Has, miss", "List",  "Retire", "Tidy, 18"};
+                                              "Remove", "Has, hit", "Has, miss", "List",  "Retire", "Tidy, 18",
+                                              "Translate, 50", "Translate, 4"};
 
 static const struct column {
     const char *name;
@@ -91,21 +93,44 @@ static void commit(struct call *c) {
     expect_done("commit", reelbook_commit(image, b.image_words, c->heads, b.script, REELBOOK_SCRIPT_WORDS, HEAD, &b.number));
 }
 
-/* A book with one reel of so many frames. */
-static void load(uint64_t frames) {
+/* A book with one reel, without frames. */
+static void start(void) {
     expect_done("format", reelbook_format(image, b.image_words, loaded.map, MAP_WORDS, loaded.heads, NULL, 0, SLOTS, NODES));
     expect_done("open",
                 reelbook_open(image, b.image_words, loaded.map, MAP_WORDS, b.script, REELBOOK_SCRIPT_WORDS, REEL, &b.number));
     carry_out();
-    for (uint64_t i = 0; i < frames; i++) {
-        loaded.frame = frame_number(i);
-        claim(&loaded);
-        carry_out();
-        fill(&loaded);
-        carry_out();
-        commit(&loaded);
-        carry_out();
-    }
+}
+
+static void add(uint64_t frame) {
+    loaded.frame = frame;
+    claim(&loaded);
+    carry_out();
+    fill(&loaded);
+    carry_out();
+    commit(&loaded);
+    carry_out();
+}
+
+/* A book with one reel of so many frames. */
+static void load(uint64_t frames) {
+    start();
+    for (uint64_t i = 0; i < frames; i++)
+        add(frame_number(i));
+}
+
+/* What Translate gets: the scripts of a claim that branches out into four children, and of a commit, a store and a barrier.
+ * Multiples of 8 agree in three bits and fill four levels. */
+static void make_scripts(void) {
+    start();
+    for (uint64_t i = 0; i < 256; i++)
+        add(8 * i);
+    memcpy(b.shortest, b.script, sizeof b.shortest);
+    loaded.frame = 8 * 256;
+    claim(&loaded);
+    if (b.number != REELBOOK_SCRIPT_WORDS)
+        fail("claim", "this is not the longest script");
+    memcpy(b.longest, b.script, sizeof b.longest);
+    memset(&loaded, 0, sizeof loaded);
 }
 
 /* What the calls of each operation find. Frames of all ages are removed and looked up, new ones claimed and missed. */
@@ -240,7 +265,7 @@ static double spread(const double *places) {
 static void print_row(enum operation o, results of, int digits) {
     size_t from = first_column(o);
     double of_now = spread(of[NOW]), of_before = spread(of[from]);
-    printf("%-9s", names[o]);
+    printf("%-13s", names[o]);
     for (size_t c = 0; c < from; c++)
         printf(" %9s", "-");
     for (size_t c = from; c < COLUMNS; c++)
@@ -253,13 +278,37 @@ static void print_row(enum operation o, results of, int digits) {
 }
 
 static void print(results values[OPERATIONS], int digits) {
-    printf("%-9s", "");
+    printf("%-13s", "");
     for (size_t c = 0; c < COLUMNS; c++)
         printf(" %9s", columns[c].name);
     printf("%s %9s %12s\n", HAS_BEFORE ? " now - before" : "", "own - now", "equal builds");
     for (enum operation o = 0; o < OPERATIONS; o++)
         print_row(o, values[o], digits);
     printf("\n");
+}
+
+/* A store, a flush of its line and a fence, as the driver makes them, each in another line of the cache. */
+static double time_barrier(void) {
+    struct medium m = {.words = formatted, .length = b.image_words, .barrier = BARRIER_FLUSH};
+    double least_time = 0;
+    for (uint64_t k = 0; k < ROUNDS * TURN; k++) {
+        double start_time = now();
+        for (size_t i = 0; i < CALLS; i++) {
+            medium_store(&m, i * REELBOOK_LINE_WORDS, k);
+            medium_barrier(&m);
+        }
+        double time = (now() - start_time) / CALLS;
+        if (k == 0 || time < least_time)
+            least_time = time;
+    }
+    return least_time;
+}
+
+static void print_beside_barrier(results ns[OPERATIONS]) {
+    double barrier = time_barrier();
+    printf("A barrier of the driver, with a store, one line flushed and a fence: %.1f ns.\n"
+           "Translate takes %.2f of one for 50 words, which have three barriers and six lines, and %.2f for 4 words.\n\n",
+           barrier, least(ns[TRANSLATE_50][NOW]) / barrier, least(ns[TRANSLATE_4][NOW]) / barrier);
 }
 
 int main(void) {
@@ -271,12 +320,14 @@ int main(void) {
     image = new_image();
     formatted = new_image();
     handle(SIGTRAP, on_step);
+    make_scripts();
     for (size_t i = 0; i < sizeof reels / sizeof reels[0]; i++) {
         load(reels[i]);
         prepare_calls(reels[i]);
         measure(values);
         printf("A reel of %" PRIu64 " frames. Nanoseconds for a call:\n\n", reels[i]);
         print(values, 1);
+        print_beside_barrier(values);
         if (i > 0)
             continue; /* instructions of the smaller reel alone: to count them takes long */
         count(values);

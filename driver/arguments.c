@@ -30,6 +30,10 @@ static const struct {
     [OPTION_CRASH_AFTER] = {"--crash-after", NULL, WITH, "K", 1,
                             "simulate a power failure after K entries of the command's scripts"},
     [OPTION_SEED] = {"--seed", NULL, WITH, "S", 1, "which of the stores since the last barrier are kept then"},
+    [OPTION_ENTRIES] = {"--entries", NULL, WITHOUT, NULL, 0,
+                        "tell at the end, on standard error, the stores, line flushes and barriers of the scripts"},
+    [OPTION_MODULE] = {"--module", NULL, WITHOUT, NULL, 0,
+                       "carry scripts out with line flushes, for a memory module whose barriers flush nothing"},
     [OPTION_WAIT] = {"--wait", NULL, PERHAPS, "SECONDS", 1, "wait for a book in use by another process, without end or so long"},
     [OPTION_HELP] = {"--help", "-h", WITHOUT, NULL, 0, "this text"},
 };

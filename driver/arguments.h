@@ -19,6 +19,8 @@ enum option {
     OPTION_OUTPUT,
     OPTION_CRASH_AFTER,
     OPTION_SEED,
+    OPTION_ENTRIES,
+    OPTION_MODULE,
     OPTION_WAIT,
     OPTION_HELP,
     OPTIONS
@@ -30,6 +32,7 @@ struct arguments {
     const char *values[OPTIONS]; /* NULL if it was not given */
     uint64_t numbers[OPTIONS];   /* of those whose value is a number; 0 if none was given */
     struct crash *crash;         /* the power failure that was asked for, or NULL */
+    int module;                  /* the book is on a module with line flushes */
     double until;                /* how long to wait for a lock, by clock_seconds() */
 };
 

@@ -21,8 +21,7 @@ static uint64_t done_unless(int failed) {
  * process may have been killed before the barrier. So opening stores it again. Where closing is left out, as after a failed
  * barrier, the next opening recovers. */
 static uint64_t set_clean_flag(struct book *b, uint64_t value) {
-    medium_store(&b->medium, FILE_CLEAN_AT, value);
-    return done_unless(medium_barrier(&b->medium));
+    return done_unless(medium_settle(&b->medium, FILE_CLEAN_AT, value));
 }
 
 static uint64_t begin_writing(struct book *b) {
@@ -48,8 +47,7 @@ static int heads_idle(const struct book *b) {
 /* A file without the magic is no book: it goes first and comes last, so that a format cut short leaves none. */
 static uint64_t write_book(const struct file *f, struct medium *m, const char *path, const uint8_t *table) {
     uint64_t heads[REELBOOK_HEADS_WORDS];
-    medium_store(m, FILE_MAGIC_AT, 0);
-    if (medium_barrier(m) != 0)
+    if (medium_settle(m, FILE_MAGIC_AT, 0) != 0)
         return BOOK_SYSTEM;
     uint64_t answer = reelbook_format(m->words + f->image_at, f->image_words, m->words + f->map_at, f->map_words, heads, table,
                                       table ? REELBOOK_TABLE_BYTES : 0, f->slots, f->nodes);
@@ -62,11 +60,11 @@ static uint64_t write_book(const struct file *f, struct medium *m, const char *p
     m->words[FILE_CLEAN_AT] = 1;
     if (medium_barrier_over(m, 0, f->words) != 0 || file_settle(f, path) != REELBOOK_DONE)
         return BOOK_SYSTEM;
-    medium_store(m, FILE_MAGIC_AT, FILE_MAGIC);
-    return done_unless(medium_barrier(m));
+    return done_unless(medium_settle(m, FILE_MAGIC_AT, FILE_MAGIC));
 }
 
-uint64_t book_format(const char *path, uint64_t slots, uint64_t nodes, const uint8_t *table, int force, double until) {
+uint64_t book_format(const char *path, uint64_t slots, uint64_t nodes, const uint8_t *table, int force, int module,
+                     double until) {
     struct file f;
     struct medium m;
     int created;
@@ -74,7 +72,7 @@ uint64_t book_format(const char *path, uint64_t slots, uint64_t nodes, const uin
     uint64_t answer = file_create(&f, path, force, until, &created);
     if (answer != REELBOOK_DONE)
         return answer;
-    answer = done_unless(medium_map(&m, f.fd, f.words, 1));
+    answer = done_unless(medium_map(&m, f.fd, f.words, 1, module));
     if (answer == REELBOOK_DONE) {
         answer = write_book(&f, &m, path, table);
         medium_unmap(&m);
@@ -102,9 +100,9 @@ static void let_go(struct book *b) {
     file_close(&b->file);
 }
 
-static uint64_t map_book(struct book *b) {
+static uint64_t map_book(struct book *b, int module) {
     const struct file *f = &b->file;
-    if ((b->writable ? medium_map(&b->medium, f->fd, f->words, 1) : map_privately(&b->medium, f->fd, f->words)) != 0)
+    if ((b->writable ? medium_map(&b->medium, f->fd, f->words, 1, module) : map_privately(&b->medium, f->fd, f->words)) != 0)
         return BOOK_SYSTEM;
     b->image = b->medium.words + f->image_at;
     b->map = calloc(f->map_words, sizeof *b->map);
@@ -135,7 +133,7 @@ static uint64_t reopen_unclean(struct book *b, const char *path, double until) {
     return forbidden ? file_open(&b->file, path, 0, until) : answer;
 }
 
-uint64_t book_open(struct book *b, const char *path, enum book_mode mode, struct crash *crash, double until) {
+uint64_t book_open(struct book *b, const char *path, enum book_mode mode, struct crash *crash, int module, double until) {
     *b = (struct book){.crash = crash};
     b->writable = mode == BOOK_WRITE || mode == BOOK_RECOVER;
     uint64_t answer = file_open(&b->file, path, b->writable, until);
@@ -144,7 +142,7 @@ uint64_t book_open(struct book *b, const char *path, enum book_mode mode, struct
         answer = reopen_unclean(b, path, until);
     if (answer != REELBOOK_DONE)
         return answer;
-    answer = map_book(b);
+    answer = map_book(b, module);
     if (answer == REELBOOK_DONE && b->writable)
         answer = prepare(b, mode);
     else if (answer == REELBOOK_DONE && mode == BOOK_READ && !b->file.clean)

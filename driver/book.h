@@ -2,6 +2,7 @@
 #ifndef BOOK_H
 #define BOOK_H
 
+#include "carry.h"
 #include "crash.h"
 #include "file.h"
 #include "medium.h"
@@ -20,6 +21,8 @@ struct book {
     uint64_t *map, *scratch;
     uint64_t heads[REELBOOK_HEADS_WORDS];
     uint64_t script[REELBOOK_SCRIPT_WORDS], used;
+    uint64_t module_script[REELBOOK_MODULE_WORDS]; /* the same, translated */
+    struct entries entries;                        /* of the scripts carried out */
     uint64_t left;       /* clear places left in the node of the last claim; 0 if it was refused */
     int writable;        /* the file itself is mapped */
     int unclean;         /* it was not closed cleanly */
@@ -30,11 +33,12 @@ struct book {
     struct crash *crash; /* a power failure to come, or NULL */
 };
 
-/* Each answers REELBOOK_DONE, a refusal of the library or a number of answers.h. A lock is waited for until then, by
- * clock_seconds(). A new book has so many slots and nodes, none outside the library's limits, and, unless it is NULL, a table of
- * its own that the library does not refuse. */
-uint64_t book_format(const char *path, uint64_t slots, uint64_t nodes, const uint8_t *table, int force, double until);
-uint64_t book_open(struct book *b, const char *path, enum book_mode mode, struct crash *crash, double until);
+/* Each answers REELBOOK_DONE, a refusal of the library or a number of answers.h. A file is on a module with line flushes or not.
+ * A lock is waited for until then, by clock_seconds(). A new book has so many slots and nodes, none outside the library's limits,
+ * and, unless it is NULL, a table of its own that the library does not refuse. */
+uint64_t book_format(const char *path, uint64_t slots, uint64_t nodes, const uint8_t *table, int force, int module,
+                     double until);
+uint64_t book_open(struct book *b, const char *path, enum book_mode mode, struct crash *crash, int module, double until);
 uint64_t book_recover(struct book *b);
 uint64_t book_close(struct book *b);
 

@@ -1,5 +1,5 @@
-# make tool: build/reelbook. make check-tool: tries its commands, its errors, some hundreds of power failures and each of its
-# barriers. TOOL_SEED=number takes other power failures.
+# make tool: build/reelbook. make check-tool: the driver's flushes and fences, one by one; then tries the tool's commands, its errors,
+# some hundreds of power failures and each of its barriers. TOOL_SEED=number takes other power failures.
 .PHONY: tool check-tool
 
 TOOL = build/reelbook
@@ -20,5 +20,11 @@ $(SHADOW): tests/shadow.c
 	@mkdir -p build
 	$(CC) $(CFLAGS) $(WARNINGS) -shared -fPIC -o $@ $< -ldl
 
-check-tool: $(TOOL) $(SHADOW)
+CARRY_SOURCES = tests/carry.c tests/book.c driver/carry.c driver/medium.c
+
+build/carry: $(CARRY_SOURCES) $(wildcard driver/*.h) tests/traps.h tests/book.h include/reelbook.h $(LIBRARY)
+	$(CC) $(CFLAGS) $(WARNINGS) -Iinclude -o $@ $(CARRY_SOURCES) $(LIBRARY)
+
+check-tool: $(TOOL) $(SHADOW) build/carry
+	build/carry
 	sh tests/tool.sh $(TOOL) $(SHADOW) $(TOOL_SEED)

@@ -15,7 +15,7 @@ int refuse_reel(uint64_t answer, uint64_t reel) {
 
 int begin(struct book *b, const struct arguments *a, enum book_mode mode) {
     const char *path = a->operands[0];
-    uint64_t answer = book_open(b, path, mode, a->crash, a->until);
+    uint64_t answer = book_open(b, path, mode, a->crash, a->module, a->until);
     if (answer != REELBOOK_DONE) {
         say("%s: %s%s", path, b->unclean ? "not closed cleanly, and not recovered: " : "", answer_words(answer));
         return answer_status(answer);
@@ -30,6 +30,9 @@ int finish(struct book *b, const struct arguments *a, int status) {
     uint64_t answer = book_close(b);
     if (a->crash)
         say("ended before the power failure, after %" PRIu64 " %s", a->crash->passed, entries_word(a->crash->passed));
+    if (a->values[OPTION_ENTRIES])
+        say("stores: %" PRIu64 ", line flushes: %" PRIu64 ", barriers: %" PRIu64, b->entries.stores, b->entries.flushes,
+            b->entries.barriers);
     return answer == REELBOOK_DONE ? status : refuse(answer, a->operands[0]);
 }
 

@@ -56,7 +56,7 @@ static int count(struct conversion *c, const struct book *b) {
 static int convert(void *context, const char *path) {
     struct conversion *c = (struct conversion *)context;
     struct book b;
-    uint64_t answer = book_open(&b, path, BOOK_WRITE, NULL, c->arguments->until);
+    uint64_t answer = book_open(&b, path, BOOK_WRITE, NULL, c->arguments->module, c->arguments->until);
     if (answer != REELBOOK_DONE)
         return refuse(answer, c->arguments->operands[1]);
     answer = book_convert(&c->old, &b);
@@ -75,7 +75,8 @@ int run_convert(const struct arguments *a) {
     if (status != STATUS_DONE)
         return status;
     const struct new_book n = {
-        .path = a->operands[1], .slots = c.old.file.slots, .nodes = c.old.file.nodes, .taken = BOOK_KEPT, .until = a->until};
+        .path = a->operands[1], .slots = c.old.file.slots, .nodes = c.old.file.nodes, .taken = BOOK_KEPT, .module = a->module,
+        .until = a->until};
     status = new_book_make(&n, convert, &c);
     if (status == STATUS_DONE && c.old.unclean)
         say("%s: not closed cleanly; it is left so, and %s is as after a recovery", a->operands[0], a->operands[1]);

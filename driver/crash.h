@@ -15,13 +15,20 @@ static inline const char *entries_word(uint64_t count) {
     return count == 1 ? "entry" : "entries";
 }
 
-/* carry_out(), but if the power fails before the script has ended, or with its end, then the process ends there: each word stored
- * to since the last barrier has its content from then or that of any one of those stores. */
+/* carry_out(), but if the power fails before the script has ended, or with its end, then the process ends there: each word that
+ * was stored to has its lasting content or that of any one of the stores since. A store is lasting once a barrier has followed,
+ * on a module once its line was flushed after it and then a barrier followed. */
 int crash_carry_out(struct crash *c, struct medium *m, size_t image_at, const uint64_t *script, size_t words);
 
+/* The recovered image: where it starts in the mapping, its length, node 0's locate word in it, and every node's from before. */
+struct recovered {
+    size_t image_at, image_words, locate_at;
+    uint64_t nodes;
+    const uint64_t *before;
+};
+
 /* The same for a recovery that has made its stores and passed no barrier yet: they are counted as a script's, in the sequence of
- * the nodes, with the driver's barrier as its last entry. `before` has every node's locate word from before; `locate_at` is node
- * 0's in the image. */
-int crash_recovery(struct crash *c, struct medium *m, size_t image_at, size_t locate_at, uint64_t nodes, const uint64_t *before);
+ * the nodes, on a module with a flush of each line of the image, and with the driver's barrier as its last entry. */
+int crash_recovery(struct crash *c, struct medium *m, const struct recovered *r);
 
 #endif

@@ -16,6 +16,9 @@
 /* A file that another takes the name of is opened anew, so often at most. */
 enum { MOST_TRIES = 16 };
 
+/* So that an image starts on a line's boundary, as a module with line flushes asks for. */
+typedef char page_of_whole_lines[FILE_PAGE_WORDS % REELBOOK_LINE_WORDS == 0 ? 1 : -1];
+
 static size_t next_page(size_t words) {
     return (words + FILE_PAGE_WORDS - 1) / FILE_PAGE_WORDS * FILE_PAGE_WORDS;
 }

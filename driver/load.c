@@ -145,7 +145,7 @@ static int load_lines(struct load *l) {
 static int fill(void *context, const char *path) {
     struct load *l = (struct load *)context;
     const struct arguments *a = l->arguments;
-    uint64_t answer = book_open(&l->book, path, BOOK_WRITE, NULL, a->until);
+    uint64_t answer = book_open(&l->book, path, BOOK_WRITE, NULL, a->module, a->until);
     if (answer != REELBOOK_DONE)
         return refuse(answer, a->operands[0]);
     progress_begin(&l->progress, a->values[OPTION_PROGRESS] != NULL, a->values[OPTION_RATE] != NULL);
@@ -177,6 +177,7 @@ static int load_from(struct load *l, const struct arguments *a) {
                                .table = a->values[OPTION_TABLE] ? l->table : NULL,
                                .force = a->values[OPTION_FORCE] != NULL,
                                .taken = BOOK_EXISTS,
+                               .module = a->module,
                                .until = a->until};
     status = new_book_make(&n, fill, l);
     if (status == STATUS_DONE)

@@ -42,6 +42,7 @@ static void prepare(struct arguments *a, struct crash *crash) {
     *crash = (struct crash){.after = a->numbers[OPTION_CRASH_AFTER], .seed = seed, .state = seed};
     if (a->values[OPTION_CRASH_AFTER])
         a->crash = crash;
+    a->module = a->values[OPTION_MODULE] != NULL;
     a->until = clock_seconds() + (double)a->numbers[OPTION_WAIT];
 }
 

@@ -98,17 +98,15 @@ static int sync_pending(const struct medium *m) {
     return sync_pages(m, low, high - low + 1);
 }
 
-int medium_map(struct medium *m, int fd, size_t length, int writable) {
+int medium_map(struct medium *m, int fd, size_t length, int writable, int module) {
     size_t bytes = length * sizeof(uint64_t);
     void *words = writable ? map_persistent(fd, bytes) : MAP_FAILED;
-    m->barrier = words == MAP_FAILED ? BARRIER_SYNC : BARRIER_FLUSH;
+    *m = (struct medium){.length = length, .barrier = words == MAP_FAILED ? BARRIER_SYNC : BARRIER_FLUSH, .module = module};
     if (words == MAP_FAILED)
         words = mmap(NULL, bytes, writable ? PROT_READ | PROT_WRITE : PROT_READ, MAP_SHARED, fd, 0);
     if (words == MAP_FAILED)
         return -1;
     m->words = words;
-    m->length = length;
-    m->pending_count = 0;
     return 0;
 }
 
@@ -116,15 +114,29 @@ int medium_unmap(struct medium *m) {
     return munmap(m->words, m->length * sizeof(uint64_t));
 }
 
-/* A count above MEDIUM_PENDING stands for more lines than can be remembered: the barrier then takes the whole mapping. */
-void medium_store(struct medium *m, size_t index, uint64_t value) {
-    __atomic_store_n(&m->words[index], value, __ATOMIC_RELAXED);
+/* For the next barrier. A count above MEDIUM_PENDING stands for more lines than can be remembered: it then takes the whole
+ * mapping. */
+static void remember(struct medium *m, size_t index) {
     size_t count = m->pending_count;
     if (count > MEDIUM_PENDING || (count > 0 && m->pending[count - 1] / LINE_WORDS == index / LINE_WORDS))
         return;
     if (count < MEDIUM_PENDING)
         m->pending[count] = index;
     m->pending_count++;
+}
+
+void medium_store(struct medium *m, size_t index, uint64_t value) {
+    __atomic_store_n(&m->words[index], value, __ATOMIC_RELAXED);
+    if (!m->module)
+        remember(m, index);
+}
+
+/* A module's barrier is a fence alone, where lines can be flushed. */
+int medium_flush(struct medium *m, size_t index) {
+    if (m->module && m->barrier == BARRIER_FLUSH)
+        return flush(m, index, 1);
+    remember(m, index);
+    return 0;
 }
 
 int medium_barrier(struct medium *m) {
@@ -138,6 +150,11 @@ int medium_barrier(struct medium *m) {
     if (!failed)
         m->pending_count = 0;
     return failed;
+}
+
+int medium_settle(struct medium *m, size_t index, uint64_t value) {
+    medium_store(m, index, value);
+    return medium_flush(m, index) != 0 ? -1 : medium_barrier(m);
 }
 
 int medium_barrier_over(struct medium *m, size_t first, size_t count) {

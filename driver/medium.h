@@ -18,23 +18,30 @@ struct medium {
     uint64_t *words; /* the mapping */
     size_t length;   /* in words */
     enum barrier barrier;
-    size_t pending[MEDIUM_PENDING]; /* words stored to since the last barrier, one for each line */
+    int module;                     /* a barrier makes lasting what was flushed by medium_flush() */
+    size_t pending[MEDIUM_PENDING]; /* words stored to since the last barrier, or on a module flushed, one for each line */
     size_t pending_count;
 };
 
-/* Maps the first `length` words of an open file. A file on persistent memory, where the kernel grants MAP_SYNC, gets
- * BARRIER_FLUSH, any other BARRIER_SYNC. 0, or -1 with errno. */
-int medium_map(struct medium *m, int fd, size_t length, int writable);
+/* Maps the first `length` words of an open file, as a module with line flushes or not. A file on persistent memory, where the
+ * kernel grants MAP_SYNC, gets BARRIER_FLUSH, any other BARRIER_SYNC. 0, or -1 with errno. */
+int medium_map(struct medium *m, int fd, size_t length, int writable, int module);
 
 int medium_unmap(struct medium *m);
 
 /* One aligned 8-byte store. */
 void medium_store(struct medium *m, size_t index, uint64_t value);
 
-/* Returns when every store before it is lasting. 0, or -1 with errno. */
+/* Flushes the line of a word: what was stored to it is lasting once a barrier has followed. 0, or -1 with errno. */
+int medium_flush(struct medium *m, size_t index);
+
+/* Returns when every store before it is lasting; on a module, every one whose line was flushed after it. 0, or -1 with errno. */
 int medium_barrier(struct medium *m);
 
-/* The same for words that others stored to: after Format and Recover, the whole image. */
+/* A store of the driver's own, lasting when this returns 0. */
+int medium_settle(struct medium *m, size_t index, uint64_t value);
+
+/* Makes words lasting that others stored to, flushing each of their lines: after Format and Recover, the whole image. */
 int medium_barrier_over(struct medium *m, size_t first, size_t count);
 
 #endif

@@ -8,7 +8,7 @@
 
 static int make_at(const struct new_book *n, const char *target, const char *temporary, int (*fill)(void *, const char *),
                    void *context) {
-    uint64_t answer = book_format(temporary, n->slots, n->nodes, n->table, 0, n->until);
+    uint64_t answer = book_format(temporary, n->slots, n->nodes, n->table, 0, n->module, n->until);
     int status = answer == REELBOOK_DONE ? fill(context, temporary) : STATUS_DONE;
     if (answer == REELBOOK_DONE && status == STATUS_DONE)
         answer = file_take_name(temporary, target, n->force, n->until);

@@ -10,6 +10,7 @@ struct new_book {
     const uint8_t *table; /* its own, or NULL */
     int force;            /* a file of that name may be replaced */
     uint64_t taken;       /* the answer where there is one that may not */
+    int module;           /* on a module with line flushes */
     double until;         /* how long to wait for a lock, by clock_seconds() */
 };
 

@@ -2,7 +2,6 @@
 #include <string.h>
 
 #include "book.h"
-#include "carry.h"
 #include "own_table.h"
 
 enum { HEAD = 0 };
@@ -13,16 +12,26 @@ enum { HEAD = 0 };
 #define SCRATCH b->scratch, b->file.map_words
 #define SCRIPT b->script, REELBOOK_SCRIPT_WORDS
 
+static uint64_t carry_out_script(struct book *b, const uint64_t *script, size_t words) {
+    size_t at = b->file.image_at;
+    int failed = b->crash ? crash_carry_out(b->crash, &b->medium, at, script, words) : carry_out(&b->medium, at, script, words);
+    count_entries(&b->entries, script, words);
+    return failed ? BOOK_SYSTEM : REELBOOK_DONE;
+}
+
+/* Map and heads are ahead of the image where a script is not carried out. */
 static uint64_t carry(struct book *b, uint64_t answer) {
+    const uint64_t *script = b->medium.module ? b->module_script : b->script;
     if (answer != REELBOOK_DONE)
         return own_table_answer(b->image, answer);
-    size_t at = b->file.image_at, words = (size_t)b->used;
-    int failed =
-        b->crash ? crash_carry_out(b->crash, &b->medium, at, b->script, words) : carry_out(&b->medium, at, b->script, words);
-    if (!failed)
-        return REELBOOK_DONE;
-    b->failed = 1;
-    return BOOK_SYSTEM;
+    if (b->medium.module)
+        answer = reelbook_translate(b->script, (size_t)b->used, b->module_script, REELBOOK_MODULE_WORDS, b->file.image_words,
+                                    &b->used);
+    if (answer == REELBOOK_DONE)
+        answer = carry_out_script(b, script, (size_t)b->used);
+    if (answer != REELBOOK_DONE)
+        b->failed = 1;
+    return answer;
 }
 
 uint64_t book_open_reel(struct book *b, uint64_t reel) {
@@ -95,9 +104,10 @@ static size_t count_mended(const struct book *b, const uint64_t *before) {
 
 /* The barrier over the whole image ends the recovery. On a private copy it is none. */
 static int end_recovery(struct book *b, const uint64_t *before) {
+    const struct recovered r = {b->file.image_at, b->file.image_words, locate_at(b, 0), b->file.nodes, before};
     b->mended = count_mended(b, before);
     b->recovered = 1;
-    if (b->crash && crash_recovery(b->crash, &b->medium, b->file.image_at, locate_at(b, 0), b->file.nodes, before) != 0)
+    if (b->crash && crash_recovery(b->crash, &b->medium, &r) != 0)
         return -1;
     return medium_barrier_over(&b->medium, b->file.image_at, b->file.image_words);
 }

@@ -5,7 +5,8 @@
 #include "commands.h"
 
 #define BIT(option) (1u << (option))
-#define CRASHES (BIT(OPTION_CRASH_AFTER) | BIT(OPTION_SEED))
+#define CRASHES (BIT(OPTION_CRASH_AFTER) | BIT(OPTION_SEED) | BIT(OPTION_MODULE))
+#define SCRIPTS (CRASHES | BIT(OPTION_ENTRIES))
 
 #define FORMS (BIT(OPTION_JSON) | BIT(OPTION_CSV))
 
@@ -26,7 +27,7 @@ static const struct command commands[] = {
      .more = OWN_TABLE,
      .least = 1,
      .most = 1,
-     .options = BIT(OPTION_REELS) | BIT(OPTION_NODES) | BIT(OPTION_TABLE) | BIT(OPTION_FORCE),
+     .options = BIT(OPTION_REELS) | BIT(OPTION_NODES) | BIT(OPTION_TABLE) | BIT(OPTION_FORCE) | BIT(OPTION_MODULE),
      .required = BIT(OPTION_REELS) | BIT(OPTION_NODES),
      .steady = "formatting is done on steady power",
      .run = run_format},
@@ -35,14 +36,14 @@ static const struct command commands[] = {
      .about = "Opens a reel, without frames.",
      .least = 2,
      .most = 2,
-     .options = CRASHES,
+     .options = SCRIPTS,
      .run = run_open},
     {.name = "add",
      .operands = "FILE REEL [FRAME..]",
      .about = "Adds frames to a reel: those given, or, with none or -, those on standard input, separated by white space.",
      .least = 2,
      .most = ANY,
-     .options = BIT(OPTION_SKIP_HELD) | BIT(OPTION_PROGRESS) | BIT(OPTION_RATE) | CRASHES,
+     .options = BIT(OPTION_SKIP_HELD) | BIT(OPTION_PROGRESS) | BIT(OPTION_RATE) | SCRIPTS,
      .more = STREAM "\n\n"
                     "The first frame that fills its node is told on standard error, once in a run: no clear place is left in\n"
                     "that node, and the next frame there takes a larger node or one below it, new if need be. It is no error.",
@@ -52,7 +53,7 @@ static const struct command commands[] = {
      .about = "Removes frames from a reel: those given, or, with -, those on standard input.",
      .least = 3,
      .most = ANY,
-     .options = BIT(OPTION_PROGRESS) | BIT(OPTION_RATE) | CRASHES,
+     .options = BIT(OPTION_PROGRESS) | BIT(OPTION_RATE) | SCRIPTS,
      .more = STREAM,
      .run = run_remove},
     {.name = "has",
@@ -82,7 +83,7 @@ static const struct command commands[] = {
      .about = "Takes a reel out with all its frames.",
      .least = 2,
      .most = 2,
-     .options = CRASHES,
+     .options = SCRIPTS,
      .run = run_retire},
     {.name = "tidy",
      .operands = "FILE REEL",
@@ -95,7 +96,7 @@ static const struct command commands[] = {
              "takes a walk through the reel, so that thousands of them in a large reel take some seconds.",
      .least = 2,
      .most = 2,
-     .options = CRASHES,
+     .options = SCRIPTS,
      .run = run_tidy},
     {.name = "reels",
      .operands = "FILE [--json | --csv]",
@@ -139,7 +140,7 @@ static const struct command commands[] = {
      .least = 1,
      .most = 2,
      .options = BIT(OPTION_REELS) | BIT(OPTION_NODES) | BIT(OPTION_TABLE) | BIT(OPTION_FORCE) | BIT(OPTION_PROGRESS) |
-                BIT(OPTION_RATE),
+                BIT(OPTION_RATE) | BIT(OPTION_MODULE),
      .steady = "a book that is loaded has no name before it is whole",
      .run = run_load},
     {.name = "convert",
@@ -150,7 +151,7 @@ static const struct command commands[] = {
              "table of its own is refused, since edition 1 has none: dump and load make one without it, which is converted then.",
      .least = 2,
      .most = 2,
-     .options = FORMS,
+     .options = FORMS | BIT(OPTION_MODULE),
      .steady = "a book that is converted has no name before it is whole",
      .run = run_convert},
     {.name = "table",
@@ -200,6 +201,9 @@ void commands_help(void) {
          "  reelbook --version\n      The tool's version.\n\n"
          "A number is decimal, from 0 to 2^64 - 1, without leading zeros. --seed=5 is the same as --seed 5; after -- nothing is\n"
          "an option. With --wait[=SECONDS] a command waits for a book that is in use by another process.\n\n"
+         "With --module a command that writes is for a file on a memory module on which a barrier makes only those lines of 64\n"
+         "bytes lasting that were flushed before it: scripts are translated for that, and what is written without a script is\n"
+         "flushed line by line. The book becomes the same.\n\n"
          "The exit status, after a line on standard error from 2 on:\n"
          "  0  done; yes\n"
          "  1  no, the answer of has, and of table where a book has none of its own\n"

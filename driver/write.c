@@ -28,7 +28,7 @@ int run_format(const struct arguments *a) {
     if (status != STATUS_DONE)
         return status;
     uint64_t answer =
-        book_format(a->operands[0], reels, nodes, path ? table : NULL, a->values[OPTION_FORCE] != NULL, a->until);
+        book_format(a->operands[0], reels, nodes, path ? table : NULL, a->values[OPTION_FORCE] != NULL, a->module, a->until);
     return answer == REELBOOK_DONE ? STATUS_DONE : refuse(answer, a->operands[0]);
 }
 

@@ -27,9 +27,9 @@
 /* The version of this header, and of the library beside which it is installed. With another major number the interface is
  * another: a program has to be compiled anew, and the shared object has another name. */
 #define REELBOOK_VERSION_MAJOR 5
-#define REELBOOK_VERSION_MINOR 1
+#define REELBOOK_VERSION_MINOR 2
 #define REELBOOK_VERSION_PATCH 0
-#define REELBOOK_VERSION "5.1.0"
+#define REELBOOK_VERSION "5.2.0"
 
 #ifdef __cplusplus
 extern "C" {
@@ -40,7 +40,7 @@ enum {
     REELBOOK_DONE = 0,
     REELBOOK_BAD_IMAGE = 1,      /* the image's length, its number of slots or of nodes, or the copy's length is wrong */
     REELBOOK_BAD_EDITION = 2,    /* the image's edition is neither 1 nor 2 */
-    REELBOOK_BAD_BUFFER = 3,     /* map or scratch map is not of the map's length, or the script is too short */
+    REELBOOK_BAD_BUFFER = 3,     /* map or scratch map is not of the map's length; a script is too short, or is none */
     REELBOOK_MALFORMED = 4,      /* the tree or the image's own table is malformed, or a head's node or place is outside */
     REELBOOK_NO_REEL = 5,        /* no such reel */
     REELBOOK_ALREADY_OPEN = 6,   /* the reel is open already */
@@ -61,6 +61,12 @@ enum {
 #define REELBOOK_BARRIER UINT64_MAX
 #define REELBOOK_SCRIPT_WORDS 50
 
+/* The scripts of a module with line flushes, which reelbook_translate writes, have a third entry: (REELBOOK_FLUSH, line). A flush
+ * is never a store, however long an image is. The line of a word is its index in the image divided by REELBOOK_LINE_WORDS. */
+#define REELBOOK_FLUSH (UINT64_MAX - 1)
+#define REELBOOK_LINE_WORDS 8
+#define REELBOOK_MODULE_WORDS 98
+
 /* The image: word 0 is the edition, 1 the number of slots, 2 that of nodes. A frame's fingerprint folds its four low bytes in
  * edition 1, all eight in edition 2: from h = 0 on, for each byte, lowest first, h becomes entry h ^ byte of a table. Every
  * function reads both editions, each by its rule. reelbook_format writes REELBOOK_EDITION, also over an image of edition 1; no
@@ -80,9 +86,9 @@ enum {
 /* The table: the library's, whose entry i is (167 * i + 13) % 256, unless word 3 of an image of edition 2 is 1. Then it is the
  * image's own, as reelbook_format was given it: 256 bytes, each value once, in words 8 to 39, eight entries to a word, lowest
  * byte first. Without one a format makes these words 0. Where word 3 is above 1 in edition 2, or the own table lacks some byte,
- * the image is not sound: reelbook_recover answers 4, and so does, just after 3, every other function but reelbook_format and
- * reelbook_apply. Words 8 to 39 are not read unless word 3 is 1, in edition 1 word 3 neither, and words 4 to 7 and 40 to 63
- * never. Libraries before 4.0 read none of them: do not lend these an image with its own table. */
+ * the image is not sound: reelbook_recover answers 4, and so does, just after 3, every other function but reelbook_format,
+ * reelbook_apply and reelbook_translate. Words 8 to 39 are not read unless word 3 is 1, in edition 1 word 3 neither, and words 4
+ * to 7 and 40 to 63 never. Libraries before 4.0 read none of them: do not lend these an image with its own table. */
 #define REELBOOK_OWN_AT 3
 #define REELBOOK_TABLE_AT 8
 #define REELBOOK_TABLE_WORDS 32
@@ -118,7 +124,7 @@ static inline const char *reelbook_answer_text(uint64_t answer) {
     case REELBOOK_DONE: return "done";
     case REELBOOK_BAD_IMAGE: return "the image's length or numbers are wrong";
     case REELBOOK_BAD_EDITION: return "the image's edition is neither 1 nor 2";
-    case REELBOOK_BAD_BUFFER: return "a buffer has the wrong length";
+    case REELBOOK_BAD_BUFFER: return "a buffer's length is wrong, or a script is none";
     case REELBOOK_MALFORMED: return "the tree or the image's own table is malformed";
     case REELBOOK_NO_REEL: return "no such reel";
     case REELBOOK_ALREADY_OPEN: return "the reel is open already";
@@ -238,10 +244,23 @@ uint64_t reelbook_tidy(const uint64_t *image, size_t image_words, uint64_t *map,
 uint64_t reelbook_convert(const uint64_t *image, size_t image_words, uint64_t *copy, size_t copy_words, uint64_t *scratch,
                           size_t scratch_words);
 
-/* Makes a script's stores on an image, barriers skipped: not for an image that must outlast a power failure meanwhile. Refusals
- * 1; 3 if the script is odd in length or an entry is neither a barrier nor a store inside the image, with nothing written. Reads
- * neither edition nor table. */
+/* Makes a script's stores on an image, barriers and flushes skipped, whatever line they name: not for an image that must outlast
+ * a power failure meanwhile. Refusals 1; 3 if the script is odd in length or an entry is neither a barrier nor a flush nor a
+ * store inside the image, with nothing written. Reads neither edition nor table. */
 uint64_t reelbook_apply(uint64_t *image, size_t image_words, const uint64_t *script, size_t script_words);
+
+/* Turns a script for an image of so many words into that of a module on which a store is lasting once its line was flushed after
+ * it and a barrier has followed: before each barrier comes one flush for each line stored to since the barrier before, in the
+ * sequence of the first stores. The caller carries out the module's script instead of the other. Whatever a power failure leaves,
+ * however far it got, the script itself, cut at the same store or barrier, could have left where a barrier alone makes stores
+ * lasting. Refusal 3: module_words is below REELBOOK_MODULE_WORDS, which suffices for every script; or the script is odd in
+ * length, longer than REELBOOK_SCRIPT_WORDS, not empty and without a barrier at its end, or has an entry that is neither a
+ * barrier nor a store inside the image, so that none with a store is translated twice. An empty script becomes an empty one. Words of module
+ * behind *used, and all of them after a refusal, stay. What reelbook_format, reelbook_recover and reelbook_convert write needs
+ * the caller's own flushes, of each line of that image, before the barrier. The image starts on a 64-byte boundary. Libraries
+ * before 5.2 do not have this function. */
+uint64_t reelbook_translate(const uint64_t *script, size_t script_words, uint64_t *module, size_t module_words,
+                            uint64_t image_words, uint64_t *used);
 
 #ifdef __cplusplus
 }

@@ -1,5 +1,5 @@
 # make check-header: include/reelbook.h as C and as C++, refused on other platforms, and its constants against the library; what
-# Convert writes and refuses; how far Has goes; what Tidy gives back and refuses.
+# Convert writes and refuses; how far Has goes; what Tidy gives back and refuses; what Translate makes of a script.
 # make check-archive: nothing writable in the library; the stack that each function needs; two books in two threads.
 # make check-stores: Recover's stores to the image and Convert's to the copy, one by one.
 # make check-branches: the instructions of Has, Remove, Claim, Fill and Recover, one by one, which no bit of a frame decides.
@@ -26,7 +26,7 @@ check-header: build/header-c build/header-c++
 	build/header-c
 	build/header-c++
 
-HEADER_TESTS = $(patsubst %,tests/%.c,header convert converted lookups tidy tidy_refusals tidy_call groups lent book)
+HEADER_TESTS = $(patsubst %,tests/%.c,header convert converted lookups tidy tidy_refusals tidy_call groups translate lent book)
 
 build/header-c: $(HEADER_TESTS) $(wildcard tests/*.h) include/reelbook.h $(LIBRARY)
 	$(HEADER_AS_C) -o $@ $(HEADER_TESTS) -x none $(LIBRARY)

@@ -3,6 +3,7 @@
 #include "convert.h"
 #include "lookups.h"
 #include "tidy.h"
+#include "translate.h"
 
 #include <stdio.h>
 #include <stdlib.h>
@@ -429,7 +430,7 @@ static void check_editions(void) {
 static void check_version(void) {
     char version[64];
     equal(REELBOOK_VERSION_MAJOR, 5, "REELBOOK_VERSION_MAJOR");
-    equal(REELBOOK_VERSION_MINOR, 1, "REELBOOK_VERSION_MINOR");
+    equal(REELBOOK_VERSION_MINOR, 2, "REELBOOK_VERSION_MINOR");
     equal(REELBOOK_VERSION_PATCH, 0, "REELBOOK_VERSION_PATCH");
     snprintf(version, sizeof version, "%d.%d.%d", REELBOOK_VERSION_MAJOR, REELBOOK_VERSION_MINOR, REELBOOK_VERSION_PATCH);
     same_text(REELBOOK_VERSION, version, "REELBOOK_VERSION");
@@ -439,7 +440,7 @@ static void check_version(void) {
 static void check_texts(void) {
     static const char *const texts[] = {
         "done", "the image's length or numbers are wrong", "the image's edition is neither 1 nor 2",
-        "a buffer has the wrong length", "the tree or the image's own table is malformed", "no such reel",
+        "a buffer's length is wrong, or a script is none", "the tree or the image's own table is malformed", "no such reel",
         "the reel is open already", "no empty reel slot", "not enough adjacent free nodes", "held already", "not held",
         "no such head", "the head is in another state", "an open claim is in the way", "the list has too little room",
         "unknown answer", "the given table is not 256 bytes with each byte once", "an own table can't go to edition 1",
@@ -475,6 +476,7 @@ int main(void) {
     check_lookups();
     check_tidying();
     check_tidy_refusals();
+    check_translations();
     printf("header: %u checks, %u failures\n", checks, failures);
     return failures != 0;
 }

@@ -80,7 +80,7 @@ try_shared_object() {
     exported=$(nm -D --defined-only "$object" | awk '$2 != "A" { print $3 }' | sort)
     since=@@REELBOOK_${version%%.*}
     same 'functions exported, each with the version that has it first' "$exported" \
-        "$(echo "$declared" | sed -e "s/^reelbook_tidy\$/&$since.1/" -e t -e "s/\$/$since/")"
+        "$(echo "$declared" | sed -e "s/^reelbook_tidy\$/&$since.1/" -e t -e "s/^reelbook_translate\$/&$since.2/" -e t -e "s/\$/$since/")"
     # What the dynamic linker fills in and then makes read-only is not the library's.
     same 'writable sections' "$(readelf -SW "$object" | sed 's/^ *\[ *[0-9]*\]//' |
         awk '$7 ~ /W/ && $1 !~ /^\.(dynamic|got|got\.plt)$/ && $5 !~ /^0*$/ { print $1 }')" ''
@@ -144,6 +144,10 @@ with a value twice: the given table is not 256 bytes with each byte once (16)" "
 edition 1, reel 7: 12 5 4294967301
 edition 2, reel 7: 12 5 4294967301 900
 with a table of its own: an own table can't go to edition 1 (17)" "$cc"
+    prints module.c 'frame 12: done, 7 line flushes
+power lost, recovered: done
+frame 12: held
+into a shorter buffer: a buffer'\''s length is wrong, or a script is none (3)' "$cc"
     prints book.cpp 'reel 7: 12 5 900; places left: 13
 frame 5: held, nodes on its path: 1
 frame 6: not held, nodes on its path: 1
@@ -155,6 +159,8 @@ frame 5: held already (9)' "$cxx"
     done
     same 'versions that tidy.c needs' "$(readelf -VW "$work/tidy-shared" | sed -n "$needed" | sort)" "REELBOOK_${version%%.*}
 REELBOOK_${version%%.*}.1"
+    same 'versions that module.c needs' "$(readelf -VW "$work/module-shared" | sed -n "$needed" | sort)" "REELBOOK_${version%%.*}
+REELBOOK_${version%%.*}.2"
     cp examples/book.py "$work"
     same 'examples/book.py' "$(cd "$work" && with_shared python3 book.py)" 'reel 7: 12 5 18446744073709551615 places left: 13
 65 frames later: frame 5 held, nodes on its path: 2
@@ -167,8 +173,8 @@ power lost, stores lost: frame 13 is held after entry 8 of 8'
         program "${page%%:*}" 1 | cmp - "examples/${page##*:}" || fail "the program in ${page%%:*} is not examples/${page##*:}"
     done
     same 'programs in the pages' "$(grep -c '^```c$' README.md docs/DRIVER.md)" 'README.md:1
-docs/DRIVER.md:5'
-    for part in 2:heads.c 3:tidy.c 4:table.c 5:convert.c; do
+docs/DRIVER.md:6'
+    for part in 2:heads.c 3:tidy.c 4:table.c 5:convert.c 6:module.c; do
         case $(cat "examples/${part##*:}") in
         *"
 $(program docs/DRIVER.md "${part%%:*}")

@@ -16,9 +16,9 @@ static uint64_t stack[STACK_WORDS];
 static ucontext_t outside, inside;
 static struct book deep, wide, *b = &deep;
 static const void *top;
-static uint64_t *copy;
+static uint64_t *copy, module[REELBOOK_MODULE_WORDS];
 static unsigned rule;
-static uint64_t answer;
+static uint64_t answer, module_used;
 static uint8_t table[REELBOOK_TABLE_BYTES];
 static size_t table_bytes;
 
@@ -67,6 +67,7 @@ CALL(retire, IMAGE, MAP, b->heads, SCRATCH, SCRIPT, 7, &b->used)
 CALL(tidy, IMAGE, MAP, b->heads, SCRATCH, SCRIPT, 7, &b->used)
 CALL(convert, IMAGE, copy, b->image_words, SCRATCH)
 CALL(apply, IMAGE, b->script, (size_t)b->used)
+CALL(translate, b->script, (size_t)b->used, module, REELBOOK_MODULE_WORDS, b->image_words, &module_used)
 
 /* Calls, in a sequence in which each is answered; its script is carried out. */
 static size_t measured(void (*call)(void), int has_script) {
@@ -82,7 +83,8 @@ static void line(const char *name, size_t bytes) {
     printf("reelbook_%s %zu\n", name, bytes);
 }
 
-/* In wide, frame 8 * 256 needs a branch-out, with the longest script; in deep it goes down the whole path. */
+/* In wide, frame 8 * 256 needs a branch-out, with the longest script, which is translated too; in deep it goes down the whole
+ * path. */
 static void measure_claim(void) {
     size_t in_deep = measured(call_claim, 1), in_wide;
     b = &wide;
@@ -91,6 +93,7 @@ static void measure_claim(void) {
     book_add(b, 7, 0, 8, 256);
     in_wide = measured(call_claim, 1);
     equal(b->used, REELBOOK_SCRIPT_WORDS, "the longest script");
+    line("translate", measured(call_translate, 0));
     book_free(b);
     b = &deep;
     line("claim", in_deep > in_wide ? in_deep : in_wide);

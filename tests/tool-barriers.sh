@@ -9,11 +9,12 @@ on_shadow() { # FAIL_AT COMMAND..: on the book, with the disk beside it; some pa
     command="reelbook $*"
 }
 
-# Kills a command in its msync number FAIL_AT. 1 if it ends before: then all of the file has to be lasting.
+# Kills a command in its msync number FAIL_AT. 1 if it ends before: then all of the file has to be lasting. With --module a barrier
+# syncs the pages of the lines that were flushed, and no others: a flush left out, of a script's or the driver's own, is missing.
 kill_in() { # FAIL_AT KIND [REEL [FRAME]]
     stop=$1 kind=$2
     shift 2
-    on_shadow "$stop" "$kind" book "$@"
+    on_shadow "$stop" "$kind" book "$@" $module
     [ "$status" = 137 ] && return
     holds test "$status" = 0
     holds cmp -s book disk
@@ -66,7 +67,7 @@ kill_second() { # MODEL..: what may be held after the first
 kill_load() {
     "$tool" dump base -o dump || fail 'no dump'
     fail_first=1
-    while rm -f new disk && on_shadow "$fail_first" load new dump && [ "$status" = 137 ]; do
+    while rm -f new disk && on_shadow "$fail_first" load new dump $module && [ "$status" = 137 ]; do
         holds test ! -e new
         rm -f .reelbook-*
         fail_first=$((fail_first + 1))
@@ -76,11 +77,9 @@ kill_load() {
     holds test "$fail_first" -gt 4
 }
 
-try_barriers() {
-    chains=0 pages=0 failing=
-    skip 'barriers by cache line flushes' 'no failure of persistent memory can be tried'
+kill_pairs() {
     rm -f book disk
-    on_shadow 0 format book --reels 4 --nodes 16
+    on_shadow 0 format book --reels 4 --nodes 16 $module
     if [ ! -e disk ]; then
         skip 'barriers by msync' 'LD_PRELOAD does not work'
         return
@@ -105,4 +104,15 @@ try_barriers() {
         kill_second first
     done
     holds test "$chains" -gt 100 # killed in barriers, and not only ended
+}
+
+try_barriers() {
+    pages=0 failing= all=0
+    skip 'barriers by cache line flushes' 'no failure of persistent memory can be tried'
+    for module in '' --module; do
+        chains=0
+        kill_pairs
+        all=$((all + chains))
+    done
+    chains=$all
 }

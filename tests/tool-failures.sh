@@ -127,7 +127,7 @@ model_change() { # KIND REEL FRAME: the model after it
 # Does one thing to a copy of the book, whole. Its entries are added to `passed`. 1 if it is refused, as the model has it, or for
 # want of nodes.
 probe() { # KIND [REEL [FRAME]]
-    run "$1" copy ${2+"$2"} ${3+"$3"} --crash-after "$most"
+    run "$1" copy ${2+"$2"} ${3+"$3"} --crash-after "$most" $module
     number=$(sed -n 's/^reelbook: .* (\([0-9]*\)).*/\1/p' err)
     wanted=$(model_refusal "$1" "${2-}" "${3-}")
     [ "$number" != 8 ] || wanted=${wanted:-8}
@@ -190,15 +190,17 @@ stock() { # REEL KIND: frames up to where a root becomes larger or branches out
 }
 
 cut_recovery() { # SEED
-    run recover book --crash-after $(($1 % 4)) --seed "$1"
+    run recover book --crash-after $(($1 % 4)) --seed "$1" $module
     holds test "$status" = 0
     if grep -q crashed err; then cuts=$((cuts + 1)); fi
     run check book
     holds grep -q '^sound; ' out
 }
 
+# Every second one on a module with line flushes.
 round() { # KIND REEL PART SEED RECOVERIES FRAME..
     kind=$1 reel=$2 part=$3 chance=$4 recoveries=$5
+    module=$([ $((chance / 8 % 2)) = 0 ] || echo --module)
     shift 5
     if [ "$kind" = open ] || [ $((chance % 4)) = 0 ] || grep -qx "$reel" model; then
         : # the reel that was planned; else the lowest one that is open
@@ -214,7 +216,7 @@ round() { # KIND REEL PART SEED RECOVERIES FRAME..
     [ "$passed" -gt 0 ] || return # refused, or nothing to tidy
     entries=$(awk -v part="$part" -v all="$passed" 'BEGIN { print part < 1 ? int(part * (all + 1)) : all }')
     if [ "$kind" = recover ]; then reel=; fi
-    run "$kind" book $reel "$@" --crash-after "$entries" --seed "$chance"
+    run "$kind" book $reel "$@" --crash-after "$entries" --seed "$chance" $module
     failing=$command
     case $entries in 1) word=entry ;; *) word=entries ;; esac
     if [ "$kind" = add ] && grep -q " $full\$" err; then # of a frame before the one that the power failed in

@@ -19,6 +19,7 @@ cd "$work" || exit 1
 checks=0
 input=/dev/null
 failing=
+module=
 most=18446744073709551615
 
 fail() {
@@ -100,13 +101,13 @@ map_at=16384
 sound='sound; closed cleanly; locate words that differ: 0'
 range="a number from 0 to $most in decimal without leading zeros"
 
-for part in commands lookups tidy pictures dumps files damage failures editions tables convert barriers; do
+for part in commands lookups tidy pictures dumps files damage failures editions tables convert module barriers; do
     . "$here/tool-$part.sh"
 done
 
 echo "tool: seed $seed, $rounds rounds"
 for part in commands pictures help full lookups tidy refusals arguments numbers forms dumps files streams reading locks waiting \
-    recovery damage mixtures power_failures editions tables convert barriers; do
+    recovery damage mixtures power_failures editions tables convert module barriers; do
     "try_$part"
 done
 echo "$checks checks, $failures power failures, $cuts recoveries cut short, $chains pairs of barriers; all as they should be"

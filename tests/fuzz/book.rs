@@ -3,7 +3,8 @@ use crate::model::buffer::Buffer;
 use crate::model::call::{Call, Function, Function::*, Handed, Lent};
 use crate::model::image::*;
 use crate::model::rule::Rule;
-use crate::model::script::{self, Entry, BARRIER, SCRIPT_WORDS};
+use crate::model::script::{self, Entry, SCRIPT_WORDS};
+use crate::model::translate::MODULE_WORDS;
 use crate::subject::Subject;
 use std::collections::BTreeSet;
 
@@ -40,6 +41,7 @@ impl Book {
             script: junk(SCRIPT_WORDS as u64),
             scratch: junk(map_words(nodes)),
             list: junk(1024),
+            module: junk(MODULE_WORDS as u64 + 2),
             table: None,
         };
         let mut book = Book { subject, lent, left: 0, path_nodes: 0 };
@@ -57,7 +59,7 @@ impl Book {
     }
 
     pub fn format(&mut self, slots: u64, nodes: u64, table: Option<&[u8]>) -> u64 {
-        let format = Call { function: Format, slots, nodes, head: 0, reel: 0, frame: 0 };
+        let format = Call { function: Format, slots, nodes, head: 0, reel: 0, frame: 0, words: 0 };
         self.lent.table = table.map(|table| Buffer::of(table.iter().copied()));
         self.subject.perform(&format, &mut self.lent, JUNK).answer
     }
@@ -73,12 +75,12 @@ impl Book {
             return (answer, 0, count);
         }
         script::carry_out(&mut self.lent.image, &entries);
-        (answer, entries.iter().filter(|&&entry| entry != BARRIER).count() as u64, 0)
+        (answer, script::stores(&entries), 0)
     }
 
     /// Answer, count, and the entries handed out, which are not carried out.
     pub fn hold(&mut self, head: u64, function: Function, reel: u64, frame: u64) -> (u64, u64, Vec<Entry>) {
-        let call = Call { function, slots: 0, nodes: 0, head, reel, frame };
+        let call = Call { function, slots: 0, nodes: 0, head, reel, frame, words: 0 };
         let Handed { answer, count, left, path_nodes } = self.subject.perform(&call, &mut self.lent, JUNK);
         (self.left, self.path_nodes) = (left, path_nodes);
         let scripted = answer == 0 && !matches!(function, Has | List | Recover);

@@ -11,9 +11,12 @@ use crate::model::left::Claimed;
 use crate::model::node::*;
 use crate::model::operations::{self, Outcome};
 use crate::model::script::{self, SCRIPT_WORDS};
+use crate::model::translate::MODULE_WORDS;
 use crate::random::Random;
 use crate::report;
 use crate::subject::Subject;
+use crate::translating::{check_lines, Translating};
+use crate::translations::OF_LIBRARY;
 use crate::trip::Trip;
 use crate::{tables, trees};
 
@@ -32,6 +35,7 @@ struct Case {
     found: Lent,
     /// A tidy that was answered just before: there may be more to be given back.
     tidied: Option<Call>,
+    translating: Translating,
 }
 
 /// An image, sound or damaged, and some calls on it; the scripts of most are carried out.
@@ -54,7 +58,8 @@ impl Case {
         let mut junk = |length: usize| Buffer::of((0..length).map(|_| random.word()));
         let (scratch, script, list) = (junk(map.len()), junk(SCRIPT_WORDS + 6), junk(200));
         let heads = Buffer::of([0; HEADS as usize * HEAD_WORDS]);
-        let mut lent = Lent { image, copy: Buffer::of([]), map, heads, script, scratch, list, table: None };
+        let mut lent =
+            Lent { image, copy: Buffer::of([]), map, heads, script, scratch, list, module: Buffer::of([]), table: None };
         let mut lending = Lending { random: &mut random, lent: &mut lent, slots, nodes };
         if lending.random.one_in(3) {
             lending.map();
@@ -62,11 +67,15 @@ impl Case {
         if lending.random.one_in(3) {
             lending.spare_bits();
         }
-        Case { expected: lent.clone(), found: lent.clone(), random, subject, slots, nodes, lent, tidied: None }
+        let (expected, found, translating) = (lent.clone(), lent.clone(), Translating::new());
+        Case { random, subject, slots, nodes, lent, expected, found, tidied: None, translating }
     }
 
     fn call(&mut self, coverage: &mut Coverage) -> Result<(), String> {
         let mut call = self.tidied.take().filter(|_| self.random.one_in(2)).unwrap_or_else(|| self.draw());
+        if call.function == Function::Translate {
+            return self.translate(coverage);
+        }
         self.found.clone_from(&self.lent);
         let kept = self.lend(&mut call);
         self.expected.clone_from(&self.found);
@@ -81,6 +90,10 @@ impl Case {
             let head = Head::read(&self.found.heads, call.head);
             coverage.left(head.place, &Claimed::of(head.node, &self.found, found.count));
         }
+        let scripted = !matches!(call.function, Function::Has | Function::List) && found.count > 0;
+        if scripted && self.random.one_in(2) {
+            self.translate_found(found.count as usize, coverage)?;
+        }
         match call.function {
             Function::Convert if found.answer == 0 => self.converted(coverage)?,
             Function::Tidy if found.answer == 0 && kept => self.tidied = Some(call),
@@ -89,7 +102,7 @@ impl Case {
         if kept {
             std::mem::swap(&mut self.lent, &mut self.found);
             self.lent.copy.resize(0, || 0);
-            if !matches!(call.function, Function::Has | Function::List) {
+            if scripted {
                 script::carry_out(&mut self.lent.image, &script::read(&self.lent.script[..found.count as usize]));
             }
         }
@@ -111,11 +124,35 @@ impl Case {
         Ok(())
     }
 
+    /// A script of any kind is translated; and now and then the module is given entries of any kind.
+    fn translate(&mut self, coverage: &mut Coverage) -> Result<(), String> {
+        let words = self.translating.draw(&mut self.random);
+        self.translating.compare(self.subject, words, coverage)?;
+        if self.random.one_in(4) {
+            return check_lines(&mut self.random, self.subject.fault());
+        }
+        Ok(())
+    }
+
+    /// A script that a call has handed out, of so many words: it is translated, if the buffer is long enough and the image not
+    /// too short.
+    fn translate_found(&mut self, used: usize, coverage: &mut Coverage) -> Result<(), String> {
+        let room = MODULE_WORDS - usize::from(self.random.one_in(8));
+        self.translating.lend(&self.found.script[..used], room, &mut self.random);
+        let (words, last) = (self.found.image.len() as u64, script::last_word(&script::read(&self.found.script[..used])));
+        let words = self.random.pick(&[words, words, last + 1, last]);
+        coverage.translations.met(OF_LIBRARY);
+        self.translating.compare(self.subject, words, coverage)
+    }
+
     /// Counts what is reached, by what the call is about to be lent.
     fn count(&self, call: &Call, outcome: &Outcome, coverage: &mut Coverage) {
         coverage.call(call.function, &self.found.image, outcome.ending);
         if call.function == Function::Has {
             coverage.paths.called(call, &self.found.image);
+        }
+        if call.function == Function::Apply && outcome.ending.answer == 0 {
+            coverage.translations.applied(&self.found.script, self.found.image.len() as u64);
         }
         if call.function == Function::Tidy {
             coverage.groups.called(call, &self.found, outcome.ending);
@@ -135,7 +172,7 @@ impl Case {
         // More of those with many ways to end, fewer of Recover, which takes the most time.
         let often = [
             Open, Claim, Claim, Claim, Claim, Claim, Fill, Commit, Abandon, Remove, Remove, Has, Has, List, Retire, Convert,
-            Apply, Tidy, Tidy,
+            Apply, Tidy, Tidy, Translate,
         ];
         let function = if self.random.one_in(3) { self.random.pick(&Function::ALL) } else { self.random.pick(&often) };
         let head = if self.random.one_in(12) { self.random.odd_word(&[HEADS]) } else { self.random.below(HEADS) };
@@ -147,7 +184,7 @@ impl Case {
             0 => self.random.odd_word(&[self.slots]),
             _ => self.lent.image[slot_index(slot) as usize],
         };
-        Call { function, slots: self.slots, nodes: self.nodes, head, reel, frame: self.frame(slot) }
+        Call { function, slots: self.slots, nodes: self.nodes, head, reel, frame: self.frame(slot), words: 0 }
     }
 
     /// A slot that is filled, if there is one; for Tidy mostly one whose root has children.

@@ -12,6 +12,7 @@ use crate::path_cases::path_cases;
 use crate::subject::Subject;
 use crate::table_cases::table_cases;
 use crate::tidy_cases::tidy_cases;
+use crate::translate_cases::translate_cases;
 
 /// A reel of frames that agree in their low bits: each node of one path is full, down to the level named; then some frames.
 fn below_full_path(subject: Subject, nodes: u64, full: impl Iterator<Item = u64>, frames: &[u64]) -> (Book, Vec<Claimed>) {
@@ -314,7 +315,8 @@ pub fn check(name: &str, subject: Subject) -> bool {
         ("case A on edition 2", case_a(subject, SECOND)),
         ("case A on an own table", case_a(subject, OWN)),
     ];
-    let others: [&[_]; 4] = [&table_cases(subject), &convert_cases(subject), &path_cases(subject), &tidy_cases(subject)];
+    let others: [&[_]; 5] =
+        [&table_cases(subject), &convert_cases(subject), &path_cases(subject), &tidy_cases(subject), &translate_cases(subject)];
     let results = [&results[..], &others.concat()].concat();
     for (case, _) in results.iter().filter(|(_, right)| !right) {
         println!("{}: not as specified: {}", name, case);

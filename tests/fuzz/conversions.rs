@@ -202,7 +202,7 @@ impl Conversions {
         let mut lines = missed(&each(&CRASHES), &self.crashes, name);
         let name = |key: &(Rule, &str)| format!("history that goes on with the copy of {}: {}", named(key.0), key.1);
         lines.extend(missed(&each(&MOVES), &self.moves, name));
-        let functions = Function::ALL.iter().filter(|&&function| function != Function::Apply);
+        let functions = Function::ALL.iter().filter(|function| !matches!(function, Function::Apply | Function::Translate));
         let all: Vec<_> = functions.flat_map(|&function| CONVERTED.map(|rule| (function, rule))).collect();
         let name = |key: &(Function, Rule)| format!("{} answered on a copy of {}", key.0.name(), named(key.1));
         lines.extend(missed(&all, &self.on_copies, name));

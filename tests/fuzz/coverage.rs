@@ -6,7 +6,7 @@
 use crate::conversions::Conversions;
 use crate::goals::*;
 use crate::groups::Groups;
-use crate::model::call::{Call, Function, Function::*};
+use crate::model::call::{Call, Function, Function::*, Lent};
 use crate::model::ending::*;
 use crate::model::fault::Fault;
 use crate::model::format::check_given;
@@ -16,6 +16,7 @@ use crate::model::node::LAST_LEVEL;
 use crate::model::rule::*;
 use crate::model::table::Table;
 use crate::paths::Paths;
+use crate::translations::Translations;
 use std::collections::BTreeMap;
 
 /// The claims open: in all, the most in one tree, and in the tree of the call's reel.
@@ -48,6 +49,7 @@ pub struct Coverage {
     pub conversions: Conversions,
     pub groups: Groups,
     pub paths: Paths,
+    pub translations: Translations,
     /// By the image's rule too, where that counts.
     endings: BTreeMap<(Function, Ending, Option<Rule>), u64>,
     /// Of calls on images with a bad table: the answers, and where that is 4 for the table, those without it.
@@ -109,6 +111,12 @@ impl Coverage {
         if let Some(kind) = if answered { unread(words) } else { None } {
             *self.unread.entry((function, kind)).or_default() += 1;
         }
+    }
+
+    /// A translation, which reads no image.
+    pub fn translated(&mut self, lent: &Lent, words: u64, ending: Ending) {
+        *self.endings.entry((Translate, ending, None)).or_default() += 1;
+        self.translations.called(lent, words, ending);
     }
 
     /// The answer of a call on an image with a bad table, or the one that it would give if the table were taken.
@@ -252,6 +260,7 @@ impl Coverage {
         self.conversions.print();
         self.paths.print();
         self.groups.print();
+        self.translations.print();
     }
 
     /// What should have been reached by calls and was not, and what was and should not.
@@ -269,9 +278,8 @@ impl Coverage {
         lines.extend(missed(&all, &self.unread, |key| format!("{} answered on {}", key.0.name(), key.1)));
         let all: Vec<_> = SIZES.iter().flat_map(|&size| LEFTS.iter().map(move |&kind| (size, kind))).collect();
         lines.extend(missed(&all, &self.lefts, |key| format!("claim in a node of size {} that leaves {}", key.0, key.1)));
-        lines.extend(self.conversions.calls_missed());
-        lines.extend(self.paths.calls_missed());
-        lines.extend(self.groups.calls_missed());
+        let (conversions, paths) = (self.conversions.calls_missed(), self.paths.calls_missed());
+        lines.extend([conversions, paths, self.groups.calls_missed(), self.translations.calls_missed()].concat());
         lines
     }
 
@@ -311,9 +319,8 @@ impl Coverage {
         if self.deepest < LAST_LEVEL {
             lines.push(format!("never reached: level {} in a history", LAST_LEVEL));
         }
-        lines.extend(self.conversions.histories_missed());
-        lines.extend(self.paths.histories_missed());
-        lines.extend(self.groups.histories_missed());
+        let (conversions, paths) = (self.conversions.histories_missed(), self.paths.histories_missed());
+        lines.extend([conversions, paths, self.groups.histories_missed(), self.translations.histories_missed()].concat());
         lines
     }
 }

@@ -26,7 +26,7 @@ impl History<'_> {
     }
 
     pub fn call(&self, function: Function, head: u64, reel: u64, frame: u64) -> Call {
-        Call { function, slots: self.table.slots, nodes: self.table.nodes, head, reel, frame }
+        Call { function, slots: self.table.slots, nodes: self.table.nodes, head, reel, frame, words: 0 }
     }
 
     /// A call whose script is carried out: the answer.

@@ -4,7 +4,7 @@ use crate::coverage::Coverage;
 use crate::model::fault::Fault;
 use crate::run::{case, Kind};
 use crate::subject::Subject;
-use crate::{spoil, tidy_spoils};
+use crate::{spoil, tidy_spoils, translate_spoils};
 
 const BASE: u64 = 2;
 
@@ -42,8 +42,9 @@ pub fn find_all() -> bool {
             good &= try_fault(format!("{}: {}", name, text), Subject::Faulty(fault), kind, most);
         }
     }
-    let of_calls = spoil::OF_CALLS.iter().chain(&tidy_spoils::OF_CALLS).collect::<Vec<_>>();
-    let of_histories = spoil::OF_HISTORIES.iter().chain(&tidy_spoils::OF_HISTORIES).collect();
+    let more = (tidy_spoils::OF_CALLS.iter(), tidy_spoils::OF_HISTORIES.iter());
+    let of_calls = spoil::OF_CALLS.iter().chain(more.0).chain(&translate_spoils::OF_CALLS).collect::<Vec<_>>();
+    let of_histories = spoil::OF_HISTORIES.iter().chain(more.1).chain(&translate_spoils::OF_HISTORIES).collect();
     for (name, (kind, most), spoils) in [("calls", calls, of_calls), ("histories", histories, of_histories)] {
         for spoil in spoils {
             good &= try_fault(format!("{}, library: {}", name, spoil.text), Subject::Spoilt(spoil), kind, most);

@@ -27,6 +27,21 @@ const TREES: &[Ending] = &[TREE_EMPTY, TREE_ROOT, TREE_DEEP, REACHED_TWICE];
 const TIDIED: &[Ending] = &[TIDIED_ROOT, TIDIED_2, TIDIED_4, TIDIED_LAST, NO_CHILDREN, NO_GROUP, REACHED_TWICE];
 const BY_HEAD: &[Ending] = &[SCRIPT_LENGTH, HEAD_NUMBER, HEAD_NODE, HEAD_PLACE];
 const TABLES: &[Ending] = &[NO_TABLE, EMPTY_TABLE, GIVEN_TABLE, GIVEN_OURS];
+const APPLIED: &[Ending] =
+    &[SCRIPT_ODD, BARRIER_VALUE, STORE_OUTSIDE, STORES_NONE, STORES_HEADER, STORES, STORES_FLUSHES, FLUSHES_ALONE];
+const TRANSLATED: &[Ending] =
+    &[TRANSLATED_NONE, TRANSLATED_BARRIERS, TRANSLATED_LINE, TRANSLATED_LINES, TRANSLATED_AGAIN, TRANSLATED_WHOLE];
+const UNTRANSLATED: &[Ending] = &[
+    MODULE_SHORT,
+    MODULE_SHORT_FOR_NONE,
+    SCRIPT_ODD,
+    SCRIPT_LONG,
+    STORE_OUTSIDE,
+    BARRIER_VALUE,
+    HOLDS_FLUSH,
+    NO_LAST_BARRIER,
+    SEVERAL_WRONG,
+];
 pub const REFUSED_TABLES: [Ending; 4] = [TABLE_SHORT, TABLE_LONG, TABLE_LACKS_ONE, TABLE_LACKS];
 
 /// Every way in which a call can end.
@@ -47,9 +62,10 @@ pub fn endings(function: Function) -> Vec<Ending> {
         Retire => &[HEADER, PATH, TREES, &[MAP_LENGTH, SCRATCH_LENGTH, SCRIPT_LENGTH, NO_REEL, BUSY]],
         Tidy => &[HEADER, PATH, TIDIED, &[MAP_LENGTH, SCRATCH_LENGTH, SCRIPT_LENGTH, NO_REEL, BUSY]],
         Convert => &[HEADER, PATH, UNSOUND, &[COPY_SHORT, COPY_LONG, SCRATCH_LENGTH, OWN_TABLE, DONE]],
-        Apply => &[LENGTHS, &[SCRIPT_ODD, BARRIER_VALUE, STORE_OUTSIDE, STORES_NONE, STORES_HEADER, STORES]],
+        Apply => &[LENGTHS, APPLIED],
+        Translate => &[TRANSLATED, UNTRANSLATED],
     };
-    let bad: &[Ending] = if matches!(function, Format | Apply) { &[] } else { &BAD_TABLES };
+    let bad: &[Ending] = if matches!(function, Format | Apply | Translate) { &[] } else { &BAD_TABLES };
     [&lists.concat(), bad].concat()
 }
 
@@ -64,7 +80,7 @@ const EACH_AND_NONE: &[Option<Rule>] = &[None, Some(FIRST), Some(SECOND), Some(O
 pub fn rules(function: Function, ending: Ending) -> &'static [Option<Rule>] {
     match (function, ending.answer) {
         (Format | Apply, 0) => EACH_AND_NONE,
-        (Format | Apply, _) | (_, 1 | 2) => ANY,
+        (Format | Apply | Translate, _) | (_, 1 | 2) => ANY,
         (_, 3) => EACH_AND_NONE,
         (Convert, 0) => BUT_OWN,
         (Convert, 17) => OWN_ALONE,
@@ -87,7 +103,7 @@ pub fn answers(function: Function) -> &'static [u64] {
         Retire => &[0, 1, 3, 5, 13],
         Tidy => &[0, 1, 3, 5, 13, 18],
         Convert => &[0, 1, 3, 17],
-        Apply => &[],
+        Apply | Translate => &[],
     }
 }
 
@@ -101,6 +117,7 @@ pub fn answers_by(function: Function, rule: Rule) -> impl Iterator<Item = u64> {
 pub fn beside_bad_table(function: Function) -> Vec<u64> {
     match function {
         Apply => vec![0, 1, 3],
+        Translate => Vec::new(),
         Format | Open => answers(function).to_vec(),
         _ => [answers(function), &[4]].concat(),
     }
@@ -124,7 +141,7 @@ pub fn scripts(function: Function) -> &'static [usize] {
         Fill | Remove => &[4, 0],
         Commit | Abandon | Retire | Tidy => &[2, 0],
         Format | Recover | Has | List | Convert => &[0],
-        Apply => &[],
+        Apply | Translate => &[],
     }
 }
 

@@ -19,6 +19,7 @@ use crate::report::describe;
 use crate::start::start;
 use crate::subject::Subject;
 use crate::tables;
+use crate::translating::Translating;
 
 pub struct History<'a> {
     pub random: Random,
@@ -33,6 +34,11 @@ pub struct History<'a> {
     pub header: [u64; HEADER_WORDS as usize],
     /// It is a copy, with which the history went on.
     pub copied: bool,
+    /// Power fails on the module with line flushes, and not on the present one.
+    pub on_lines: bool,
+    pub translating: Translating,
+    /// The last script that was handed out, as the module gets it.
+    pub translated: Vec<Entry>,
 }
 
 pub fn case(seed: u64, subject: Subject, coverage: &mut Coverage) -> Result<(), String> {
@@ -123,7 +129,7 @@ impl History<'_> {
         let own = self.lend(call);
         let due = self.due(call);
         let rule = self.rule();
-        let compared = matches!(call.function, Function::Convert | Function::Tidy);
+        let compared = matches!(call.function, Function::Format | Function::Recover | Function::Convert | Function::Tidy);
         let before = if compared { Some(self.lent.clone()) } else { None };
         let handed = self.subject.perform(call, &mut self.lent, self.random.word());
         let reply = self.table.perform(call, &Fed::of(&self.lent), handed.answer);
@@ -135,19 +141,12 @@ impl History<'_> {
             return Err(format!("there is written outside the {}", name));
         }
         self.compare(handed.answer, handed.count, &reply)?;
-        match (call.function, before) {
-            (Function::Claim, _) => self.compare_claim(call, &handed, due)?,
-            (Function::Has, _) => self.compare_has(call, &handed)?,
-            (Function::Convert, Some(before)) => self.check_convert(before, handed.answer)?,
-            (Function::Tidy, Some(before)) => self.check_tidy(call, before, &handed)?,
-            _ => (),
-        }
+        self.check_more(call, &handed, due, before)?;
         let scripted = reply == Ok(Value::None);
         let entries = if scripted { script::read(&self.lent.script[..handed.count as usize]) } else { Vec::new() };
-        for Own { which, buffer, if_refused } in own {
-            if handed.answer != 0 || !if_refused {
-                *self.buffer(which) = buffer;
-            }
+        self.take_back(own, handed.answer);
+        if self.on_lines || self.random.one_in(4) {
+            self.translate(&entries).map_err(|text| format!("translated: {}", text))?;
         }
         match (call.function, handed.answer) {
             (Function::Has, 0) => self.coverage.lookup(handed.count == 1, rule),
@@ -157,6 +156,20 @@ impl History<'_> {
         }
         self.check_header()?;
         Ok((handed.answer, entries))
+    }
+
+    /// What the table does not know, by what was lent before.
+    fn check_more(&mut self, call: &Call, handed: &Handed, due: (u64, Option<u64>), before: Option<Lent>) -> Result<(), String> {
+        if let (Some(before), 0, true) = (&before, handed.answer, self.random.one_in(8)) {
+            self.check_written(call.function, before)?;
+        }
+        match (call.function, before) {
+            (Function::Claim, _) => self.compare_claim(call, handed, due),
+            (Function::Has, _) => self.compare_has(call, handed),
+            (Function::Convert, Some(before)) => self.check_convert(before, handed.answer),
+            (Function::Tidy, Some(before)) => self.check_tidy(call, before, handed),
+            _ => Ok(()),
+        }
     }
 
     /// Book and table have answered a format of a book that went by another rule, or by the same.
@@ -258,6 +271,14 @@ impl History<'_> {
         };
         self.buffer(which).resize(length as usize, || 0);
         vec![Own { which, buffer, if_refused: false }]
+    }
+
+    fn take_back(&mut self, own: Vec<Own>, answer: u64) {
+        for Own { which, buffer, if_refused } in own {
+            if answer != 0 || !if_refused {
+                *self.buffer(which) = buffer;
+            }
+        }
     }
 
     /// Another R and N for Format: of the same length, with a map of their own, or of another length.

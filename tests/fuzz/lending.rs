@@ -5,7 +5,7 @@ use crate::model::claim::node_used;
 use crate::model::fault::Fault;
 use crate::model::image::*;
 use crate::model::node::PLACES;
-use crate::model::script::{Entry, BARRIER, SCRIPT_WORDS};
+use crate::model::script::{Entry, BARRIER, FLUSH, LINE_WORDS, SCRIPT_WORDS};
 use crate::random::Random;
 use crate::tables;
 
@@ -173,7 +173,7 @@ impl Lending<'_> {
         }
     }
 
-    /// A script for Apply: stores and barriers, one entry of it perhaps wrong, or of odd length.
+    /// A script for Apply: stores, barriers and flushes, one entry of it perhaps wrong, or of odd length.
     pub fn script(&mut self) {
         let length = self.lent.image.len() as u64;
         let count = self.random.below(8);
@@ -196,7 +196,20 @@ impl Lending<'_> {
         self.lent.script[..words.len()].copy_from_slice(&words);
     }
 
+    /// A line of the image, one just behind it, or any.
+    fn line(&mut self, length: u64) -> u64 {
+        let lines = (length + LINE_WORDS - 1) / LINE_WORDS;
+        match self.random.below(4) {
+            0 => lines,
+            1 => self.odd_word(),
+            _ => self.random.below(lines.max(1)),
+        }
+    }
+
     fn entry(&mut self, from: u64, length: u64) -> Entry {
+        if self.random.one_in(8) {
+            return (FLUSH, self.line(length));
+        }
         if self.random.one_in(4) || from >= length {
             return BARRIER;
         }

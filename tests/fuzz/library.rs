@@ -1,4 +1,4 @@
-//! The library's fourteen functions, called as a C driver calls them.
+//! The library's fifteen functions, called as a C driver calls them.
 use crate::model::buffer::Buffer;
 use crate::model::call::{Call, Function, Lent};
 
@@ -41,6 +41,9 @@ extern "C" {
         image: Read, words: usize, copy: Words, copy_words: usize, scratch: Words, scratch_words: usize,
     ) -> u64;
     fn reelbook_apply(image: Words, words: usize, script: Read, room: usize) -> u64;
+    fn reelbook_translate(
+        script: Read, script_words: usize, module: Words, module_words: usize, image_words: u64, used: Words,
+    ) -> u64;
 }
 
 fn slice(buffer: &mut Buffer) -> (Words, usize) {
@@ -55,9 +58,10 @@ pub fn perform(call: &Call, lent: &mut Lent, count: &mut u64, left: &mut u64, pa
     let (script, room) = slice(&mut lent.script);
     let (scratch, scratch_words) = slice(&mut lent.scratch);
     let (list, list_room) = slice(&mut lent.list);
+    let (module, module_words) = slice(&mut lent.module);
     let heads = lent.heads.as_mut_ptr();
     let (table, table_bytes) = lent.table.as_ref().map_or((std::ptr::null(), 0), |table| (table.as_ptr(), table.len()));
-    let &Call { function, slots, nodes, head, reel, frame } = call;
+    let &Call { function, slots, nodes, head, reel, frame, words: image_words } = call;
     // Sound: the slices are apart from each other and of the lengths given, and heads has all of its words. No memory has length
     // 0.
     unsafe {
@@ -80,6 +84,7 @@ pub fn perform(call: &Call, lent: &mut Lent, count: &mut u64, left: &mut u64, pa
             }
             Function::Convert => reelbook_convert(image, words, copy, copy_words, scratch, scratch_words),
             Function::Apply => reelbook_apply(image, words, script, room),
+            Function::Translate => reelbook_translate(script, room, module, module_words, image_words, count),
         }
     }
 }

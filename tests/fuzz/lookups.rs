@@ -42,7 +42,7 @@ impl History<'_> {
 
     /// A Has beside the history's calls: the nodes on the path.
     pub fn ask(&mut self, reel: u64, frame: u64) -> Result<u64, String> {
-        let call = Call { function: Function::Has, slots: 0, nodes: 0, head: 0, reel, frame };
+        let call = Call { function: Function::Has, slots: 0, nodes: 0, head: 0, reel, frame, words: 0 };
         let handed = self.subject.perform(&call, &mut self.lent, JUNK);
         let expected = self.table.reels.get(&reel).map_or((5, 0), |frames| (0, u64::from(frames.contains(&frame))));
         if (handed.answer, handed.count) != expected {

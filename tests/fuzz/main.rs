@@ -12,11 +12,13 @@ mod damage;
 mod directed;
 mod ebb;
 mod faults;
+mod flushing;
 mod goals;
 mod groups;
 mod history;
 mod lending;
 mod library;
+mod lines;
 mod lookups;
 #[path = "../model/mod.rs"]
 mod model;
@@ -36,6 +38,10 @@ mod tables;
 mod tidy_cases;
 mod tidy_spoils;
 mod tidying;
+mod translate_cases;
+mod translate_spoils;
+mod translating;
+mod translations;
 mod trees;
 mod trip;
 

@@ -202,7 +202,7 @@ impl Plan {
             (_, Some((about, claimed))) if function == Claim && about == reel && random.one_in(10) => claimed,
             _ => frame,
         };
-        Call { function, slots: table.slots, nodes: table.nodes, head, reel, frame }
+        Call { function, slots: table.slots, nodes: table.nodes, head, reel, frame, words: 0 }
     }
 
     /// A head that is under way, mostly, or an idle one; where heads work together the other way round.

@@ -9,6 +9,7 @@ use crate::model::ending::Ending;
 use crate::model::fault::Fault;
 use crate::model::image::*;
 use crate::model::loads::load;
+use crate::model::module::as_far;
 use crate::model::node::{Node, LEVEL_AT, LOCATE, PLACES, SET};
 use crate::model::operations::check_image;
 use crate::model::rule::{Rule, OWN};
@@ -22,7 +23,7 @@ use std::collections::{BTreeSet, HashSet};
 const SOME_MIXTURES: u64 = 4;
 const MOST_ATTEMPTS: u64 = 3;
 /// Without numbers of its own.
-const RECOVER: Call = Call { function: Function::Recover, slots: 0, nodes: 0, head: 0, reel: 0, frame: 0 };
+const RECOVER: Call = Call { function: Function::Recover, slots: 0, nodes: 0, head: 0, reel: 0, frame: 0, words: 0 };
 
 fn unsound(ending: Ending) -> String {
     format!("the image is not sound: {}", ending.shape)
@@ -129,16 +130,24 @@ impl History<'_> {
         carry_out(&mut carried, entries);
         let after = Contents { reels: self.table.reels.clone(), ..contents(&carried)? };
         let load = load(&self.table, call.reel).iter().sum();
-        let moments = entries.len() as u64 + 1;
+        let performed = if self.on_lines { self.translated.clone() } else { entries.to_vec() };
+        let moments = performed.len() as u64 + 1;
         let first = self.random.below(moments);
         let every_moment = self.plan.every_moment || call.function == Function::Tidy;
         for moment in first..first + if every_moment { moments } else { 1 } {
-            let (done, left) = entries.split_at((moment % moments) as usize);
-            let passed = !left.contains(&BARRIER);
-            self.coverage.crash(call.function, entries.len(), done.len(), claims, self.rule());
-            let cut = Cut { call, load, entries: entries.len(), moment: done.len() };
-            self.crash(&Crash::after(&image, done), &before, &after, passed, Some(&cut))
-                .map_err(|text| format!("crash after {} of {} entries: {}", done.len(), entries.len(), text))?;
+            let (done, left) = performed.split_at((moment % moments) as usize);
+            let (passed, far) = (!left.contains(&BARRIER), as_far(done));
+            self.coverage.crash(call.function, entries.len(), far, claims, self.rule());
+            let cut = Cut { call, load, entries: entries.len(), moment: far };
+            let mut crash = Crash::after(&image, &entries[..far]);
+            if self.on_lines {
+                self.coverage.translations.cut(call.function, entries.len(), far, done, left);
+                crash = Crash::on_lines(&image, done, crash, self.subject.fault());
+            }
+            crash
+                .check_here(self.random.word())
+                .and_then(|_| self.crash(&crash, &before, &after, passed, Some(&cut)))
+                .map_err(|text| format!("crash after {} of {} entries: {}", done.len(), performed.len(), text))?;
         }
         Ok(())
     }
@@ -147,7 +156,8 @@ impl History<'_> {
     pub fn crash_in_recover(&mut self, image: &Buffer, reels: &Reels, claims: Claims) -> Result<(), String> {
         self.coverage.crash(Function::Recover, 0, 0, claims, self.rule());
         let both = Contents { reels: reels.clone(), ..contents(image)? };
-        self.crash(&Crash::in_recover(image, &self.lent.image), &both, &both, false, None)
+        let crash = self.crash_of_recover(image);
+        self.crash(&crash, &both, &both, false, None)
     }
 
     /// Tries what the crash can leave, and goes on from the last one tried. `passed`: the script's last barrier has passed. Has
@@ -161,7 +171,7 @@ impl History<'_> {
         cut: Option<&Cut>,
     ) -> Result<(), String> {
         let mixtures = crash.mixtures();
-        let all = mixtures <= self.plan.mixtures;
+        let all = mixtures <= if crash.flushing { SOME_MIXTURES } else { self.plan.mixtures };
         let first = self.random.below(mixtures);
         // The last number is that with every store kept.
         let kept = u64::from(self.plan.brim);
@@ -173,6 +183,7 @@ impl History<'_> {
             };
             self.lent.image = crash.mixture(number);
             let named = |text: String| format!("mixture {} of {}: {}", number, mixtures, text);
+            crash.check(&self.lent.image).map_err(named)?;
             let undone = self.recovered(before, after, passed).map_err(named)?;
             self.coverage.mixture(undone, before.reels != after.reels);
             cut.map_or(Ok(()), |cut| self.ask_after(cut)).map_err(named)?;
@@ -209,7 +220,7 @@ impl History<'_> {
             }
             let image = self.lent.image.clone();
             self.recover_once()?;
-            let crash = Crash::in_recover(&image, &self.lent.image);
+            let crash = self.crash_of_recover(&image);
             self.lent.image = crash.mixture(self.random.below(crash.mixtures()));
             self.coverage.cut_recovery();
         }

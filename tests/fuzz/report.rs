@@ -12,6 +12,7 @@ pub fn describe(call: &Call) -> String {
     match call.function {
         Format => format!("{} slots={} nodes={}", name, call.slots, call.nodes),
         Recover | Convert | Apply => name,
+        Translate => format!("{} image words={}", name, call.words),
         Open | List | Retire | Tidy => format!("{} reel={}", name, call.reel),
         Claim => format!("{} head={} reel={} frame={}", name, call.head, call.reel, call.frame),
         Fill | Commit | Abandon => format!("{} head={}", name, call.head),

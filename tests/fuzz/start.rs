@@ -14,6 +14,7 @@ use crate::model::table::{Fed, Reels, Table};
 use crate::plan::Plan;
 use crate::random::Random;
 use crate::subject::Subject;
+use crate::translating::Translating;
 use crate::{tables, trees};
 
 pub fn start(mut random: Random, subject: Subject, coverage: &mut Coverage) -> Result<History<'_>, String> {
@@ -23,7 +24,21 @@ pub fn start(mut random: Random, subject: Subject, coverage: &mut Coverage) -> R
     let formats = random.one_in(2);
     let header = header(plan.slots, plan.nodes, &[]);
     let loads = Loads::default();
-    let mut history = History { random, subject, coverage, lent, table, loads, plan, header, copied: false };
+    let on_lines = random.one_in(3);
+    let mut history = History {
+        random,
+        subject,
+        coverage,
+        lent,
+        table,
+        loads,
+        plan,
+        header,
+        copied: false,
+        on_lines,
+        translating: Translating::new(),
+        translated: Vec::new(),
+    };
     let started = if formats { history.format_first() } else { history.recover_first() };
     started.map_err(|text| format!("start: {}", text))?;
     Ok(history)
@@ -41,6 +56,7 @@ fn memory(random: &mut Random, slots: u64, nodes: u64) -> Lent {
         script: junk(SCRIPT_WORDS as u64),
         scratch: junk(map_words(nodes)),
         list: junk(64 * nodes),
+        module: Buffer::of([]),
         table: None,
     }
 }
@@ -55,7 +71,7 @@ fn forget_frames(reels: &mut Reels) {
 impl History<'_> {
     fn format_first(&mut self) -> Result<(), String> {
         let (slots, nodes) = (self.plan.slots, self.plan.nodes);
-        let format = Call { function: Function::Format, slots, nodes, head: 0, reel: 0, frame: 0 };
+        let format = Call { function: Function::Format, slots, nodes, head: 0, reel: 0, frame: 0, words: 0 };
         let mut refused = false;
         while !self.format_once(&format)? {
             refused = true;

@@ -51,12 +51,11 @@ impl History<'_> {
     /// The script of a call is carried out. When a group was given back, the book is read whole: frames, nodes and map.
     pub fn carry_out(&mut self, call: &Call, answer: u64, entries: &[Entry]) -> Result<(), String> {
         if call.function != Function::Tidy || answer != 0 {
-            script::carry_out(&mut self.lent.image, entries);
-            return Ok(());
+            return self.apply(entries);
         }
         let group = group_in(&self.lent.image, call.reel);
         let (parent, level) = group.map_or((0, 0), |group| (group.parent.number, group.level));
-        script::carry_out(&mut self.lent.image, entries);
+        self.apply(entries)?;
         self.check_book()?;
         self.tidied(call.reel, parent, level);
         self.ask_reel(call.reel)

@@ -18,7 +18,7 @@ pub struct Trip<'a> {
 
 /// A call with a reel at most.
 fn call(function: Function, reel: u64) -> Call {
-    Call { function, slots: 0, nodes: 0, head: 0, reel, frame: 0 }
+    Call { function, slots: 0, nodes: 0, head: 0, reel, frame: 0, words: 0 }
 }
 
 impl Trip<'_> {
@@ -44,7 +44,8 @@ impl Trip<'_> {
         let mut junk = |length: u64| Buffer::of((0..length).map(|_| self.random.word()));
         let (map, heads, scratch) = (junk(map_words(nodes)), junk(HEADS * HEAD_WORDS as u64), junk(map_words(nodes)));
         let none = || Buffer::of([]);
-        Lent { image: image.clone(), copy: none(), map, heads, script: none(), scratch, list: none(), table: None }
+        let (copy, script, list, module) = (none(), none(), none(), none());
+        Lent { image: image.clone(), copy, map, heads, script, scratch, list, module, table: None }
     }
 
     fn convert(&mut self, image: &Buffer) -> Result<Buffer, String> {

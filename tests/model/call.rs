@@ -17,10 +17,11 @@ pub enum Function {
     Tidy,
     Convert,
     Apply,
+    Translate,
 }
 
 impl Function {
-    pub const ALL: [Function; 14] = [
+    pub const ALL: [Function; 15] = [
         Function::Format,
         Function::Recover,
         Function::Open,
@@ -35,6 +36,7 @@ impl Function {
         Function::Tidy,
         Function::Convert,
         Function::Apply,
+        Function::Translate,
     ];
 
     pub fn name(self) -> String {
@@ -51,6 +53,8 @@ pub struct Call {
     pub head: u64,
     pub reel: u64,
     pub frame: u64,
+    /// The image's length, which Translate is given as a number.
+    pub words: u64,
 }
 
 /// What a call hands back: its answer; words of script, frames listed, or Has's yes or no; Claim's places left; the nodes on the
@@ -74,6 +78,8 @@ pub struct Lent {
     pub script: Buffer,
     pub scratch: Buffer,
     pub list: Buffer,
+    /// The buffer for the module's script, of Translate alone.
+    pub module: Buffer,
     /// The table that Format is given. None is no memory at all, which counts as a length of 0.
     pub table: Option<Buffer<u8>>,
 }
@@ -96,7 +102,7 @@ impl Lent {
         differing.map(|((name, _), _)| name)
     }
 
-    pub fn named(&self) -> [(&'static str, &Buffer); 7] {
+    pub fn named(&self) -> [(&'static str, &Buffer); 8] {
         [
             ("image", &self.image),
             ("copy", &self.copy),
@@ -105,6 +111,7 @@ impl Lent {
             ("script", &self.script),
             ("scratch", &self.scratch),
             ("list", &self.list),
+            ("module", &self.module),
         ]
     }
 }
@@ -119,6 +126,7 @@ impl Clone for Lent {
             script: self.script.clone(),
             scratch: self.scratch.clone(),
             list: self.list.clone(),
+            module: self.module.clone(),
             table: self.table.clone(),
         }
     }
@@ -131,6 +139,7 @@ impl Clone for Lent {
         self.script.clone_from(&other.script);
         self.scratch.clone_from(&other.scratch);
         self.list.clone_from(&other.list);
+        self.module.clone_from(&other.module);
         self.table.clone_from(&other.table);
     }
 }

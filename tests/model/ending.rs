@@ -46,6 +46,14 @@ pub const TIDIED_LAST: Ending = ending(0, "children of level 31");
 pub const STORES_NONE: Ending = ending(0, "no store");
 pub const STORES_HEADER: Ending = ending(0, "store to the header");
 pub const STORES: Ending = ending(0, "stores");
+pub const STORES_FLUSHES: Ending = ending(0, "stores and flushes");
+pub const FLUSHES_ALONE: Ending = ending(0, "flushes and no store");
+pub const TRANSLATED_NONE: Ending = ending(0, "no entry");
+pub const TRANSLATED_BARRIERS: Ending = ending(0, "barriers alone");
+pub const TRANSLATED_LINE: Ending = ending(0, "one line before each barrier");
+pub const TRANSLATED_LINES: Ending = ending(0, "several lines before a barrier");
+pub const TRANSLATED_AGAIN: Ending = ending(0, "a line of an earlier barrier again");
+pub const TRANSLATED_WHOLE: Ending = ending(0, "24 lines before the barrier");
 
 pub const TOO_SHORT: Ending = ending(1, "too short for its header");
 pub const SLOTS: Ending = ending(1, "number of slots");
@@ -62,6 +70,12 @@ pub const SCRIPT_LENGTH: Ending = ending(3, "script too short");
 pub const SCRIPT_ODD: Ending = ending(3, "script of odd length");
 pub const BARRIER_VALUE: Ending = ending(3, "barrier with a value");
 pub const STORE_OUTSIDE: Ending = ending(3, "store outside");
+pub const MODULE_SHORT: Ending = ending(3, "module's buffer too short");
+pub const MODULE_SHORT_FOR_NONE: Ending = ending(3, "module's buffer too short, and no entry");
+pub const SCRIPT_LONG: Ending = ending(3, "script too long");
+pub const HOLDS_FLUSH: Ending = ending(3, "a flush in the script");
+pub const NO_LAST_BARRIER: Ending = ending(3, "no barrier at the end");
+pub const SEVERAL_WRONG: Ending = ending(3, "several reasons");
 
 pub const OWN_2: Ending = ending(4, "word 3 is 2");
 pub const OWN_HIGH: Ending = ending(4, "word 3 is 0 or 1 but for higher bytes");

@@ -1,5 +1,6 @@
-//! The fourteen functions: answer, count, script and every buffer at the end, over any contents, numbers and lengths.
+//! The fifteen functions: answer, count, script and every buffer at the end, over any contents, numbers and lengths.
 //! Refusals come by `?`, in the specification's sequence, before anything is written.
+use super::apply::apply;
 use super::call::{Call, Function, Handed, Lent};
 use super::claim::claim;
 use super::convert::convert;
@@ -13,6 +14,7 @@ use super::path_nodes::path_nodes;
 use super::rule::Rule;
 use super::script::{self, Entry, BARRIER, SCRIPT_WORDS};
 use super::tidy::tidy;
+use super::translate::translate;
 use super::tree::{self, Reached};
 use std::collections::HashSet;
 
@@ -40,6 +42,7 @@ pub fn perform(call: &Call, lent: &mut Lent, fault: Fault) -> Outcome {
         Function::Tidy => tidy(call, lent, fault),
         Function::Convert => convert(lent, fault),
         Function::Apply => apply(lent, fault),
+        Function::Translate => translate(call, lent, fault),
     };
     let (ending, count) = ended.unwrap_or_else(|refusal| (refusal, 0));
     let claimed = call.function == Function::Claim && ending.answer == 0;
@@ -57,7 +60,7 @@ pub fn check_image(words: &[u64], fault: Fault) -> Result<Image<'_>, Ending> {
 }
 
 /// Refusal 2, for an edition other than 1 and 2.
-fn check_edition(edition: u64, fault: Fault) -> Result<(), Ending> {
+pub fn check_edition(edition: u64, fault: Fault) -> Result<(), Ending> {
     let known = match fault {
         Fault::Edition3Taken => (1..=3).contains(&edition),
         Fault::Edition1Refused => edition == EDITION,
@@ -332,35 +335,4 @@ fn retire(call: &Call, lent: &mut Lent, fault: Fault) -> Ended {
         mark_free(&mut lent.map, reached.node.number);
     }
     Ok((shape(&walk), script::write(&mut lent.script, &[(slot_index(slot) + 1, 0), BARRIER])))
-}
-
-fn apply(lent: &mut Lent, fault: Fault) -> Ended {
-    let image = Image::read(&lent.image, fault)?;
-    let length = image.words.len() as u64;
-    if fault == Fault::ApplyReadsEdition {
-        check_edition(image.edition(), fault)?;
-    }
-    image.check_table_if(Fault::ApplyReadsTable)?;
-    check(lent.script.len() % 2 == 0, SCRIPT_ODD)?;
-    let entries = script::read(&lent.script);
-    for (done, &(index, value)) in entries.iter().enumerate() {
-        if fault == Fault::AppliedInPart {
-            script::carry_out(&mut lent.image, &entries[..done]);
-        }
-        if index == BARRIER.0 {
-            check(value == BARRIER.1 || fault == Fault::BarrierWithValue, BARRIER_VALUE)?;
-        } else {
-            check(index < length, STORE_OUTSIDE)?;
-        }
-    }
-    script::carry_out(&mut lent.image, &entries);
-    let store = |least: u64, below: u64| entries.iter().any(|entry| entry.0 >= least && entry.0 < below);
-    let ending = if store(0, HEADER_WORDS) {
-        STORES_HEADER
-    } else if store(HEADER_WORDS, length) {
-        STORES
-    } else {
-        STORES_NONE
-    };
-    Ok((ending, 0))
 }

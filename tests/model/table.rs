@@ -129,7 +129,7 @@ impl Table {
             Function::Retire => self.retire(call.reel)?,
             Function::Tidy => self.tidy(call.reel, book)?,
             Function::Convert => refuse(self.own, 17)?,
-            Function::Format | Function::Apply => unreachable!("answered above, or no operation"),
+            Function::Format | Function::Apply | Function::Translate => unreachable!("answered above, or no operation"),
         }
         Ok(Value::None)
     }

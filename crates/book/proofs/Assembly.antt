@@ -7,17 +7,18 @@ use Prim.Native.Nat.{ℕ}
 use native.Mathlib.Decide.{ℕ-discrete}
 use lib.Seq.{ext-getD}
 use lib.Dec.{eqb}
-use Rattle.tree.specs.Memory.{reads, segmented, apply, CrashImage, passed, Fit}
+use Rattle.tree.specs.Memory.{reads, segmented, apply, CrashImage, passed, Module, entriesOn, oursOn, Fit}
 use Rattle.tree.specs.declared.layout.Geometry.{Geometry}
 use Rattle.tree.specs.Layout.{mapWords, geometryOf}
 use Rattle.tree.specs.Fingerprint.{isGiven}
-use Rattle.tree.proofs.Memory.{crash-laws, crash-none, passed-or}
+use Rattle.tree.proofs.Memory.{crash-laws, crash-none, passed-or, module-laws}
 use Rattle.book.specs.State.{State, Operation, format, recover, openReel, claim, fill, commit, abandon, remove, retire, tidy, query, Query, arguments}
 use Rattle.book.specs.Perform.{granted, perform}
 use Rattle.book.specs.Table.{Table, Reel, geometry, fed, tableWork, emptyTable, allIdle}
 use Rattle.book.specs.Agrees.{Shows, Agrees}
 use Rattle.book.specs.Histories.{carriedOut, done, replied, answered-format, Interrupted, Attempts, Recovered, Follows, formatted, found, started, performed, before, after}
 use Rattle.book.specs.Demands.{Demand2, Survives, Demand3}
+use Rattle.book.proofs.Modules.{our-crash}
 use Rattle.book.proofs.Performed.{work-granted, reply-granted, reply-refused}
 use Rattle.book.proofs.Demand1.{demand1}
 use Rattle.book.proofs.Done.{done-granted, refused-image, done-same}
@@ -100,7 +101,7 @@ unfolding allIdle
 idle-seen t v = v
 
 -- the state before an interrupted operation that does not write the image
-pub itself-same : {op : Operation} {s : State} {k : ℕ} {m : List ℕ} (c : Interrupted op s k m) → perform op s .work .after .image ≡ s .image → c .itself ≡ s .image
+pub itself-same : {op : Operation} {s : State} {k : ℕ} {m : List ℕ} {on : Module} (c : Interrupted on op s k m) → perform op s .work .after .image ≡ s .image → c .itself ≡ s .image
 itself-same {s = s} c q =
     ext-getD 0 (c .itself) (s .image) (c .same-length) (λ i l. elim (c .old-or-new i) [ inl e ↦ e | inr e ↦ e ∙ ap (λ m. reads m i) q ])
 
@@ -112,11 +113,11 @@ accepted : {g : Geometry} {o : Bool} {m : List ℕ} {rs : List Reel} → View g 
     → perform (recover words) r .answer ≡ cond (eqb words (mapWords (geometryOf (reads m)))) 0 3
 accepted {g} {o = o} {rs = rs} v words r q = rw (v .header .geometry) (recover-answers {g = g} {o = o} {rs = rs} r (rw q v) words)
 
-found-accepted : (m m' : List ℕ) (t : Table) → Shows m t → Attempts m m' → (words : ℕ) (r : State) → r .image ≡ m'
+found-accepted : {on : Module} (m m' : List ℕ) (t : Table) → Shows m t → Attempts on m m' → (words : ℕ) (r : State) → r .image ≡ m'
     → perform (recover words) r .answer ≡ cond (eqb words (mapWords (geometryOf (reads m')))) 0 3
 found-accepted m m' t v a = accepted (attempts-view a (seen v))
 
-whole : {m : List ℕ} (t : Table) {s' : State} → Seen m t → Recovered m s' → Agrees s' (allIdle t)
+whole : {m : List ℕ} {on : Module} (t : Table) {s' : State} → Seen m t → Recovered on m s' → Agrees s' (allIdle t)
 whole t v c = rw (← idle-table {g = geometry t} t refl refl) (recovered-view c v)
 
 module _ {s : State} {t : Table} (a : Agrees s t) (op : Operation) (fit : Fit (arguments op)) where
@@ -147,34 +148,34 @@ module _ (steps : Steps) where
   -- ---- an operation interrupted
 
   -- answered: the table before, while a barrier was left to pass, or the one after
-  answered-seen : {s : State} {t : Table} {op : Operation} {k : ℕ} {m : List ℕ} → Agrees s t → Fit (arguments op) → Kind op → perform op s .answer ≡ 0
-      → Interrupted op s k m → ((passed (segmented (perform op s .work .script)) k → ⊥) × Seen m t) ⊎ Seen m (tableWork op t .after)
+  answered-seen : {s : State} {t : Table} {op : Operation} {k : ℕ} {m : List ℕ} {on : Module} → Agrees s t → Fit (arguments op) → Kind op → perform op s .answer ≡ 0
+      → Interrupted on op s k m → ((passed (entriesOn on (segmented (perform op s .work .script))) k → ⊥) × Seen m t) ⊎ Seen m (tableWork op t .after)
   answered-seen a fit formats h c = absurd (c .unsteady (rw h answered-format))
   answered-seen {s} {t} {k = k} {m = m} a fit (recovers {words}) h c =
       inr (rw (table-recover words t) (idle-seen t (interrupted-view words s k m (seen (a .shows)) c)))
-  answered-seen {s} {t} {op = op} {k = k} {m = m} a fit (scripted x) h c =
+  answered-seen {s} {t} {op = op} {k = k} {m = m} {on = on} a fit (scripted x) h c =
       let w = work-granted op s h in
       let step = steps .step a x fit h in
       let es = segmented (granted op s .script) in
       let q : c .itself ≡ s .image = itself-same c (ap (λ y. y .after .image) w ∙ granted-image s x) in
-      let crash : CrashImage (s .image) es k m = rw (q, w) at (c .script) in
+      let crash : CrashImage (s .image) es (oursOn on es k) m = rw (q, w) at (our-crash c) in
       let end : carriedOut (granted op s) .image ≡ apply (s .image) es = ap (λ i. apply i es) (granted-image s x) in
-      elim (passed-or (segmented (perform op s .work .script)) k) [
-        | inl p ↦ inr (rw (crash-laws .all-passed (s .image) (granted op s .script) k m (rw w at p) crash ∙ sym end) (seen (step .final .shows)))
-        | inr n ↦ elim (step .crash k m crash) [ inl u ↦ inl (n, seen u) | inr u ↦ inr (seen u) ]
+      elim (passed-or (entriesOn on (segmented (perform op s .work .script))) k) [
+        | inl p ↦ inr (rw (crash-laws .all-passed (s .image) (granted op s .script) _ m (rw w at (module-laws .passed-alike on (perform op s .work .script) k .0 p)) crash ∙ sym end) (seen (step .final .shows)))
+        | inr n ↦ elim (step .crash _ m crash) [ inl u ↦ inl (n, seen u) | inr u ↦ inr (seen u) ]
       ]
 
-  survived : {s : State} {t : Table} → Agrees s t → (op : Operation) → Fit (arguments op) → (k : ℕ) (m : List ℕ) → Interrupted op s k m
-      → ((passed (segmented (perform op s .work .script)) k → ⊥) × Seen m t) ⊎ Seen m (replied op s t .work .after)
+  survived : {s : State} {t : Table} {on : Module} → Agrees s t → (op : Operation) → Fit (arguments op) → (k : ℕ) (m : List ℕ) → Interrupted on op s k m
+      → ((passed (entriesOn on (segmented (perform op s .work .script))) k → ⊥) × Seen m t) ⊎ Seen m (replied op s t .work .after)
   survived {s} {t} a op fit k m c = elim (ℕ-discrete (perform op s .answer) 0) [
     | yes h ↦ rw (after-answered a op fit h) (answered-seen a fit (kind op) h c)
     | no h ↦
-        let e : m ≡ s .image = crash-none (c .itself) k m (rw (demand1 .refused op s h .no-store) at (c .script)) ∙ itself-same c (refused-image op s h) in
+        let e : m ≡ s .image = crash-none (c .itself) _ m (rw (demand1 .refused op s h .no-store) at (our-crash c)) ∙ itself-same c (refused-image op s h) in
         inr (rw (after-refused a op fit h, e) (seen (a .shows)))
   ]
 
-  survives : {s : State} {t : Table} → Agrees s t → (op : Operation) → Fit (arguments op) → (k : ℕ) (m m' : List ℕ) → Interrupted op s k m
-      → Attempts m m' → Survives op s t k m'
+  survives : {s : State} {t : Table} {on : Module} → Agrees s t → (op : Operation) → Fit (arguments op) → (k : ℕ) (m m' : List ℕ) → Interrupted on op s k m
+      → Attempts on m m' → Survives on op s t k m'
   survives {s} {t} a op fit k m m' c tried = elim (survived a op fit k m c) [
     | inl p ↦ let v = attempts-view tried (p .1) in record { accepted = accepted v; whole = λ s' r. inl (p .0, whole t v r) }
     | inr u ↦ let v = attempts-view tried u in record { accepted = accepted v; whole = λ s' r. inr (whole (replied op s t .work .after) v r) }
@@ -182,15 +183,15 @@ module _ (steps : Steps) where
 
   -- ---- histories
 
-  pub agreed : {s : State} {t : Table} → Follows s t → Agrees s t
+  pub agreed : {s : State} {t : Table} {on : Module} → Follows on s t → Agrees s t
   agreed (started (formatted words table slots nodes s fit h)) = format-agrees words table slots nodes s fit h
   agreed (started (found {t = t} v r)) = whole t (seen v) r
   agreed (performed f op fit) = done-agrees (agreed f) op fit
   agreed (before f op fit k c r n a) = a
   agreed (after f op fit k c r a) = a
 
-  pub demand3-from : Demand3
+  pub demand3-from : {on : Module} → Demand3 on
   demand3-from s t f = let a = agreed f in record { agrees = a; survives = survives a }
 
-  pub demand2-from : Demand2
+  pub demand2-from : {on : Module} → Demand2 on
   demand2-from = record { starts = format-starts; shown = held-shown; accepted = found-accepted; starts-on = held-starts; alike = λ s t f op fit. alike (agreed f) op fit }

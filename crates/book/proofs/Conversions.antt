@@ -11,7 +11,7 @@ use lib.ListN.{length}
 use lib.Seq.{ext-getD}
 use lib.Dec.{leb}
 use borrow.Author.Tests.{leb-false}
-use Rattle.tree.specs.Memory.{Memory, reads, stores, apply}
+use Rattle.tree.specs.Memory.{Memory, reads, stores, apply, Module}
 use Rattle.tree.specs.Test.{lt, le}
 use Rattle.tree.specs.declared.layout.Geometry.{Geometry}
 use Rattle.tree.specs.Layout.{badImage, badEdition, inRange, mapWords, editionAt, geometryOf, reelAt}
@@ -36,6 +36,7 @@ use Rattle.book.specs.Held.{tableOf}
 use Rattle.book.specs.Histories.{Interrupted, none-yet, Starts, found}
 use Rattle.book.specs.Demands.{Demand3}
 use Rattle.book.specs.Conversions.{Writes, written, Converts, OtherEdition, to-2, to-1, ListsAlike, Converted, ThereAndBack, Conversions}
+use Rattle.book.proofs.Modules.{our-crash}
 use Rattle.book.proofs.Refusals.{Denies, denies, denied, passes, passed-all}
 use Rattle.book.proofs.Performed.{answer-is, work-granted, work-refused}
 use Rattle.book.proofs.Demand1.{demand1}
@@ -313,9 +314,9 @@ no-script q s = elim (ℕ-discrete (perform (query q) s .answer) 0) [
   | no h ↦ demand1 .refused (query q) s h .no-store
 ]
 
-interrupted : (q : Query) (s : State) (k : ℕ) (m : List ℕ) → Interrupted (query q) s k m → m ≡ s .image
+interrupted : {on : Module} (q : Query) (s : State) (k : ℕ) (m : List ℕ) → Interrupted on (query q) s k m → m ≡ s .image
 interrupted q s k m c =
-    crash-none (c .itself) k m (rw (no-script q s) at (c .script)) ∙ itself-same c (ap (λ (x : State). x .image) (query-leaves q s))
+    crash-none (c .itself) _ m (rw (no-script q s) at (our-crash c)) ∙ itself-same c (ap (λ (x : State). x .image) (query-leaves q s))
 
 -- ---- nothing else writes a second image
 
@@ -342,8 +343,8 @@ alone op s ws e = elim (ℕ-discrete (perform op s .answer) 0) [
   | no h ↦ none-some (sym (ap (λ x. x .copy) (demand1 .refused op s h .none-handed)) ∙ e)
 ]
 
-pub conversions-from : Demand3 → Conversions
-conversions-from demand3 = record {
+pub conversions-from : {on : Module} → Demand3 on → Conversions on
+conversions-from {on} demand3 = record {
   answered = λ scratch copy s h. (convertedImage (s .image), written h (copied scratch copy s h));
   alone = alone;
   all = λ op s ws w. record { by = op; writes = w };
@@ -354,7 +355,7 @@ conversions-from demand3 = record {
   shows = λ s t ws f c. copy-shows s t ws (demand3 s t f .agrees .shows) c;
   starts-on = λ s s' ws fit c r.
       let v = held-shown (mapWords (shape s)) s fit (recovers s (made (c .writes) .0)) in
-      subst (Starts s') (idle-held (s .image)) (found (copy-shows s (tableOf (s .image)) ws v c) r);
+      subst (Starts on s') (idle-held (s .image)) (found (copy-shows s (tableOf (s .image)) ws v c) r);
   starts = λ s s' t ws f c r. found (copy-shows s t ws (demand3 s t f .agrees .shows) c) r;
   interrupted = λ scratch copy s k m c. interrupted (convert scratch copy) s k m c;
   goes-on = λ scratch copy s s' t k m f c r.

@@ -12,6 +12,7 @@ pub use Rattle.book.proofs.Fixed.{fixed}
 pub use Rattle.book.proofs.Scripts.{scripts}
 pub use Rattle.book.proofs.CarryOut.{carry-laws}
 pub use Rattle.book.proofs.Editions.{editions}
+pub use Rattle.book.proofs.Flushing.{flushing-laws}
 use Rattle.book.proofs.Assembly.{Scripted, opens, claims, fills, commits, abandons, removes, asks, retires, tidies, Steps, demand2-from, demand3-from}
 use Rattle.book.proofs.StepOpen.{step-open}
 use Rattle.book.proofs.StepClaim.{step-claim}
@@ -32,7 +33,7 @@ use Rattle.book.proofs.Conversions.{conversions-from}
 use Rattle.book.proofs.Witnesses.{witnesses-from}
 use Rattle.book.specs.Witnesses.{Witnesses}
 use mathlib.Core.Path.{_≡_}
-use Rattle.tree.specs.Memory.{Fit}
+use Rattle.tree.specs.Memory.{Module, Fit}
 use Rattle.book.specs.State.{State, Operation, arguments}
 use Rattle.book.specs.Perform.{perform}
 use Rattle.book.specs.Table.{Table}
@@ -53,29 +54,29 @@ step a (tidies {words} {scratch} {script} {reel}) fit answered = step-tidy a wor
 steps : Steps
 steps = record { step = step }
 
-pub demand2 : Demand2
+pub demand2 : {on : Module} → Demand2 on
 demand2 = demand2-from steps
 
-pub demand3 : Demand3
+pub demand3 : {on : Module} → Demand3 on
 demand3 = demand3-from steps
 
-pub placed : Placed
+pub placed : {on : Module} → Placed on
 placed = placed-from steps (record { placed = claim-placed })
 
-pub growth : Growth
+pub growth : {on : Module} → Growth on
 growth = growth-from steps
 
-pub path-nodes : PathNodes
+pub path-nodes : {on : Module} → PathNodes on
 path-nodes = path-nodes-from steps growth demand3
 
-pub tidying : Tidying
+pub tidying : {on : Module} → Tidying on
 tidying = tidying-from demand3
 
-pub own-tables : OwnTables
+pub own-tables : {on : Module} → OwnTables on
 own-tables = own-tables-from demand3
 
-pub conversions : Conversions
+pub conversions : {on : Module} → Conversions on
 conversions = conversions-from demand3
 
 pub witnesses : Witnesses
-witnesses = witnesses-from demand3
+witnesses = witnesses-from (λ on. demand3)

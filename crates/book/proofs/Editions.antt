@@ -5,7 +5,7 @@ use mathlib.Core.List.{List, []}
 use Prim.Native.Nat.{ℕ, suc, _≤_, _<_}
 use native.Mathlib.Omega.{arith}
 use native.Mathlib.Decide.{ℕ-discrete}
-use Rattle.tree.specs.Memory.{Memory, reads, Store, stores, segmented, apply, Avoids, FallsIn, after-all, here, later}
+use Rattle.tree.specs.Memory.{Memory, reads, Store, stores, segmented, apply, Avoids, FallsIn, after-all, here, later, Module}
 use Rattle.tree.specs.declared.layout.Geometry.{Geometry}
 use Rattle.tree.specs.Layout.{editionAt, geometryOf}
 use Rattle.tree.specs.declared.path.Room.{Room}
@@ -15,6 +15,7 @@ use Rattle.book.specs.State.{State, Operation, format, recover, openReel
 use Rattle.book.specs.Perform.{newNode, openScript, roomScript, claimScript, fillScript, removeScript, tidyScript, granted, perform}
 use Rattle.book.specs.Histories.{done, Steady, answered-format, Interrupted, Attempts, none-yet, refused, interrupted, Recovered}
 use Rattle.book.specs.Editions.{SameHeader, Editions}
+use Rattle.book.proofs.Modules.{our-crash}
 use Rattle.book.proofs.Performed.{work-granted, work-refused}
 use Rattle.book.proofs.Done.{refused-image}
 use Rattle.book.proofs.Mended.{kept as not-mended}
@@ -79,10 +80,10 @@ module _ {i : ℕ} (low : i < 64) where
 kept : (op : Operation) (s : State) → (Steady op (perform op s .answer) → ⊥) → SameHeader (memory s) (memory (done op s))
 kept op s u i l = let k = keeps op s u in k .image i l ∙ sym (apply-laws .avoided _ _ i (avoids l _ (k .script)))
 
-cut : {op : Operation} {s : State} {k : ℕ} {m : List ℕ} → Interrupted op s k m → SameHeader (memory s) (reads m)
+cut : {op : Operation} {s : State} {k : ℕ} {m : List ℕ} {on : Module} → Interrupted on op s k m → SameHeader (memory s) (reads m)
 cut {op} {s} c i l =
     let k = keeps op s (c .unsteady) in
-    sym (falls l (k .script) (crash-laws .falls-in _ _ _ _ (c .script))
+    sym (falls l (k .script) (crash-laws .falls-in _ _ _ _ (our-crash c))
     ∙ (elim (c .old-or-new i) [ inl q ↦ q | inr q ↦ q ∙ sym (k .image i l) ]))
 
 -- ---- recoveries
@@ -90,12 +91,12 @@ cut {op} {s} c i l =
 recovery-unsteady : {words n : ℕ} → Steady (recover words) n → ⊥
 recovery-unsteady u = elim u [ ]
 
-attempted : {m m' : List ℕ} → Attempts m m' → SameHeader (reads m) (reads m')
+attempted : {m m' : List ℕ} {on : Module} → Attempts on m m' → SameHeader (reads m) (reads m')
 attempted none-yet i l = refl
 attempted (refused words s q z a) i l = ap (λ im. reads im i) (sym q) ∙ kept (recover words) s recovery-unsteady i l ∙ attempted a i l
 attempted (interrupted words s k q c a) i l = ap (λ im. reads im i) (sym q) ∙ cut c i l ∙ attempted a i l
 
-recovered : {m : List ℕ} {s : State} → Recovered m s → SameHeader (reads m) (memory s)
+recovered : {m : List ℕ} {s : State} {on : Module} → Recovered on m s → SameHeader (reads m) (memory s)
 recovered r i l =
     attempted (r .attempts) i l ∙ ap (λ im. reads im i) (sym (r .image)) ∙ kept (recover (r .words)) (r .from) recovery-unsteady i l
     ∙ ap (λ (x : State). memory x i) (sym (r .is))
@@ -115,5 +116,5 @@ formatted words table slots nodes s h =
     ∙ ap (λ im. reads im editionAt) (segment-laws .apply-none (w .after .image))
     ∙ fixed .formats words table (record { slots = slots; nodes = nodes }) s h .edition
 
-pub editions : Editions
+pub editions : {on : Module} → Editions on
 editions = record { formatted = formatted; kept = kept; crashed = λ op s s' k m c r i l. cut c i l ∙ recovered r i l }

@@ -6,13 +6,13 @@ use mathlib.Core.List.{List, [], List·Memᴰ·not-nil}
 use Prim.Native.Nat.{ℕ, _+_, _/_, _<_}
 use native.Mathlib.Omega.{arith}
 use native.Mathlib.Decide.{ℕ-discrete}
-use Rattle.tree.specs.Memory.{reads, isSet, segmented, apply, passed, Fit}
+use Rattle.tree.specs.Memory.{reads, isSet, segmented, apply, passed, Module, entriesOn, Fit}
 use Rattle.tree.specs.Layout.{geometryOf, locateAt}
 use Rattle.tree.specs.Path.{wayOf}
 use Rattle.tree.specs.Fingerprint.{ruleOf, isGiven}
 use Rattle.tree.specs.Slots.{slotOf}
 use Rattle.tree.specs.Lookup.{find}
-use Rattle.tree.proofs.Memory.{crash-laws, crash-none, passed-or}
+use Rattle.tree.proofs.Memory.{crash-laws, crash-none, passed-or, module-laws}
 use Rattle.tree.proofs.Cases.{true-not-false}
 use Rattle.tree.proofs.Reach.{slot-filled, one-node}
 use Rattle.book.specs.Heads.{headAt, targetOf}
@@ -111,38 +111,38 @@ refused-nodes : (op : Operation) (s : State) → perform op s .answer ≢ 0 → 
 refused-nodes op s h = nodes-equal (done-image op s h)
 
 -- what a crash leaves, before the recoveries
-abbrev Left : Operation → State → (k : ℕ) (m : List ℕ) → Type 0
-Left op s k m = ((passed (segmented (perform op s .work .script)) k → ⊥) × SameNodes (s .image) m) ⊎ SameNodes (done op s .image) m
+abbrev Left : Module → Operation → State → (k : ℕ) (m : List ℕ) → Type 0
+Left on op s k m = ((passed (entriesOn on (segmented (perform op s .work .script))) k → ⊥) × SameNodes (s .image) m) ⊎ SameNodes (done op s .image) m
 
-answered-left : {s : State} {t : Table} {op : Operation} {k : ℕ} {m : List ℕ} → Agrees s t → Fit (arguments op) → Kind op → perform op s .answer ≡ 0
-    → Interrupted op s k m → Left op s k m
+answered-left : {s : State} {t : Table} {op : Operation} {k : ℕ} {m : List ℕ} {on : Module} → Agrees s t → Fit (arguments op) → Kind op → perform op s .answer ≡ 0
+    → Interrupted on op s k m → Left on op s k m
 answered-left a fit formats h c = absurd (c .unsteady (rw h answered-format))
 answered-left {s} {k = k} {m = m} a fit (recovers {words}) h c =
     inr (nodes-on (nodes-back (recovered-nodes words s)) (interrupted-nodes words s k m c))
-answered-left {s} {op = op} {k = k} {m = m} a fit (scripted x) h c =
+answered-left {s} {op = op} {k = k} {m = m} {on = on} a fit (scripted x) h c =
     let w = work-granted op s h in
     let segs = granted op s .script in
     let crash = rw w at (script-alone c (ap (λ y. y .after .image) w ∙ granted-image s x)) in
-    elim (passed-or (segmented (perform op s .work .script)) k) [
-      | inl p ↦ inr (nodes-equal (crash-laws .all-passed (s .image) segs k m (rw w at p) crash ∙ sym (end-image s x h)))
-      | inr n ↦ elim (grows a x fit h .crash k m crash) [ inl u ↦ inl (n, u) | inr u ↦ inr (rw (end-image s x h) u) ]
+    elim (passed-or (entriesOn on (segmented (perform op s .work .script))) k) [
+      | inl p ↦ inr (nodes-equal (crash-laws .all-passed (s .image) segs _ m (rw w at (module-laws .passed-alike on (perform op s .work .script) k .0 p)) crash ∙ sym (end-image s x h)))
+      | inr n ↦ elim (grows a x fit h .crash _ m crash) [ inl u ↦ inl (n, u) | inr u ↦ inr (rw (end-image s x h) u) ]
     ]
 
-left : {s : State} {t : Table} {k : ℕ} {m : List ℕ} → Agrees s t → (op : Operation) → Fit (arguments op) → Interrupted op s k m → Left op s k m
+left : {s : State} {t : Table} {k : ℕ} {m : List ℕ} {on : Module} → Agrees s t → (op : Operation) → Fit (arguments op) → Interrupted on op s k m → Left on op s k m
 left {s} {k = k} {m = m} a op fit c = elim (ℕ-discrete (perform op s .answer) 0) [
   | yes h ↦ answered-left a fit (kind op) h c
-  | no h ↦ inr (nodes-equal (crash-none (s .image) k m (rw (demand1 .refused op s h .no-store) at (script-alone c (refused-image op s h)))
+  | no h ↦ inr (nodes-equal (crash-none (s .image) _ m (rw (demand1 .refused op s h .no-store) at (script-alone c (refused-image op s h)))
       ∙ sym (done-image op s h)))
 ]
 
-interrupted-left : {s s' : State} {t : Table} {m : List ℕ} → Agrees s t → (op : Operation) → Fit (arguments op) → (k : ℕ) → Interrupted op s k m
-    → Recovered m s' → Left op s k (s' .image)
+interrupted-left : {s s' : State} {t : Table} {m : List ℕ} {on : Module} → Agrees s t → (op : Operation) → Fit (arguments op) → (k : ℕ) → Interrupted on op s k m
+    → Recovered on m s' → Left on op s k (s' .image)
 interrupted-left a op fit k c r = elim (left a op fit c) [
   | inl x ↦ inl (x .0, nodes-on (x .1) (ended-nodes r))
   | inr x ↦ inr (nodes-on x (ended-nodes r))
 ]
 
-pub growth-from : Steps → Growth
+pub growth-from : {on : Module} → Steps → Growth on
 growth-from steps s t f = let a = agreed steps f in record {
   answered = λ op fit h. answered-grows a fit (kind op) h;
   refused = λ op h. refused-nodes op s h;

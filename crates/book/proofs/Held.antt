@@ -3,7 +3,7 @@ use mathlib.Core.Path.{_≡_, refl, sym, _∙_, ap, subst}
 use mathlib.Core.List.{List, List·Memᴰ, Memᴰ·map, Memᴰ·of-map}
 use Prim.Native.Nat.{ℕ}
 use native.Mathlib.Omega.{arith}
-use Rattle.tree.specs.Memory.{Memory, reads, Fit}
+use Rattle.tree.specs.Memory.{Memory, reads, Module, Fit}
 use Rattle.tree.specs.declared.layout.Geometry.{Geometry}
 use Rattle.tree.specs.Layout.{badImage, inRange, geometryOf, reelAt}
 use Rattle.tree.specs.Fingerprint.{ruleOf, badOwn}
@@ -86,10 +86,10 @@ pub idle-held : (image : List ℕ) → allIdle (tableOf image) ≡ tableOf image
 unfolding allIdle tableOf
 idle-held image = refl
 
-pub held-starts : (words : ℕ) (s : State) → Fit (s .image) → perform (recover words) s .answer ≡ 0
-    → (s' : State) → Recovered (s .image) s' → Starts s' (tableOf (s .image))
-held-starts words s fit h s' r = subst (Starts s') (idle-held (s .image)) (found (held-shown words s fit h) r)
+pub held-starts : {on : Module} (words : ℕ) (s : State) → Fit (s .image) → perform (recover words) s .answer ≡ 0
+    → (s' : State) → Recovered on (s .image) s' → Starts on s' (tableOf (s .image))
+held-starts {on} words s fit h s' r = subst (Starts on s') (idle-held (s .image)) (found (held-shown words s fit h) r)
 
 -- one that is answered at once
-pub at-once : (words : ℕ) (s : State) → perform (recover words) s .answer ≡ 0 → Recovered (s .image) (done (recover words) s)
+pub at-once : {on : Module} (words : ℕ) (s : State) → perform (recover words) s .answer ≡ 0 → Recovered on (s .image) (done (recover words) s)
 at-once words s h = record { left = s .image; attempts = none-yet; words = words; from = s; image = refl; answered = h; is = refl }

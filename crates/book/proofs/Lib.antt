@@ -34,6 +34,7 @@ pub mod Alike
 pub mod Done
 pub mod Settled
 pub mod Mended
+pub mod Modules
 pub mod Recovery
 pub mod Held
 pub mod GivenTable
@@ -66,6 +67,7 @@ pub mod PathNodes
 pub mod Tidy
 pub mod OwnTables
 pub mod Conversions
+pub mod Flushing
 pub mod Demands
 pub mod Sample
 pub mod OldBook

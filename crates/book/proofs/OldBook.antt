@@ -5,7 +5,7 @@ use mathlib.Core.List.{[], _∷_, flatMap}
 use Prim.Native.Nat.{_+_, _*_, _^_, _<_}
 use native.Mathlib.Omega.{arith}
 use Rattle.tree.specs.MemoryComputed.{field, withField, bit, isSet, withBit, byte, withByte, marked, first, stores, segmented, apply}
-use Rattle.tree.specs.Memory.{Fit, Store}
+use Rattle.tree.specs.Memory.{plain, Fit, Store}
 use Rattle.tree.specs.Layout.{badImage, geometryOf}
 use Rattle.tree.specs.Lists.{upTo, range, keep, every, hasKey, distinct}
 use Rattle.tree.specs.Fingerprint.{fingerprint, folded, tableEntry, ruleFor, ruleOf, hasOwn, badOwn, isGiven, badGiven}
@@ -68,9 +68,9 @@ computed = record {
   unsound = refl;
 }
 
-history : Follows oldBook oneFrame
+history : Follows plain oldBook oneFrame
 history =
-    subst (Follows oldBook) (computed .table) (started (held-starts 1 (heldBook 1) fits (computed .recovers) _ (at-once 1 (heldBook 1) (computed .recovers))))
+    subst (Follows plain oldBook) (computed .table) (started (held-starts 1 (heldBook 1) fits (computed .recovers) _ (at-once 1 (heldBook 1) (computed .recovers))))
 
 pub old-book : OldBook
 old-book = record {
@@ -79,8 +79,8 @@ old-book = record {
   says-yes = computed .says-yes;
   fills = computed .fills;
   fills-new = computed .fills-new;
-  goes-on = subst (Follows _) (computed .emptied) (performed history (format 1 [] 1 1) (words-fit (1 ∷ 1 ∷ []) (omega arith)));
-  anew = editions .formatted 1 [] 1 1 oldBook (computed .formats);
+  goes-on = subst (Follows plain _) (computed .emptied) (performed history (format 1 [] 1 1) (words-fit (1 ∷ 1 ∷ []) (omega arith)));
+  anew = editions {on = plain} .formatted 1 [] 1 1 oldBook (computed .formats);
   asked = computed .asked;
   says-no = computed .says-no;
   unsound = computed .unsound;

@@ -8,7 +8,7 @@ use Prim.Native.Nat.{ℕ, zero, suc, _≤_, _<_}
 use native.Mathlib.Omega.{arith}
 use native.Mathlib.Decide.{ℕ-discrete, decLt}
 use lib.ListN.{length, getElem?}
-use Rattle.tree.specs.Memory.{reads, Fit}
+use Rattle.tree.specs.Memory.{reads, Module, Fit}
 use Rattle.tree.specs.Slots.{slotOf}
 use Rattle.tree.specs.Lookup.{pathFrom}
 use Rattle.tree.proofs.Cases.{true-not-false, none-some, seen, nothing, just}
@@ -151,7 +151,7 @@ module _ {s : State} {t : Table} (a : Agrees s t) where
   grows-lone (tidy words scratch script reel') reel fit e few b = lone-from (λ slot n w x. inl (b .drops .ways .0 x .0, b .drops .reels x))
   grows-lone (query q) reel fit e few b = lone-same b
 
-  done-lone : Growing s → (op : Operation) (reel : ℕ) → Fit (arguments op) → length (inUse (replied op s t .work .after) reel) ≤ 64
+  done-lone : {on : Module} → Growing on s → (op : Operation) (reel : ℕ) → Fit (arguments op) → length (inUse (replied op s t .work .after) reel) ≤ 64
       → Lone (s .image) reel → Lone (done op s .image) reel
   done-lone grown op reel fit few = elim (ℕ-discrete (perform op s .answer) 0) [
     | yes e ↦ grows-lone op reel fit e few (grown .answered op fit e)
@@ -165,26 +165,26 @@ module _ {s : State} {t : Table} (a : Agrees s t) where
 
 -- ---- histories
 
-module _ (steps : Steps) (growth : Growth) (kept : Demand3) where
+module _ {on : Module} (steps : Steps) (growth : Growth on) (kept : Demand3 on) where
   -- one step on: cut short or not, with the nodes before it or those after it
-  lone-done : {s : State} {t : Table} (h : Follows s t) (op : Operation) (reel : ℕ) → Fit (arguments op)
+  lone-done : {s : State} {t : Table} (h : Follows on s t) (op : Operation) (reel : ℕ) → Fit (arguments op)
       → length (inUse (replied op s t .work .after) reel) ≤ 64 → Lone (s .image) reel → Lone (done op s .image) reel
   lone-done {s} {t} h op reel fit few = done-lone (agreed steps h) (growth s t h) op reel fit few
 
-  lone-cut : {s s' : State} {t : Table} {m : List ℕ} (h : Follows s t) (op : Operation) (reel : ℕ) → Fit (arguments op)
-      → length (inUse (replied op s t .work .after) reel) ≤ 64 → (k : ℕ) → Interrupted op s k m → Recovered m s' → Lone (s .image) reel → Lone (s' .image) reel
+  lone-cut : {s s' : State} {t : Table} {m : List ℕ} (h : Follows on s t) (op : Operation) (reel : ℕ) → Fit (arguments op)
+      → length (inUse (replied op s t .work .after) reel) ≤ 64 → (k : ℕ) → Interrupted on op s k m → Recovered on m s' → Lone (s .image) reel → Lone (s' .image) reel
   lone-cut {s} {t = t} h op reel fit few k c r a = elim (growth s t h .interrupted op fit k c r) [
     | inl x ↦ lone-same (x .1) a
     | inr x ↦ lone-same x (lone-done h op reel fit few a)
   ]
 
   -- before a step that opens the reel, or goes on with it
-  lone-before : {s : State} {t : Table} (h : Follows s t) (op : Operation) (reel : ℕ) → Fit (arguments op) → OpensReel reel s op ⊎ Lone (s .image) reel
+  lone-before : {s : State} {t : Table} (h : Follows on s t) (op : Operation) (reel : ℕ) → Fit (arguments op) → OpensReel reel s op ⊎ Lone (s .image) reel
       → Lone (s .image) reel
   lone-before h op reel fit (inl o) = opens-lone (agreed steps h) fit o
   lone-before h op reel fit (inr x) = x
 
-  small-lone : {s : State} {t : Table} (h : Follows s t) (reel : ℕ) → Small reel h → Lone (s .image) reel
+  small-lone : {s : State} {t : Table} (h : Follows on s t) (reel : ℕ) → Small reel h → Lone (s .image) reel
   small-lone (started x) reel p = absurd p
   small-lone (performed h op fit) reel p =
       lone-done h op reel fit (p .1) (lone-before h op reel fit (elim (p .2) [ inl o ↦ inl o | inr x ↦ inr (small-lone h reel x) ]))
@@ -193,7 +193,7 @@ module _ (steps : Steps) (growth : Growth) (kept : Demand3) where
   small-lone (after h op fit k c r b) reel p =
       lone-cut h op reel fit (p .1) k c r (lone-before h op reel fit (elim (p .2) [ inl o ↦ inl o | inr x ↦ inr (small-lone h reel x) ]))
 
-  small-present : {s : State} {t : Table} (h : Follows s t) (reel : ℕ) → Small reel h → isPresent t reel ≡ true
+  small-present : {s : State} {t : Table} (h : Follows on s t) (reel : ℕ) → Small reel h → isPresent t reel ≡ true
   small-present (started x) reel p = absurd p
   small-present (performed h op fit) reel p = p .0
   small-present (before h op fit k c r n b) reel p = p .0
@@ -206,20 +206,20 @@ module _ (steps : Steps) (growth : Growth) (kept : Demand3) where
       let x = fed (perform op s .answer) in
       alike a op fit .answer ∙ reply-is op x t ∙ passed-all (tableRefusals op x t) (ap not p, tt)
 
-  one : {s : State} {t : Table} (h : Follows s t) (reel f : ℕ) → Fit (reel ∷ f ∷ []) → Small reel h → hasOf reel f s .work .handed .path-nodes ≡ 1
+  one : {s : State} {t : Table} (h : Follows on s t) (reel f : ℕ) → Fit (reel ∷ f ∷ []) → Small reel h → hasOf reel f s .work .handed .path-nodes ≡ 1
   one {s} h reel f fit p =
-      let on = answered s reel f (has-answered reel f (agreed steps h) fit (small-present h reel p)) in
+      let path = answered s reel f (has-answered reel f (agreed steps h) fit (small-present h reel p)) in
       elim (decLt 1 (hasOf reel f s .work .handed .path-nodes)) [
         | yes l ↦
-            let x = on .levels 1 .0 l in
-            let none = ap length (small-lone h reel p .alone (on .of-reel .has) (x .1)) in
+            let x = path .levels 1 .0 l in
+            let none = ap length (small-lone h reel p .alone (path .of-reel .has) (x .1)) in
             absurd (omega (arith, none, child-laws .length-way 1 f))
-        | no l ↦ omega (arith, on .from)
+        | no l ↦ omega (arith, path .from)
       ]
 
   -- ---- what keeps a reel small
 
-  opened : {s : State} {t : Table} → Follows s t → (reel : ℕ) (op : Operation) → Fit (arguments op) → OpensReel reel s op
+  opened : {s : State} {t : Table} → Follows on s t → (reel : ℕ) (op : Operation) → Fit (arguments op) → OpensReel reel s op
       → inUse (replied op s t .work .after) reel ≡ []
   opened {s} {t} h reel op fit (answered-open {words} {script} e) =
       let a = agreed steps h in
@@ -227,14 +227,14 @@ module _ (steps : Steps) (growth : Growth) (kept : Demand3) where
       rw (after-answered a (openReel words script reel) fit e, open-table t words script reel)
       (none-in-use a reel (λ slot b. new slot (b .open-slot) (b .number)))
 
-  through-crashes : {s s' : State} {t : Table} {m : List ℕ} (h : Follows s t) (reel : ℕ) (op : Operation) → Fit (arguments op) → SmallSoFar reel op h
-      → (k : ℕ) → Interrupted op s k m → Recovered m s' → (t' : Table) × (h' : Follows s' t') × (isPresent t' reel ≡ true → Small reel h')
+  through-crashes : {s s' : State} {t : Table} {m : List ℕ} (h : Follows on s t) (reel : ℕ) (op : Operation) → Fit (arguments op) → SmallSoFar reel op h
+      → (k : ℕ) → Interrupted on op s k m → Recovered on m s' → (t' : Table) × (h' : Follows on s' t') × (isPresent t' reel ≡ true → Small reel h')
   through-crashes {s} {s'} {t} h reel op fit x k c r = elim (kept s t h .survives op fit k _ _ c none-yet .whole s' r) [
     | inl y ↦ (_, before h op fit k c r (y .0) (y .1), λ p. (p, x .1, x .0))
     | inr y ↦ (_, after h op fit k c r y, λ p. (p, x .1, x .0))
   ]
 
-  pub path-nodes-from : PathNodes
+  pub path-nodes-from : PathNodes on
   path-nodes-from = record {
     answered = answered;
     refused = refused;

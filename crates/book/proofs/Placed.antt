@@ -7,7 +7,7 @@ use native.Mathlib.Omega.{arith}
 use native.Mathlib.Decide.{ℕ-discrete}
 use lib.ListN.{length}
 use lib.Seq.{take-length}
-use Rattle.tree.specs.Memory.{reads, segmented, apply, CrashImage, Fit}
+use Rattle.tree.specs.Memory.{reads, segmented, apply, CrashImage, Module, oursOn, Fit}
 use Rattle.tree.specs.Layout.{slotsAt, nodesAt, geometryOf, reelAt}
 use Rattle.tree.specs.Reach.{Reaches, Holds}
 use Rattle.tree.proofs.Memory.{crash-laws, apply-none, crash-none}
@@ -20,6 +20,7 @@ use Rattle.book.specs.Table.{Table, emptyTable}
 use Rattle.book.specs.Agrees.{Agrees}
 use Rattle.book.specs.Histories.{done, answered-format, Interrupted, Attempts, none-yet, refused, interrupted, Recovered, Next, performed, crashed}
 use Rattle.book.specs.Demands.{ClaimPlaced, Placed}
+use Rattle.book.proofs.Modules.{our-crash}
 use Rattle.book.proofs.Performed.{work-granted}
 use Rattle.book.proofs.Demand1.{demand1}
 use Rattle.book.proofs.Done.{done-granted, refused-image, done-image}
@@ -71,15 +72,15 @@ recovered-held words r =
     let w = recover-writes words r in
     held-on (held-mended (w .image)) (held-same (ap (λ x. apply (perform (recover words) r .work .after .image) (segmented x)) (w .script) ∙ apply-none _))
 
-interrupted-held : (words : ℕ) (r : State) (k : ℕ) (m : List ℕ) → Interrupted (recover words) r k m → Held (r .image) m
+interrupted-held : {on : Module} (words : ℕ) (r : State) (k : ℕ) (m : List ℕ) → Interrupted on (recover words) r k m → Held (r .image) m
 interrupted-held words r k m c = held-mended (interrupted-mended words r k m c .1)
 
-pub attempts-held : {m m' : List ℕ} → Attempts m m' → Held m m'
+pub attempts-held : {m m' : List ℕ} {on : Module} → Attempts on m m' → Held m m'
 attempts-held none-yet = held-same refl
 attempts-held (refused words s q h a) = held-on (held-same q) (held-on (recovered-held words s) (attempts-held a))
 attempts-held (interrupted words s k q c a) = held-on (held-same q) (held-on (interrupted-held words s k _ c) (attempts-held a))
 
-pub ended-held : {m : List ℕ} {s' : State} → Recovered m s' → Held m (s' .image)
+pub ended-held : {m : List ℕ} {s' : State} {on : Module} → Recovered on m s' → Held m (s' .image)
 ended-held c = rw (c .is) (held-on (attempts-held (c .attempts)) (held-on (held-same (c .image)) (recovered-held (c .words) (c .from))))
 
 -- ---- an operation done or interrupted
@@ -96,9 +97,9 @@ unfolding emptyTable
 no-reels own slots nodes = refl
 
 -- one that leaves the image can be interrupted in its script alone
-pub script-alone : {op : Operation} {s : State} {k : ℕ} {m : List ℕ} (c : Interrupted op s k m) → perform op s .work .after .image ≡ s .image
-    → CrashImage (s .image) (segmented (perform op s .work .script)) k m
-script-alone c q = rw (itself-same c q) at (c .script)
+pub script-alone : {op : Operation} {s : State} {k : ℕ} {m : List ℕ} {on : Module} (c : Interrupted on op s k m) → perform op s .work .after .image ≡ s .image
+    → let es = segmented (perform op s .work .script) in CrashImage (s .image) es (oursOn on es k) m
+script-alone c q = rw (itself-same c q) at (our-crash c)
 
 module _ (steps : Steps) where
   answered-keeps : {s : State} {t : Table} {op : Operation} → Agrees s t → Fit (arguments op) → Kind op → perform op s .answer ≡ 0
@@ -118,22 +119,22 @@ module _ (steps : Steps) where
     | no h ↦ rw (done-image op s h) (keeps-itself (shows-view (a .shows)))
   ]
 
-  answered-crash : {s : State} {t : Table} {op : Operation} {k : ℕ} {m : List ℕ} → Agrees s t → Fit (arguments op) → Kind op
-      → perform op s .answer ≡ 0 → Interrupted op s k m → Keeps (s .heads) (s .image) m
+  answered-crash : {s : State} {t : Table} {op : Operation} {k : ℕ} {m : List ℕ} {on : Module} → Agrees s t → Fit (arguments op) → Kind op
+      → perform op s .answer ≡ 0 → Interrupted on op s k m → Keeps (s .heads) (s .image) m
   answered-crash a fit formats h c = absurd (c .unsteady (rw h answered-format))
   answered-crash {s} {k = k} {m = m} a fit (recovers {words}) h c = keeps-held (keeps-itself (shows-view (a .shows))) (interrupted-held words s k m c)
   answered-crash {s} {op = op} {k = k} {m = m} a fit (scripted x) h c =
       let w = work-granted op s h in
-      steps .step a x fit h .keeps k m (rw w at (script-alone c (ap (λ y. y .after .image) w ∙ granted-image s x)))
+      steps .step a x fit h .keeps _ m (rw w at (script-alone c (ap (λ y. y .after .image) w ∙ granted-image s x)))
 
-  crash-keeps : {s : State} {t : Table} {k : ℕ} {m : List ℕ} → Agrees s t → (op : Operation) → Fit (arguments op) → Interrupted op s k m
+  crash-keeps : {s : State} {t : Table} {k : ℕ} {m : List ℕ} {on : Module} → Agrees s t → (op : Operation) → Fit (arguments op) → Interrupted on op s k m
       → Keeps (s .heads) (s .image) m
   crash-keeps {s} {k = k} {m = m} a op fit c = elim (ℕ-discrete (perform op s .answer) 0) [
     | yes h ↦ answered-crash a fit (kind op) h c
-    | no h ↦ rw (crash-none (s .image) k m (rw (demand1 .refused op s h .no-store) at (script-alone c (refused-image op s h)))) (keeps-itself (shows-view (a .shows)))
+    | no h ↦ rw (crash-none (s .image) _ m (rw (demand1 .refused op s h .no-store) at (script-alone c (refused-image op s h)))) (keeps-itself (shows-view (a .shows)))
   ]
 
-  next-keeps : {s s' : State} {t : Table} → Agrees s t → Next s s' → Keeps (s .heads) (s .image) (s' .image)
+  next-keeps : {s s' : State} {t : Table} {on : Module} → Agrees s t → Next on s s' → Keeps (s .heads) (s .image) (s' .image)
   next-keeps a (performed op fit) = done-keeps a op fit
   next-keeps a (crashed op fit k c r) = keeps-held (crash-keeps a op fit c) (ended-held r)
 
@@ -144,7 +145,7 @@ pub record ClaimsPlaced : Type 0 where
   pub placed : {s : State} {t : Table} → Agrees s t → (words script h reel f : ℕ) → Fit (h ∷ reel ∷ f ∷ [])
       → perform (claim words script h reel f) s .answer ≡ 0 → ClaimPlaced (claim words script h reel f) s h reel f
 
-pub placed-from : Steps → ClaimsPlaced → Placed
+pub placed-from : {on : Module} → Steps → ClaimsPlaced → Placed on
 placed-from steps claimed s t f = let a = agreed steps f in record {
   claim = claimed .placed a;
   stays = λ s' n. let k = next-keeps steps a n in record { same-place = k .same-place; came-from = k .came-from; targets = next-targets a n };

@@ -10,7 +10,7 @@ use native.Mathlib.Decide.{ℕ-discrete}
 use lib.ListN.{length}
 use lib.Dec.{eqb}
 use borrow.Author.Tests.{eqb-true, eqb-false, ne-eqb, not-true, not-false}
-use Rattle.tree.specs.Memory.{Memory, reads, Store, stores, apply}
+use Rattle.tree.specs.Memory.{Memory, reads, Store, stores, apply, Module}
 use Rattle.tree.specs.Test.{is, holds}
 use Rattle.tree.specs.declared.layout.Geometry.{Geometry}
 use Rattle.tree.specs.Layout.{badImage, inRange, mapWords, geometryOf, locateAt, setAt, badEdition}
@@ -41,6 +41,7 @@ use Rattle.book.specs.Table.{Reel}
 use Rattle.book.specs.Agrees.{Agrees, Reached}
 use Rattle.book.specs.Histories.{carriedOut, done, Interrupted, Attempts, none-yet, refused, interrupted, Recovered}
 use Rattle.book.specs.Fixed.{Corrects}
+use Rattle.book.proofs.Modules.{our-crash}
 use Rattle.book.proofs.Refusals.{Denies, denies, denied, passed-all, refused-here, refused-later}
 use Rattle.book.proofs.Performed.{answer-is, work-granted}
 use Rattle.book.proofs.Demand1.{demand1}
@@ -168,15 +169,15 @@ recover-writes words r = elim (ℕ-discrete (perform (recover words) r .answer) 
 ]
 
 -- interrupted: each word old or new
-pub interrupted-mended : (words : ℕ) (r : State) (k : ℕ) (m' : List ℕ) → Interrupted (recover words) r k m'
+pub interrupted-mended : {on : Module} (words : ℕ) (r : State) (k : ℕ) (m' : List ℕ) → Interrupted on (recover words) r k m'
     → (length m' ≡ length (r .image)) × Mended (geometryOf (reads (r .image))) (reads (r .image)) (reads m')
 interrupted-mended words r k m' c =
     let w = recover-writes words r in
-    let e : m' ≡ c .itself = crash-none (c .itself) k m' (rw (w .script) at (c .script)) in
+    let e : m' ≡ c .itself = crash-none (c .itself) _ m' (rw (w .script) at (our-crash c)) in
     rw e (c .same-length, record { each = λ i. elim (c .old-or-new i) [ inl q ↦ inl q | inr q ↦ rw q (w .image .each i) ] })
 
 module _ {g : Geometry} {o : Bool} {rs : List Reel} where
-  pub interrupted-view : (words : ℕ) (r : State) (k : ℕ) (m' : List ℕ) → View g o (r .image) rs → Interrupted (recover words) r k m' → View g o m' rs
+  pub interrupted-view : {on : Module} (words : ℕ) (r : State) (k : ℕ) (m' : List ℕ) → View g o (r .image) rs → Interrupted on (recover words) r k m' → View g o m' rs
   interrupted-view words r k m' v c = let a = interrupted-mended words r k m' c in mended-view v (a .0) (rw (v .header .geometry) at (a .1))
 
   -- a reached node is inside the pool
@@ -205,11 +206,11 @@ module _ {g : Geometry} {o : Bool} {rs : List Reel} where
       let q = done-granted (recover words) r h ∙ ap carriedOut (granted-recover words r) ∙ carried-leaving _ in
       rw (q, v .header .geometry) (agrees-settled (settled-image (r .image) v))
 
-  pub attempts-view : {m m' : List ℕ} → Attempts m m' → View g o m rs → View g o m' rs
+  pub attempts-view : {m m' : List ℕ} {on : Module} → Attempts on m m' → View g o m rs → View g o m' rs
   attempts-view none-yet v = v
   attempts-view (refused words s q h a) v =
       attempts-view a (rw (done-image (recover words) s h ∙ q) v)
   attempts-view (interrupted words s k q c a) v = attempts-view a (interrupted-view words s k _ (rw q v) c)
 
-  pub recovered-view : {m : List ℕ} {s' : State} → Recovered m s' → View g o m rs → Agrees s' (idleTable g o rs)
+  pub recovered-view : {m : List ℕ} {s' : State} {on : Module} → Recovered on m s' → View g o m rs → Agrees s' (idleTable g o rs)
   recovered-view c v = rw (c .is) (recovered-agrees (c .words) (c .from) (rw (c .image) (attempts-view (c .attempts) v)) (c .answered))

@@ -6,7 +6,7 @@ use Prim.Native.Nat.{ℕ, _+_, _*_, _<_}
 use native.Mathlib.Omega.{arith}
 use lib.ListN.{length, set}
 use lib.Seq.{take-length}
-use Rattle.tree.specs.Memory.{Memory, reads, Store, stores, segmented, apply, CrashImage, Torn, single}
+use Rattle.tree.specs.Memory.{Memory, reads, Store, stores, segmented, apply, CrashImage, Torn, single, Module}
 use Rattle.tree.specs.declared.layout.Geometry.{Geometry}
 use Rattle.tree.specs.Layout.{slotsAt, nodesAt, geometryOf, reelAt, rootAt, nodeAt, nextAt, sizeAt}
 use Rattle.tree.specs.Slots.{Filled}
@@ -67,15 +67,15 @@ recovered-nodes words r =
     let w = recover-writes words r in
     nodes-on (mended-nodes (w .image)) (nodes-equal (ap (λ x. apply (perform (recover words) r .work .after .image) (segmented x)) (w .script) ∙ apply-none _))
 
-pub interrupted-nodes : (words : ℕ) (r : State) (k : ℕ) (m : List ℕ) → Interrupted (recover words) r k m → SameNodes (r .image) m
+pub interrupted-nodes : {on : Module} (words : ℕ) (r : State) (k : ℕ) (m : List ℕ) → Interrupted on (recover words) r k m → SameNodes (r .image) m
 interrupted-nodes words r k m c = mended-nodes (interrupted-mended words r k m c .1)
 
-attempts-nodes : {m m' : List ℕ} → Attempts m m' → SameNodes m m'
+attempts-nodes : {m m' : List ℕ} {on : Module} → Attempts on m m' → SameNodes m m'
 attempts-nodes {m} none-yet = nodes-itself m
 attempts-nodes (refused words s q h a) = nodes-on (nodes-equal q) (nodes-on (recovered-nodes words s) (attempts-nodes a))
 attempts-nodes (interrupted words s k q c a) = nodes-on (nodes-equal q) (nodes-on (interrupted-nodes words s k _ c) (attempts-nodes a))
 
-pub ended-nodes : {m : List ℕ} {s' : State} → Recovered m s' → SameNodes m (s' .image)
+pub ended-nodes : {m : List ℕ} {s' : State} {on : Module} → Recovered on m s' → SameNodes m (s' .image)
 ended-nodes c = rw (c .is) (nodes-on (attempts-nodes (c .attempts)) (nodes-on (nodes-equal (c .image)) (recovered-nodes (c .words) (c .from))))
 
 -- ---- scripts

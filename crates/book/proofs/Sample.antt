@@ -8,7 +8,7 @@ use native.Mathlib.Omega.{arith}
 use lib.ListN.{replicate}
 use lib.Dec.{eqb}
 use Rattle.tree.specs.MemoryComputed.{field, withField, bit, isSet, withBit, byte, withByte, marked, first, stores, segmented, apply}
-use Rattle.tree.specs.Memory.{Fit}
+use Rattle.tree.specs.Memory.{plain, Fit}
 use Rattle.tree.specs.Layout.{badImage, geometryOf}
 use Rattle.tree.specs.Lists.{upTo, range, keep, every, hasKey, distinct}
 use Rattle.tree.specs.Fingerprint.{fingerprint, folded, tableEntry, ruleFor, ruleOf, hasOwn, badOwn, isGiven, badGiven}
@@ -58,7 +58,7 @@ abbrev pub zeros : (slots nodes : ℕ) → State
 zeros slots nodes = record { image = replicate (64 + 2 * slots + 80 * nodes) 0; pool = []; heads = [] }
 
 pub format-follows : (slots nodes : ℕ) → perform (format 1 [] slots nodes) (zeros slots nodes) .answer ≡ 0
-    → Follows (starred.formatted slots nodes) (emptyTable false slots nodes)
+    → Follows plain (starred.formatted slots nodes) (emptyTable false slots nodes)
 unfolding starred.formatted isGiven
 format-follows slots nodes h = started (formatted 1 [] slots nodes (zeros slots nodes) (zeros-fit (64 + 2 * slots + 80 * nodes)) h)
 
@@ -67,8 +67,8 @@ unfoldable pub tableAfter : List Operation → State → Table → Table
 tableAfter [] s t = t
 tableAfter (op ∷ ops) s t = tableAfter ops (done op s) (replied op s t .work .after)
 
-unfoldable pub run-follows : (ops : List Operation) → Each (λ op. Words (arguments op)) ops → {s : State} {t : Table} → Follows s t
-    → Follows (run ops s) (tableAfter ops s t)
+unfoldable pub run-follows : (ops : List Operation) → Each (λ op. Words (arguments op)) ops → {s : State} {t : Table} → Follows plain s t
+    → Follows plain (run ops s) (tableAfter ops s t)
 unfolding run tableAfter
 run-follows [] w f = f
 run-follows (op ∷ ops) w f = run-follows ops (w .1) (performed f op (words-fit (arguments op) (w .0)))
@@ -106,9 +106,9 @@ computed = record {
   all-idle = refl;
 }
 
-pub four-follows : Follows allClaimed fourOpen
+pub four-follows : Follows plain allClaimed fourOpen
 unfolding allClaimed
-four-follows = subst (Follows allClaimed) (computed .table) (run-follows claimsOfAll (omega arith) (format-follows 4 4 (format-answers .1)))
+four-follows = subst (Follows plain allClaimed) (computed .table) (run-follows claimsOfAll (omega arith) (format-follows 4 4 (format-answers .1)))
 
 pub other-geometry : OtherGeometry
 unfolding starred.formatted perform refusals badImage refusal badGiven isGiven granted leaves clears apply stores segmented formatStores range upTo geometryOf reply tableRefusals tableWork emptyTable
@@ -142,7 +142,7 @@ pub record Tells (s : State) (h reel f : ℕ) : Type 0 where
   pub absent : perform (query (has reel f)) s .work .handed .value ≡ 0
   pub present : perform (query (has reel f)) (done (commit 50 h) s) .work .handed .value ≡ 1
 
-module _ (kept : Demand3) {s : State} {h reel f : ℕ} (tells : Tells s h reel f) (t : Table) (follows : Follows s t) where
+module _ (kept : Demand3 plain) {s : State} {h reel f : ℕ} (tells : Tells s h reel f) (t : Table) (follows : Follows plain s t) where
   abbrev then : Table
   then = replied (commit 50 h) s t .work .after
 
@@ -151,7 +151,7 @@ module _ (kept : Demand3) {s : State} {h reel f : ℕ} (tells : Tells s h reel f
 
   said-after : said reel f then ≡ 1
   said-after =
-      let g : Follows (done (commit 50 h) s) then = performed follows (commit 50 h) (words-fit (h ∷ []) (tells .head)) in
+      let g : Follows plain (done (commit 50 h) s) then = performed follows (commit 50 h) (words-fit (h ∷ []) (tells .head)) in
       sym (said-alike reel f (tells .words) (kept (done (commit 50 h) s) then g .agrees)) ∙ tells .present
 
   -- no book agrees with both tables

@@ -145,8 +145,8 @@ good-answered op s q a =
     let z = sized _ _ (a .header) in
     let n = a .words in
     let each = each-entry P (w .script) (a .script .each) in
-    let short : length (s .image) < 2 ^ 64 - 1 = omega arith in
-    let inside : Inside (length (s .image)) (segmented (w .script)) = λ i v x. let t = each i v x in (t .0, λ q. omega arith) in
+    let short : length (s .image) < 2 ^ 64 - 2 = omega arith in
+    let inside : Inside (length (s .image)) (segmented (w .script)) = λ i v x. let t = each i v x in (t .0, λ q. omega arith, λ q. omega arith) in
     record {
       one-way = rw q (writes-one-way op s);
       short = omega (arith, length-segmented (w .script), a .script .few);

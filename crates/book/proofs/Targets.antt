@@ -7,6 +7,7 @@ use native.Mathlib.Omega.{arith}
 use native.Mathlib.Decide.{ℕ-discrete}
 use lib.ListN.{length}
 use borrow.Author.Tests.{not-false}
+use Rattle.tree.specs.Memory.{Module}
 use Rattle.book.specs.declared.Target.{Target}
 use Rattle.book.specs.declared.HeadState.{HeadState}
 use Rattle.book.specs.declared.HeadState.the-variants.{Idle, Filled}
@@ -78,13 +79,13 @@ same-after {ws} l (written h x low a) k = elim (ℕ-discrete k h) [
   | no d ↦ rw (head-stays ws h x (omega arith) k d) (same-itself (headAt ws k))
 ]
 
-same-next : {s s' : State} → length (s .heads) ≡ 5 * headCount → Next s s' → (k : ℕ) → SameTarget (headAt (s .heads) k) (headAt (s' .heads) k)
+same-next : {s s' : State} {on : Module} → length (s .heads) ≡ 5 * headCount → Next on s s' → (k : ℕ) → SameTarget (headAt (s .heads) k) (headAt (s' .heads) k)
 same-next {s} l (performed op fit) k = elim (ℕ-discrete (perform op s .answer) 0) [
   | yes h ↦ rw (done-granted op s h) (same-after l (heads-after op s h) k)
   | no h ↦ rw (refused-heads op s h) (same-itself (headAt (s .heads) k))
 ]
 same-next {s} l (crashed op fit k' c r) k = rw (r .is, done-granted _ (r .from) (r .answered)) (same-to-idle _ (idle-recovered (r .words) (r .from) k))
 
-pub next-targets : {s s' : State} {t : Table} → Agrees s t → Next s s' → (h : ℕ) {a b : Target} → h < headCount → About a (headAt (s .heads) h)
+pub next-targets : {s s' : State} {t : Table} {on : Module} → Agrees s t → Next on s s' → (h : ℕ) {a b : Target} → h < headCount → About a (headAt (s .heads) h)
     → About b (headAt (s' .heads) h) → a ≡ b
 next-targets a n h low x y = same-next (a .head-words) n h .same x y

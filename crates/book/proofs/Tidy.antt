@@ -8,7 +8,7 @@ use native.Mathlib.Omega.{arith}
 use native.Mathlib.Decide.{ℕ-discrete}
 use lib.Dec.{eqb}
 use borrow.Author.Tests.{not-false}
-use Rattle.tree.specs.Memory.{Memory, reads, isSet, Store, Fit}
+use Rattle.tree.specs.Memory.{Memory, reads, isSet, Store, Module, Fit}
 use Rattle.tree.specs.Test.{le, is, _or_, holds}
 use Rattle.tree.specs.declared.layout.Geometry.{Geometry}
 use Rattle.tree.specs.Layout.{geometryOf, nextAt, locateAt, sizeAt}
@@ -242,12 +242,12 @@ module _ {s : State} {t : Table} (a : Agrees s t) (words scratch script reel : �
   done-held : SameHeld (s .image) (done op s .image)
   done-held = rw image-then cleared-held
 
-  cut-held : (k : ℕ) (m : List ℕ) → Interrupted op s k m → SameHeld (s .image) m × Shows m t
+  cut-held : {on : Module} (k : ℕ) (m : List ℕ) → Interrupted on op s k m → SameHeld (s .image) m × Shows m t
   cut-held k m c =
       let w = work-granted op s h ∙ f .work in
       let store : Store = (nextAt (shape s) (f .parent .node), 0) in
       let crash = rw w at (script-alone c (ap (λ y. y .after .image) w)) in
-      falls-through (λ im. SameHeld (s .image) im × Shows im t) (crash-laws .falls-in (s .image) ((store ∷ []) ∷ []) k m crash)
+      falls-through (λ im. SameHeld (s .image) im × Shows im t) (crash-laws .falls-in (s .image) ((store ∷ []) ∷ []) _ m crash)
       (through-each (λ im. SameHeld (s .image) im × Shows im t) (s .image) (store ∷ []) (held-itself, a .shows)
       ((cleared-held, shows-cleared a slot (f .parent) (f .first .is) (f .inside)), tt))
 
@@ -277,8 +277,8 @@ unfolding reply tableWork
 same-table words scratch script reel x t =
     elim (test (eqb (refusal (tableRefusals (tidy words scratch script reel) x t)) 0)) [ inl e ↦ rw e refl | inr e ↦ rw e refl ]
 
-pub tidying-from : Demand3 → Tidying
-tidying-from demand3 s t follows words scratch script reel fit = record {
+pub tidying-from : {on : Module} → Demand3 on → Tidying on
+tidying-from {on} demand3 s t follows words scratch script reel fit = record {
   table = same-table words scratch script reel _ t;
   agrees = agrees;
   held = held;
@@ -314,8 +314,8 @@ tidying-from demand3 s t follows words scratch script reel fit = record {
     held-then : {im im' : List ℕ} → SameHeld (s .image) im → Held im im' → SameHeld (s .image) im'
     held-then h e = record { frames = (λ x. h .frames .0 (e .held x .0), λ x. e .still (h .frames .1 x)) }
 
-    cut : (k : ℕ) (m : List ℕ) → Interrupted op s k m → SameHeld (s .image) m × Shows m t
+    cut : (k : ℕ) (m : List ℕ) → Interrupted on op s k m → SameHeld (s .image) m × Shows m t
     cut k m c = elim (ℕ-discrete (perform op s .answer) 0) [
       | yes e ↦ cut-held a words scratch script reel e k m c
-      | no e ↦ rw (crash-none (s .image) k m (rw (demand1 .refused op s e .no-store) at (script-alone c (refused-image op s e)))) (held-itself, a .shows)
+      | no e ↦ rw (crash-none (s .image) _ m (rw (demand1 .refused op s e .no-store) at (script-alone c (refused-image op s e)))) (held-itself, a .shows)
     ]

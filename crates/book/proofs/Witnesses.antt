@@ -8,7 +8,7 @@ use native.Mathlib.Decide.{ℕ-discrete, decLt}
 use lib.ListN.{length, set, length-set}
 use lib.Seq.{getD-set-same, getD-set-other, set-out}
 use borrow.Author.Tests.{eq-eqb}
-use Rattle.tree.specs.Memory.{reads, Store, store, segmented, apply, CrashImage, Torn, passed, Fit}
+use Rattle.tree.specs.Memory.{reads, Store, store, segmented, apply, CrashImage, Torn, passed, plain, Module, Fit}
 use Rattle.tree.specs.declared.layout.Geometry.{Geometry}
 use Rattle.tree.specs.Layout.{mapWords, reelAt, geometryOf}
 use Rattle.tree.specs.Slots.{emptySlot}
@@ -32,20 +32,20 @@ use Rattle.book.proofs.Sample.{words-fit, computed, four-follows, told-
 
 -- in its script
 pub cut-script : {op : Operation} {s : State} {k : ℕ} {m' : List ℕ} → (Steady op (perform op s .answer) → ⊥)
-    → CrashImage (s .image) (segmented (perform op s .work .script)) k m' → Interrupted op s k m'
+    → CrashImage (s .image) (segmented (perform op s .work .script)) k m' → Interrupted plain op s k m'
 cut-script {s = s} u c = record { unsteady = u; itself = s .image; same-length = refl; old-or-new = λ i. inl refl; script = c }
 
 -- before the first entry
-pub cut-first : {op : Operation} {s : State} → (Steady op (perform op s .answer) → ⊥) → Interrupted op s 0 (s .image)
+pub cut-first : {op : Operation} {s : State} → (Steady op (perform op s .answer) → ⊥) → Interrupted plain op s 0 (s .image)
 cut-first u = cut-script u (crash-laws .none-yet _ _ _ .1 refl)
 
 -- in one that writes the image itself: any mixture of old and new words
 pub cut-itself : {op : Operation} {s : State} (im : List ℕ) → (Steady op (perform op s .answer) → ⊥) → length im ≡ length (s .image)
-    → ((i : ℕ) → (reads im i ≡ reads (s .image) i) ⊎ (reads im i ≡ reads (perform op s .work .after .image) i)) → Interrupted op s 0 im
+    → ((i : ℕ) → (reads im i ≡ reads (s .image) i) ⊎ (reads im i ≡ reads (perform op s .work .after .image) i)) → Interrupted plain op s 0 im
 cut-itself im u l e = record { unsteady = u; itself = im; same-length = l; old-or-new = e; script = crash-laws .none-yet im _ im .1 refl }
 
-second-crash : (s s' : State) (m m' : List ℕ) (words k : ℕ) → s .image ≡ m → Interrupted (recover words) s k m' → Recovered m' s' → Recovered m s'
-second-crash s s' m m' words k q c r = record {
+second-crash : (on : Module) (s s' : State) (m m' : List ℕ) (words k : ℕ) → s .image ≡ m → Interrupted on (recover words) s k m' → Recovered on m' s' → Recovered on m s'
+second-crash on s s' m m' words k q c r = record {
   left = r .left;
   attempts = interrupted words s k q c (r .attempts);
   words = r .words;
@@ -81,7 +81,7 @@ unfolding granted
 open-script words script reel s h = ap (λ w. w .script) (work-granted (openReel words script reel) s h)
 
 later-kept : (s : State) (words script reel : ℕ) → perform (openReel words script reel) s .answer ≡ 0
-    → Interrupted (openReel words script reel) s 6 (set (s .image) (reelAt (emptySlot (geometryOf (reads (s .image))) (reads (s .image)))) reel)
+    → Interrupted plain (openReel words script reel) s 6 (set (s .image) (reelAt (emptySlot (geometryOf (reads (s .image))) (reads (s .image)))) reel)
 later-kept s words script reel h = cut-script (λ u. elim u [ ]) (rw (open-script words script reel s h) (reel-kept (s .image) _ _ _ reel))
 
 -- ---- Commit: its one store, and a barrier
@@ -95,11 +95,11 @@ cut-last : (m : List ℕ) (w : Store) → CrashImage m (segmented ((w ∷ []) �
 cut-last m w = rw (segment-laws .fenced-one w) (crash-laws .all-done m (store (w .0) (w .1) ∷ []) _ .1 refl)
 
 module _ (s : State) (script h : ℕ) (e : perform (commit script h) s .answer ≡ 0) where
-  commit-done : Interrupted (commit script h) s 2 (done (commit script h) s .image)
+  commit-done : Interrupted plain (commit script h) s 2 (done (commit script h) s .image)
   commit-done = let c = commit-store s script h e in cut-script (λ u. elim u [ ]) (rw (c .1, c .2) (cut-last (s .image) (c .0)))
 
   -- its store issued and lost
-  commit-lost : Interrupted (commit script h) s 1 (s .image)
+  commit-lost : Interrupted plain (commit script h) s 1 (s .image)
   commit-lost =
       let c = commit-store s script h e in
       cut-script (λ u. elim u [ ]) (rw (c .1) (crash-laws .torn-possible (s .image) (c .0 ∷ []) [] (s .image) (record { same-length = refl; each = λ i. inl refl })))
@@ -109,39 +109,39 @@ module _ (s : State) (script h : ℕ) (e : perform (commit script h) s .answer �
 
 -- ---- every history agrees with its table: what follows from demand 3
 
-module _ (kept : Demand3) where
-  -- after any crash and any attempts there is a recovery that ends, and a history goes on from it
-  goes-on : (s : State) (t : Table) → Follows s t → (op : Operation) → Fit (arguments op) → (k : ℕ) (m m' : List ℕ) → Interrupted op s k m
-      → Attempts m m' → GoesOn m'
-  goes-on s t f op fit k m m' c a =
-      let v = kept s t f .survives op fit k m in
-      let n = mapWords (geometryOf (reads m')) in
-      let from : State = record { image = m'; pool = []; heads = [] } in
-      let h : perform (recover n) from .answer ≡ 0 = v m' c a .accepted n from refl ∙ rw (eq-eqb n n refl) in
-      let r : Recovered m (done (recover n) from) = record { left = m'; attempts = a; words = n; from = from; image = refl; answered = h; is = refl } in
-      let end : (t' : Table) × Follows (done (recover n) from) t' = elim (v m c none-yet .whole _ r) [
-        | inl p ↦ (allIdle t, before f op fit k c r (p .0) (p .1))
-        | inr q ↦ (allIdle (replied op s t .work .after), after f op fit k c r q)
-      ] in
-      record {
-        state = done (recover n) from;
-        table = end .0;
-        recovered = record { left = m'; attempts = none-yet; words = n; from = from; image = refl; answered = h; is = refl };
-        follows = end .1;
-      }
+-- after any crash and any attempts there is a recovery that ends, and a history goes on from it
+goes-on : {on : Module} → Demand3 on → (s : State) (t : Table) → Follows on s t → (op : Operation) → Fit (arguments op) → (k : ℕ) (m m' : List ℕ) → Interrupted on op s k m
+    → Attempts on m m' → GoesOn on m'
+goes-on {on} kept s t f op fit k m m' c a =
+    let v = kept s t f .survives op fit k m in
+    let n = mapWords (geometryOf (reads m')) in
+    let from : State = record { image = m'; pool = []; heads = [] } in
+    let h : perform (recover n) from .answer ≡ 0 = v m' c a .accepted n from refl ∙ rw (eq-eqb n n refl) in
+    let r : Recovered on m (done (recover n) from) = record { left = m'; attempts = a; words = n; from = from; image = refl; answered = h; is = refl } in
+    let end : (t' : Table) × Follows on (done (recover n) from) t' = elim (v m c none-yet .whole _ r) [
+      | inl p ↦ (allIdle t, before f op fit k c r (p .0) (p .1))
+      | inr q ↦ (allIdle (replied op s t .work .after), after f op fit k c r q)
+    ] in
+    record {
+      state = done (recover n) from;
+      table = end .0;
+      recovered = record { left = m'; attempts = none-yet; words = n; from = from; image = refl; answered = h; is = refl };
+      follows = end .1;
+    }
 
+module _ (kept : Demand3 plain) where
   -- a recovery of the image that a history has come to: the table is as it was, every head idle
-  recovery : {s : State} {t : Table} → Follows s t → (s' : State) × Recovered (s .image) s' × Agrees s' (allIdle t)
+  recovery : {s : State} {t : Table} → Follows plain s t → (s' : State) × Recovered plain (s .image) s' × Agrees s' (allIdle t)
   recovery {s} {t} f =
       let fit = words-fit (0 ∷ 0 ∷ []) (omega arith) in
       let c = cut-first {op = query (has 0 0)} {s = s} (λ u. elim u [ ]) in
-      let r = goes-on s t f (query (has 0 0)) fit 0 _ _ c none-yet in (
+      let r = goes-on kept s t f (query (has 0 0)) fit 0 _ _ c none-yet in (
         r .state,
         r .recovered,
         elim (kept s t f .survives (query (has 0 0)) fit 0 _ _ c none-yet .whole _ (r .recovered)) [ inl p ↦ p .1 | inr a ↦ rw (query-after (has 0 0) _ t) at a ],
       )
 
-  commit-cut : (s : State) (t : Table) → Follows s t → (script h : ℕ) → h < headCount → perform (commit script h) s .answer ≡ 0
+  commit-cut : (s : State) (t : Table) → Follows plain s t → (script h : ℕ) → h < headCount → perform (commit script h) s .answer ≡ 0
       → CommitCut s t script h
   commit-cut s t f script h l e =
       let b = recovery f in
@@ -185,22 +185,22 @@ numbers-fit (query (list scratch room reel)) w = words-fit (reel ∷ []) (w, tt)
 numbers-fit (query (convert scratch copy)) w = words-fit [] tt
 
 -- all of them, where every history agrees with its table through every crash
-pub witnesses-from : Demand3 → Witnesses
-witnesses-from kept = record {
-  cuts = λ op s k itself m h l e c. record { unsteady = not-steady h; itself = itself; same-length = l; old-or-new = e; script = c };
-  none-tried = λ m. none-yet;
-  refused-tried = λ words s m h a. refused words s refl h a;
-  cut-tried = λ words s k m m' c a. interrupted words s k refl c a;
-  ends-there = λ m words s a h. record { left = s .image; attempts = a; words = words; from = s; image = refl; answered = h; is = refl };
+pub witnesses-from : ((on : Module) → Demand3 on) → Witnesses
+witnesses-from demand3 = let kept = demand3 plain in record {
+  cuts = λ on op s k itself m h l e c. record { unsteady = not-steady h; itself = itself; same-length = l; old-or-new = e; script = c };
+  none-tried = λ on m. none-yet;
+  refused-tried = λ on words s m h a. refused words s refl h a;
+  cut-tried = λ on words s k m m' c a. interrupted words s k refl c a;
+  ends-there = λ on m words s a h. record { left = s .image; attempts = a; words = words; from = s; image = refl; answered = h; is = refl };
   any-numbers = numbers-fit;
-  done-next = λ op s fit. performed op fit;
-  crash-next = λ op s s' k m fit c r. crashed op fit k c r;
+  done-next = λ on op s fit. performed op fit;
+  crash-next = λ on op s s' k m fit c r. crashed op fit k c r;
   commit-cut = commit-cut kept;
   four-claims = four-claims kept;
   later-kept = later-kept;
   mixed = λ s words image. cut-itself image (λ u. elim u [ ]);
   second-crash = second-crash;
-  goes-on = goes-on kept;
+  goes-on = λ on. goes-on (demand3 on);
   old-book = old-book;
   converted-book = converted-book;
   other-geometry = other-geometry;

@@ -4,7 +4,7 @@ use mathlib.Core.Option.{some}
 use mathlib.Core.List.{List, []}
 use Prim.Native.Nat.{ℕ}
 use lib.ListN.{length}
-use Rattle.tree.specs.Memory.{reads, Fit}
+use Rattle.tree.specs.Memory.{reads, Module, Fit}
 use Rattle.tree.specs.Layout.{mapWords, editionAt}
 use Rattle.tree.specs.Sound.{SoundImage}
 use Rattle.tree.specs.ConvertLaws.{ConvertedWords, SameBook}
@@ -58,7 +58,7 @@ pub record ThereAndBack (s : State) (ws : List ℕ) : Type 0 where
   pub same-book : SameBook (shape s) (memory s) (reads ws)
   pub lists : (r : State) → r .image ≡ ws → ListsAlike s r
 
-pub record Conversions : Type 0 where
+pub record Conversions (on : Module) : Type 0 where
   -- an answered conversion writes a second image; nothing else does, a refused one neither
   pub answered : (scratch copy : ℕ) (s : State) → perform (query (convert scratch copy)) s .answer ≡ 0
       → (ws : List ℕ) × Writes (query (convert scratch copy)) s ws
@@ -75,12 +75,12 @@ pub record Conversions : Type 0 where
   pub again : (s s' s'' : State) (ws ws' ws'' : List ℕ) → Converts s ws → s' .image ≡ ws → Converts s' ws' → s'' .image ≡ ws'
       → Converts s'' ws'' → ws'' ≡ ws
   -- a history may start on the copy with Recover, of either edition: with the frames held in the image
-  pub starts-on : (s s' : State) (ws : List ℕ) → Fit (s .image) → Converts s ws → Recovered ws s' → Starts s' (tableOf (s .image))
+  pub starts-on : (s s' : State) (ws : List ℕ) → Fit (s .image) → Converts s ws → Recovered on ws s' → Starts on s' (tableOf (s .image))
   -- where the image is a history's, with the table that this has come to
-  pub shows : (s : State) (t : Table) (ws : List ℕ) → Follows s t → Converts s ws → Shows ws t
-  pub starts : (s s' : State) (t : Table) (ws : List ℕ) → Follows s t → Converts s ws → Recovered ws s' → Starts s' (allIdle t)
+  pub shows : (s : State) (t : Table) (ws : List ℕ) → Follows on s t → Converts s ws → Shows ws t
+  pub starts : (s s' : State) (t : Table) (ws : List ℕ) → Follows on s t → Converts s ws → Recovered on ws s' → Starts on s' (allIdle t)
   -- power lost in a conversion costs the copy, and any open claim: the image is as it was, and the history goes on with its table
-  pub interrupted : (scratch copy : ℕ) (s : State) (k : ℕ) (m : List ℕ) → Interrupted (query (convert scratch copy)) s k m
+  pub interrupted : (scratch copy : ℕ) (s : State) (k : ℕ) (m : List ℕ) → Interrupted on (query (convert scratch copy)) s k m
       → m ≡ s .image
-  pub goes-on : (scratch copy : ℕ) (s s' : State) (t : Table) (k : ℕ) (m : List ℕ) → Follows s t
-      → Interrupted (query (convert scratch copy)) s k m → Recovered m s' → Agrees s' (allIdle t)
+  pub goes-on : (scratch copy : ℕ) (s s' : State) (t : Table) (k : ℕ) (m : List ℕ) → Follows on s t
+      → Interrupted on (query (convert scratch copy)) s k m → Recovered on m s' → Agrees s' (allIdle t)

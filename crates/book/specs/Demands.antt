@@ -1,4 +1,5 @@
--- The customer's demands, and with them where frames sit and what a script may hold: statements alone.
+-- The customer's demands, and with them where frames sit and what a script may hold: statements alone, for histories on either
+-- memory module.
 use mathlib.Core.Path.{_≡_}
 use mathlib.Core.Bool.{true, cond}
 use mathlib.Core.Logic.{_⊎_, _↔_, _≢_}
@@ -6,7 +7,7 @@ use mathlib.Core.List.{List, [], _∷_, _++_, List·Memᴰ}
 use Prim.Native.Nat.{ℕ, _≤_, _<_}
 use lib.ListN.{length}
 use lib.Dec.{eqb}
-use Rattle.tree.specs.Memory.{reads, Entry, barrier, encode, segmented, passed, Inside, Fit, FitStores}
+use Rattle.tree.specs.Memory.{reads, Entry, barrier, encode, segmented, Module, entriesOn, passed, Inside, Fit, FitStores}
 use Rattle.tree.specs.Test.{Says}
 use Rattle.tree.specs.declared.layout.Geometry.{Geometry}
 use Rattle.tree.specs.Layout.{inRange, imageWords, mapWords, reelAt, geometryOf}
@@ -97,7 +98,7 @@ pub record Alike (op : Operation) (s : State) (t : Table) : Type 0 where
   -- where it comes to a 13, that comes exactly if a head is in the operation's way
   pub busy : comesTo 13 (tableRefusals op nothing t) ≡ true → (perform op s .answer ≡ 13) ↔ InTheWay s op
 
-pub record Demand2 : Type 0 where
+pub record Demand2 (on : Module) : Type 0 where
   -- a format is answered over any memory, map and heads where numbers and lengths are right, without a table or with one in which
   -- every byte occurs once, so that histories start
   pub starts : (table : List ℕ) (g : Geometry) (s : State) → (table ≡ []) ⊎ GoodTable table → Says (inRange g) → length (s .image) ≡ imageWords g
@@ -107,31 +108,31 @@ pub record Demand2 : Type 0 where
       → Shows (s .image) (tableOf (s .image))
   -- where an image shows a table, recovery is answered, or refused 3 for a map of another length, however often it was refused or
   -- interrupted there before
-  pub accepted : (m m' : List ℕ) (t : Table) → Shows m t → Attempts m m' → (words : ℕ) (r : State) → r .image ≡ m'
+  pub accepted : (m m' : List ℕ) (t : Table) → Shows m t → Attempts on m m' → (words : ℕ) (r : State) → r .image ≡ m'
       → perform (recover words) r .answer ≡ cond (eqb words (mapWords (geometryOf (reads m')))) 0 3
   -- so histories start on every image that a recovery accepts, with the one that ends, from the frames held there
   pub starts-on : (words : ℕ) (s : State) → Fit (s .image) → perform (recover words) s .answer ≡ 0
-      → (s' : State) → Recovered (s .image) s' → Starts s' (tableOf (s .image))
-  pub alike : (s : State) (t : Table) → Follows s t → (op : Operation) → Fit (arguments op) → Alike op s t
+      → (s' : State) → Recovered on (s .image) s' → Starts on s' (tableOf (s .image))
+  pub alike : (s : State) (t : Table) → Follows on s t → (op : Operation) → Fit (arguments op) → Alike op s t
 
 -- ---- 3: every history agrees with its table, through every crash
 
 -- whatever a crash after k entries, and any recoveries refused or interrupted after it, leave
-pub record Survives (op : Operation) (s : State) (t : Table) (k : ℕ) (m : List ℕ) : Type 0 where
+pub record Survives (on : Module) (op : Operation) (s : State) (t : Table) (k : ℕ) (m : List ℕ) : Type 0 where
   -- a recovery answers 0, or 3 for a map of another length
   pub accepted : (words : ℕ) (r : State) → r .image ≡ m
       → perform (recover words) r .answer ≡ cond (eqb words (mapWords (geometryOf (reads m)))) 0 3
   -- one that ends leaves the table before or the one after, whole, and the one after once no barrier is left to pass
-  pub whole : (s' : State) → Recovered m s'
-      → ((passed (segmented (perform op s .work .script)) k → ⊥) × Agrees s' (allIdle t))
+  pub whole : (s' : State) → Recovered on m s'
+      → ((passed (entriesOn on (segmented (perform op s .work .script))) k → ⊥) × Agrees s' (allIdle t))
       ⊎ Agrees s' (allIdle (replied op s t .work .after))
 
-pub record Kept (s : State) (t : Table) : Type 0 where
+pub record Kept (on : Module) (s : State) (t : Table) : Type 0 where
   pub agrees : Agrees s t
-  pub survives : (op : Operation) → Fit (arguments op) → (k : ℕ) (m m' : List ℕ) → Interrupted op s k m → Attempts m m' → Survives op s t k m'
+  pub survives : (op : Operation) → Fit (arguments op) → (k : ℕ) (m m' : List ℕ) → Interrupted on op s k m → Attempts on m m' → Survives on op s t k m'
 
-abbrev pub Demand3 : Type 0
-Demand3 = (s : State) (t : Table) → Follows s t → Kept s t
+abbrev pub Demand3 : Module → Type 0
+Demand3 on = (s : State) (t : Table) → Follows on s t → Kept on s t
 
 -- ---- where frames sit
 
@@ -169,13 +170,13 @@ pub record StaysPut (s s' : State) : Type 0 where
   pub targets : (h : ℕ) {a b : Target} → h < headCount → About a (headAt (s .heads) h) → About b (headAt (s' .heads) h) → a ≡ b
 
 -- so a frame comes to be held only in the place that its claim took
-pub record Places (s : State) : Type 0 where
+pub record Places (on : Module) (s : State) : Type 0 where
   pub claim : (words script h reel f : ℕ) → Fit (h ∷ reel ∷ f ∷ []) → perform (claim words script h reel f) s .answer ≡ 0
       → ClaimPlaced (claim words script h reel f) s h reel f
-  pub stays : (s' : State) → Next s s' → StaysPut s s'
+  pub stays : (s' : State) → Next on s s' → StaysPut s s'
 
-abbrev pub Placed : Type 0
-Placed = (s : State) (t : Table) → Follows s t → Places s
+abbrev pub Placed : Module → Type 0
+Placed on = (s : State) (t : Table) → Follows on s t → Places on s
 
 -- ---- scripts, over any state of words below 2^64
 

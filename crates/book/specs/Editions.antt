@@ -3,7 +3,7 @@
 use mathlib.Core.Path.{_≡_}
 use mathlib.Core.List.{List}
 use Prim.Native.Nat.{ℕ, _<_}
-use Rattle.tree.specs.Memory.{Memory}
+use Rattle.tree.specs.Memory.{Memory, Module}
 use Rattle.tree.specs.Layout.{editionAt}
 use Rattle.book.specs.State.{State, Operation, format, memory}
 use Rattle.book.specs.Perform.{perform}
@@ -13,12 +13,12 @@ use Rattle.book.specs.Histories.{done, Steady, Interrupted, Recovered}
 abbrev pub SameHeader : Memory → Memory → Type 0
 SameHeader m m' = (i : ℕ) → i < 64 → m i ≡ m' i
 
-pub record Editions : Type 0 where
+pub record Editions (on : Module) : Type 0 where
   -- an answered format makes the book one of edition 2
   pub formatted : (words : ℕ) (table : List ℕ) (slots nodes : ℕ) (s : State) → perform (format words table slots nodes) s .answer ≡ 0
       → memory (done (format words table slots nodes) s) editionAt ≡ 2
   -- any other operation, or a refused format, keeps the header, and so the edition
   pub kept : (op : Operation) (s : State) → (Steady op (perform op s .answer) → ⊥) → SameHeader (memory s) (memory (done op s))
   -- and so does a crash in it, with any recoveries up to the one that ends
-  pub crashed : (op : Operation) (s s' : State) (k : ℕ) (m : List ℕ) → Interrupted op s k m → Recovered m s'
+  pub crashed : (op : Operation) (s s' : State) (k : ℕ) (m : List ℕ) → Interrupted on op s k m → Recovered on m s'
       → SameHeader (memory s) (memory s')

@@ -5,7 +5,7 @@ use mathlib.Core.Bool.{false}
 use mathlib.Core.Logic.{_⊎_, _↔_, _≢_}
 use mathlib.Core.List.{List, []}
 use Prim.Native.Nat.{ℕ, _-_, _*_, _<_}
-use Rattle.tree.specs.Memory.{reads, isSet, segmented, passed, Fit}
+use Rattle.tree.specs.Memory.{reads, isSet, segmented, Module, entriesOn, passed, Fit}
 use Rattle.tree.specs.declared.layout.Geometry.{Geometry}
 use Rattle.tree.specs.Layout.{geometryOf, nextAt, locateAt, sizeAt, reelAt, rootAt}
 use Rattle.tree.specs.Path.{fanout, wayOf}
@@ -116,12 +116,12 @@ Grows (query q) im im' = SameNodes im im'
 -- ---- in every history
 
 -- what may come next after a state
-pub record Growing (s : State) : Type 0 where
+pub record Growing (on : Module) (s : State) : Type 0 where
   pub answered : (op : Operation) → Fit (arguments op) → perform op s .answer ≡ 0 → Grows op (s .image) (done op s .image)
   pub refused : (op : Operation) → perform op s .answer ≢ 0 → SameNodes (s .image) (done op s .image)
   -- power lost in an operation, then recoveries until one ends: the nodes before it, while a barrier was left to pass, or those after it
-  pub interrupted : {s' : State} {m : List ℕ} (op : Operation) → Fit (arguments op) → (k : ℕ) → Interrupted op s k m → Recovered m s'
-      → ((passed (segmented (perform op s .work .script)) k → ⊥) × SameNodes (s .image) (s' .image)) ⊎ SameNodes (done op s .image) (s' .image)
+  pub interrupted : {s' : State} {m : List ℕ} (op : Operation) → Fit (arguments op) → (k : ℕ) → Interrupted on op s k m → Recovered on m s'
+      → ((passed (entriesOn on (segmented (perform op s .work .script))) k → ⊥) × SameNodes (s .image) (s' .image)) ⊎ SameNodes (done op s .image) (s' .image)
 
-abbrev pub Growth : Type 0
-Growth = (s : State) (t : Table) → Follows s t → Growing s
+abbrev pub Growth : Module → Type 0
+Growth on = (s : State) (t : Table) → Follows on s t → Growing on s

@@ -19,6 +19,7 @@ pub mod PathNodes
 pub mod Tidy
 pub mod Starred
 pub mod Witnesses
+pub mod Flushing
 pub mod Fixed
 pub mod Due
 pub mod AsBefore

@@ -5,7 +5,7 @@ use mathlib.Core.Logic.{_⊎_, _↔_, _≢_}
 use mathlib.Core.List.{List, [], _∷_, _++_, map}
 use Prim.Native.Nat.{ℕ, _≤_, _<_}
 use lib.ListN.{length}
-use Rattle.tree.specs.Memory.{Fit}
+use Rattle.tree.specs.Memory.{Module, Fit}
 use Rattle.tree.specs.Lists.{Distinct, keep}
 use Rattle.tree.specs.Path.{wayOf}
 use Rattle.tree.specs.Reach.{Reaches}
@@ -51,40 +51,40 @@ StaysSmall reel op s t t' Before =
 
 -- a history (the paper's run) in which the reel was opened, is there, and since then never had more than 64 frames held, claimed and
 -- filled. A reel that is found on the image with which a history starts was not opened in it
-abbrev pub Small : (reel : ℕ) {s : State} {t : Table} → Follows s t → Type 0
+abbrev pub Small : (reel : ℕ) {on : Module} {s : State} {t : Table} → Follows on s t → Type 0
 Small reel (started x) = ⊥
 Small reel (performed {s} {t} h op fit) = StaysSmall reel op s t (replied op s t .work .after) (Small reel h)
 Small reel (before {s} {t = t} h op fit k c r n b) = StaysSmall reel op s t (allIdle t) (Small reel h)
 Small reel (after {s} {t = t} h op fit k c r b) = StaysSmall reel op s t (allIdle (replied op s t .work .after)) (Small reel h)
 
 -- before a step: the reel is opened by it, or has been small so far, and the table that the operation makes has no more than 64
-abbrev pub SmallSoFar : (reel : ℕ) (op : Operation) {s : State} {t : Table} → Follows s t → Type 0
-SmallSoFar reel op {s} {t} h = (OpensReel reel s op ⊎ Small reel h) × (length (inUse (replied op s t .work .after) reel) ≤ 64)
+abbrev pub SmallSoFar : (reel : ℕ) (op : Operation) {on : Module} {s : State} {t : Table} → Follows on s t → Type 0
+SmallSoFar reel op {s = s} {t = t} h = (OpensReel reel s op ⊎ Small reel h) × (length (inUse (replied op s t .work .after) reel) ≤ 64)
 
 -- that `Small` is no less than the paper says
-pub record SmallRules : Type 0 where
+pub record SmallRules (on : Module) : Type 0 where
   -- an Open that is answered opens the reel
   pub opens : (words script reel : ℕ) (s : State) → perform (openReel words script reel) s .answer ≡ 0 → OpensReel reel s (openReel words script reel)
   -- a reel just opened has no frame
-  pub opened : {s : State} {t : Table} → Follows s t → (reel : ℕ) (op : Operation) → Fit (arguments op) → OpensReel reel s op
+  pub opened : {s : State} {t : Table} → Follows on s t → (reel : ℕ) (op : Operation) → Fit (arguments op) → OpensReel reel s op
       → inUse (replied op s t .work .after) reel ≡ []
   -- an operation done: while the reel is there
-  pub goes-on : {s : State} {t : Table} (h : Follows s t) (reel : ℕ) (op : Operation) (fit : Fit (arguments op)) → SmallSoFar reel op h
+  pub goes-on : {s : State} {t : Table} (h : Follows on s t) (reel : ℕ) (op : Operation) (fit : Fit (arguments op)) → SmallSoFar reel op h
       → isPresent (replied op s t .work .after) reel ≡ true → Small reel (performed h op fit)
   -- power lost in it, anywhere, with whatever recoveries follow: if the reel is there then
-  pub through-crashes : {s s' : State} {t : Table} {m : List ℕ} (h : Follows s t) (reel : ℕ) (op : Operation) → Fit (arguments op) → SmallSoFar reel op h
-      → (k : ℕ) → Interrupted op s k m → Recovered m s' → (t' : Table) × (h' : Follows s' t') × (isPresent t' reel ≡ true → Small reel h')
+  pub through-crashes : {s s' : State} {t : Table} {m : List ℕ} (h : Follows on s t) (reel : ℕ) (op : Operation) → Fit (arguments op) → SmallSoFar reel op h
+      → (k : ℕ) → Interrupted on op s k m → Recovered on m s' → (t' : Table) × (h' : Follows on s' t') × (isPresent t' reel ≡ true → Small reel h')
 
 -- ---- what Has reports
 
-pub record PathNodes : Type 0 where
+pub record PathNodes (on : Module) : Type 0 where
   -- answered, the number of nodes on the path, from 1 to 32, whether it finds the frame there or not
   pub answered : (s : State) (reel f : ℕ) → hasOf reel f s .answer ≡ 0 → CountsPath s reel f (hasOf reel f s .work .handed .path-nodes)
   -- refused, 0; and so every other operation
   pub refused : (s : State) (reel f : ℕ) → hasOf reel f s .answer ≢ 0 → hasOf reel f s .work .handed .path-nodes ≡ 0
   pub no-has : (op : Operation) (s : State) → (IsHas op → ⊥) → perform op s .work .handed .path-nodes ≡ 0
   -- in a history, 1 for a reel that was opened in it and since then never had more than 64 frames
-  pub one : {s : State} {t : Table} (h : Follows s t) (reel f : ℕ) → Fit (reel ∷ f ∷ []) → Small reel h → hasOf reel f s .work .handed .path-nodes ≡ 1
-  pub small : SmallRules
+  pub one : {s : State} {t : Table} (h : Follows on s t) (reel f : ℕ) → Fit (reel ∷ f ∷ []) → Small reel h → hasOf reel f s .work .handed .path-nodes ≡ 1
+  pub small : SmallRules on
   -- where frames in use are counted, each is counted once
-  pub each-once : {s : State} {t : Table} → Follows s t → (reel : ℕ) → Distinct (λ f. f) (inUse t reel)
+  pub each-once : {s : State} {t : Table} → Follows on s t → (reel : ℕ) → Distinct (λ f. f) (inUse t reel)

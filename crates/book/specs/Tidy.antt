@@ -4,7 +4,7 @@ use mathlib.Core.Path.{_≡_}
 use mathlib.Core.Logic.{_↔_}
 use mathlib.Core.List.{List, [], _∷_}
 use Prim.Native.Nat.{ℕ}
-use Rattle.tree.specs.Memory.{reads, Fit}
+use Rattle.tree.specs.Memory.{reads, Module, Fit}
 use Rattle.tree.specs.Path.{fanout}
 use Rattle.tree.specs.Layout.{geometryOf}
 use Rattle.tree.specs.Reach.{Holds}
@@ -38,20 +38,20 @@ TidyMakesRoom s s' = (words script h reel f : ℕ) → Fit (h ∷ reel ∷ f ∷
     → MadeAgain words script h reel f s s'
 
 -- a Tidy in a history that has come to a state and a table
-pub record Tidies (words scratch script reel : ℕ) (s : State) (t : Table) : Type 0 where
+pub record Tidies (on : Module) (words scratch script reel : ℕ) (s : State) (t : Table) : Type 0 where
   -- the table is the same after it, answered or refused, and the book agrees with it, its map marking exactly the nodes reached
   pub table : replied (tidy words scratch script reel) s t .work .after ≡ t
   pub agrees : Agrees (done (tidy words scratch script reel) s) t
   -- the frames are the same, and where they were
   pub held : SameHeld (s .image) (done (tidy words scratch script reel) s .image)
   -- so also on whatever image power lost in it leaves, before any recovery, and after any that were refused or interrupted
-  pub cut : (k : ℕ) (m m' : List ℕ) → Interrupted (tidy words scratch script reel) s k m → Attempts m m'
+  pub cut : (k : ℕ) (m m' : List ℕ) → Interrupted on (tidy words scratch script reel) s k m → Attempts on m m'
       → SameHeld (s .image) m' × Shows m' t
   -- and once a recovery has ended, with a map that marks exactly the nodes reached then
-  pub recovered : (k : ℕ) (m : List ℕ) (s' : State) → Interrupted (tidy words scratch script reel) s k m → Recovered m s'
+  pub recovered : (k : ℕ) (m : List ℕ) (s' : State) → Interrupted on (tidy words scratch script reel) s k m → Recovered on m s'
       → SameHeld (s .image) (s' .image) × Agrees s' (allIdle t)
   pub room : perform (tidy words scratch script reel) s .answer ≡ 0 → TidyMakesRoom s (done (tidy words scratch script reel) s)
 
-abbrev pub Tidying : Type 0
-Tidying = (s : State) (t : Table) → Follows s t → (words scratch script reel : ℕ) → Fit (reel ∷ [])
-    → Tidies words scratch script reel s t
+abbrev pub Tidying : Module → Type 0
+Tidying on = (s : State) (t : Table) → Follows on s t → (words scratch script reel : ℕ) → Fit (reel ∷ [])
+    → Tidies on words scratch script reel s t

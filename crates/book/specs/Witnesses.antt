@@ -1,5 +1,6 @@
 -- That the model of histories is not too small: crashes and formats that document 01 speaks of are in it. Statements alone.
--- (That every mixture of stores kept and lost is a crash image is `possible` of the memory layer.)
+-- (That every mixture of stores kept and lost is a crash image is `possible` of the memory layer. The other memory module has the
+-- same histories: `same-histories` of Flushing.)
 use mathlib.Core.Path.{_≡_}
 use mathlib.Core.Bool.{false}
 use mathlib.Core.Logic.{_⊎_, _≢_}
@@ -7,7 +8,7 @@ use mathlib.Core.Option.{Option, some}
 use mathlib.Core.List.{List, [], _∷_, _++_, map}
 use Prim.Native.Nat.{ℕ, zero, suc, _+_, _-_, _*_, _^_, _<_}
 use lib.ListN.{length, take, set, replicate}
-use Rattle.tree.specs.Memory.{reads, Store, stores, segmented, apply, CrashImage, passed, Fit}
+use Rattle.tree.specs.Memory.{reads, Store, stores, segmented, apply, Module, plain, entriesOn, CrashOn, passed, Fit}
 use Rattle.tree.specs.Layout.{editionAt, reelAt, locateAt}
 use Rattle.tree.specs.Lists.{upTo}
 use Rattle.tree.specs.Slots.{emptySlot}
@@ -27,8 +28,8 @@ use Rattle.book.specs.Starred.{run, formatted, withFrames}
 -- a crash in an operation after k entries, with a recovery that ends in a state
 pub record CutAt (op : Operation) (s : State) (k : ℕ) (s' : State) : Type 0 where
   pub left : List ℕ
-  pub interrupted : Interrupted op s k left
-  pub recovered : Recovered left s'
+  pub interrupted : Interrupted plain op s k left
+  pub recovered : Recovered plain left s'
 
 -- its script is one store and a barrier
 pub record CommitCut (s : State) (t : Table) (script h : ℕ) : Type 0 where
@@ -66,14 +67,14 @@ abbrev pub locateWords : State → List ℕ
 locateWords s = map (λ n. memory s (locateAt (shape s) n)) (0 ∷ 1 ∷ 2 ∷ 3 ∷ [])
 
 pub record FourClaims : Type 0 where
-  pub history : Follows allClaimed fourOpen
+  pub history : Follows plain allClaimed fourOpen
   -- a fifth head is none
   pub no-fifth : perform (claim 1 50 4 7 12) allClaimed .answer ≡ 11
   -- the commit of head 3 may be cut before and after
   pub answered : perform (commit 50 3) allClaimed .answer ≡ 0
   pub cut : CommitCut allClaimed fourOpen 50 3
   -- and there the two ends differ: no book agrees with both tables
-  pub told-apart : (t : Table) → Follows allClaimed t → (s' : State)
+  pub told-apart : (t : Table) → Follows plain allClaimed t → (s' : State)
       → Agrees s' (allIdle t) → Agrees s' (allIdle (replied (commit 50 3) allClaimed t .work .after)) → ⊥
   -- a recovery has four words to change, so that any of them old and the others new is among the mixtures that a crash in it may leave
   pub recovers : perform (recover 1) allClaimed .answer ≡ 0
@@ -89,7 +90,7 @@ unfoldable pub twoInTree : State
 twoInTree = run (claim 1 50 0 7 64 ∷ claim 1 50 1 7 65 ∷ fill 50 0 ∷ []) (withFrames 3 64)
 
 pub record TwoInTree : Type 0 where
-  pub history : (t : Table) × Follows twoInTree t
+  pub history : (t : Table) × Follows plain twoInTree t
   -- two heads name slot 0, at nodes of their own
   pub head-0 : headAt (twoInTree .heads) 0 ≡ Filled (record { slot = 0; node = 1; place = 0; frame = 64 })
   pub head-1 : headAt (twoInTree .heads) 1 ≡ Claimed (record { slot = 0; node = 2; place = 0; frame = 65 })
@@ -97,8 +98,8 @@ pub record TwoInTree : Type 0 where
   pub third : perform (claim 1 50 2 7 66) twoInTree .answer ≡ 13
   -- the commit of head 0 may be cut before and after
   pub answered : perform (commit 50 0) twoInTree .answer ≡ 0
-  pub cut : (t : Table) → Follows twoInTree t → CommitCut twoInTree t 50 0
-  pub told-apart : (t : Table) → Follows twoInTree t → (s' : State)
+  pub cut : (t : Table) → Follows plain twoInTree t → CommitCut twoInTree t 50 0
+  pub told-apart : (t : Table) → Follows plain twoInTree t → (s' : State)
       → Agrees s' (allIdle t) → Agrees s' (allIdle (replied (commit 50 0) twoInTree t .work .after)) → ⊥
 
 -- ---- a claim cut short
@@ -114,19 +115,19 @@ cutClaim =
 -- reel 7 is small, with 64 frames; after the claim cut short its table has 64 still, and the path of frame 64 has two nodes. So the
 -- promise of `one` (PathNodes) would be false if a claim cut short were not counted in
 pub record CutClaim : Type 0 where
-  pub history : (t : Table) × (h : Follows (withFrames 3 64) t) × Small 7 h
+  pub history : (t : Table) × (h : Follows plain (withFrames 3 64) t) × Small 7 h
   pub cut : CutAt (claim 1 50 0 7 64) (withFrames 3 64) 13 cutClaim
-  pub goes-on : (t : Table) × Follows cutClaim t × (length (inUse t 7) ≡ 64)
+  pub goes-on : (t : Table) × Follows plain cutClaim t × (length (inUse t 7) ≡ 64)
   pub two : hasOf 7 64 cutClaim .work .handed .path-nodes ≡ 2
 
 -- ---- a crash in Recover
 
 -- from an image that a crash, and recoveries after it that did not end, have left: a recovery that ends, and a history from there on
-pub record GoesOn (m : List ℕ) : Type 0 where
+pub record GoesOn (on : Module) (m : List ℕ) : Type 0 where
   pub state : State
   pub table : Table
-  pub recovered : Recovered m state
-  pub follows : Follows state table
+  pub recovered : Recovered on m state
+  pub follows : Follows on state table
 
 -- ---- a history that starts on an image of edition 1
 
@@ -149,14 +150,14 @@ oneFrame = record { slots = 1; nodes = 1; own = false; reels = record { number =
 pub record OldBook : Type 0 where
   -- a recovery is answered there, and a history starts with that frame; Has says yes
   pub recovers : perform (recover 1) (heldBook 1) .answer ≡ 0
-  pub history : Follows oldBook oneFrame
+  pub history : Follows plain oldBook oneFrame
   pub says-yes : perform (query (has 7 (2 ^ 32))) oldBook .work .handed .value ≡ 1
   -- Fill folds four bytes there: frame 0 gets 144, at place 1; in a book just formatted it gets 32
   pub fills : perform (fill 50 0) (done (claim 1 50 0 7 0) oldBook) .work .script ≡ ((83, 0) ∷ []) ∷ ((74, 144 + 144 * 256) ∷ []) ∷ []
   pub fills-new : perform (fill 50 0) (run (openReel 1 50 7 ∷ claim 1 50 0 7 0 ∷ []) (formatted 1 1)) .work .script
       ≡ ((82, 0) ∷ []) ∷ ((74, 32) ∷ []) ∷ []
   -- a format in this history makes it one of edition 2
-  pub goes-on : Follows (done (format 1 [] 1 1) oldBook) (emptyTable false 1 1)
+  pub goes-on : Follows plain (done (format 1 [] 1 1) oldBook) (emptyTable false 1 1)
   pub anew : memory (done (format 1 [] 1 1) oldBook) editionAt ≡ 2
   -- the same words as edition 2: Has is answered, and says no; a recovery is refused
   pub asked : perform (query (has 7 (2 ^ 32))) (heldBook 2) .answer ≡ 0
@@ -193,7 +194,7 @@ pub record ConvertedBook : Type 0 where
   pub back : copyOf (cleanWords 2 1) ≡ some (bookOf (cleanWords 1 144) .image)
   -- a history starts on the copy of edition 2, with the reel and its frame
   pub recovers : perform (recover 1) (bookOf (cleanWords 2 1)) .answer ≡ 0
-  pub history : Follows (done (recover 1) (bookOf (cleanWords 2 1))) (tableOf (bookOf (cleanWords 2 1) .image))
+  pub history : Follows plain (done (recover 1) (bookOf (cleanWords 2 1))) (tableOf (bookOf (cleanWords 2 1) .image))
   pub table : tableOf (bookOf (cleanWords 2 1) .image) .reels ≡ record { number = 7; frames = 2 ^ 32 ∷ [] } ∷ []
   -- with the old edition's fingerprint the copy is not sound
   pub old-print : perform (recover 1) (bookOf (cleanWords 2 144)) .answer ≡ 4
@@ -228,7 +229,7 @@ tidyBook = done (tidy 1 1 50 7) fullBook
 -- then reel 7 has none left
 pub record TidyRoom : Type 0 where
   pub recovers : perform (recover 1) roomBook .answer ≡ 0
-  pub history : Follows fullBook (tableOf (roomBook .image))
+  pub history : Follows plain fullBook (tableOf (roomBook .image))
   pub refused : perform (claim 1 50 0 8 64) fullBook .answer ≡ 8
   pub none-there : perform (tidy 1 1 50 8) fullBook .answer ≡ 18
   pub tidied : perform (tidy 1 1 50 7) fullBook .answer ≡ 0
@@ -276,7 +277,7 @@ pub record TidyOrder : Type 0 where
 -- a format to another geometry of the same image length, 226 words
 pub record OtherGeometry : Type 0 where
   -- a history has come to a book of 41 slots and 1 node
-  pub history : Follows (formatted 41 1) (emptyTable false 41 1)
+  pub history : Follows plain (formatted 41 1) (emptyTable false 41 1)
   -- there a format to 1 slot and 2 nodes is answered
   pub answered : perform (format 1 [] 1 2) (formatted 41 1) .answer ≡ 0
   -- and the history goes on with the table of that geometry
@@ -325,40 +326,42 @@ NumbersFit (query (convert scratch copy)) = Unit {0}
 
 pub record Witnesses : Type 0 where
   -- power may be lost in every operation but a format that is answered: whatever it stored itself kept or lost, word by word, then
-  -- after any number of its script's entries, with whatever these can leave
-  pub cuts : (op : Operation) (s : State) (k : ℕ) (itself m : List ℕ)
+  -- after any number of the entries carried out for its script, with whatever these can leave
+  pub cuts : (on : Module) (op : Operation) (s : State) (k : ℕ) (itself m : List ℕ)
       → ((words slots nodes : ℕ) (table : List ℕ) → op ≡ format words table slots nodes → perform op s .answer ≢ 0) → length itself ≡ length (s .image)
       → ((i : ℕ) → (reads itself i ≡ memory s i) ⊎ (reads itself i ≡ memory (perform op s .work .after) i))
-      → CrashImage itself (segmented (perform op s .work .script)) k m → Interrupted op s k m
+      → CrashOn on itself (entriesOn on (segmented (perform op s .work .script))) k m → Interrupted on op s k m
   -- then recoveries, with any map and any heads: none, one that is refused, or one that is interrupted, and others after it
-  pub none-tried : (m : List ℕ) → Attempts m m
-  pub refused-tried : (words : ℕ) (s : State) (m : List ℕ) → perform (recover words) s .answer ≢ 0 → Attempts (done (recover words) s .image) m
-      → Attempts (s .image) m
-  pub cut-tried : (words : ℕ) (s : State) (k : ℕ) (m m' : List ℕ) → Interrupted (recover words) s k m → Attempts m m' → Attempts (s .image) m'
+  pub none-tried : (on : Module) (m : List ℕ) → Attempts on m m
+  pub refused-tried : (on : Module) (words : ℕ) (s : State) (m : List ℕ) → perform (recover words) s .answer ≢ 0
+      → Attempts on (done (recover words) s .image) m → Attempts on (s .image) m
+  pub cut-tried : (on : Module) (words : ℕ) (s : State) (k : ℕ) (m m' : List ℕ) → Interrupted on (recover words) s k m → Attempts on m m'
+      → Attempts on (s .image) m'
   -- and one that is answered ends them
-  pub ends-there : (m : List ℕ) (words : ℕ) (s : State) → Attempts m (s .image) → perform (recover words) s .answer ≡ 0
-      → Recovered m (done (recover words) s)
+  pub ends-there : (on : Module) (m : List ℕ) (words : ℕ) (s : State) → Attempts on m (s .image) → perform (recover words) s .answer ≡ 0
+      → Recovered on m (done (recover words) s)
   -- what may come next in a history: any operation, with any words for its numbers, done, or interrupted and recovered from
   pub any-numbers : (op : Operation) → NumbersFit op → Fit (arguments op)
-  pub done-next : (op : Operation) (s : State) → Fit (arguments op) → Next s (done op s)
-  pub crash-next : (op : Operation) (s s' : State) (k : ℕ) (m : List ℕ) → Fit (arguments op) → Interrupted op s k m → Recovered m s' → Next s s'
+  pub done-next : (on : Module) (op : Operation) (s : State) → Fit (arguments op) → Next on s (done op s)
+  pub crash-next : (on : Module) (op : Operation) (s s' : State) (k : ℕ) (m : List ℕ) → Fit (arguments op) → Interrupted on op s k m → Recovered on m s'
+      → Next on s s'
   -- an answered commit may be cut before and after, in every history
-  pub commit-cut : (s : State) (t : Table) → Follows s t → (script h : ℕ) → h < headCount → perform (commit script h) s .answer ≡ 0
+  pub commit-cut : (s : State) (t : Table) → Follows plain s t → (script h : ℕ) → h < headCount → perform (commit script h) s .answer ≡ 0
       → CommitCut s t script h
   -- there is a history with such a commit, with a claim of every head open
   pub four-claims : FourClaims
   -- a crash of Open may keep a later store, the reel number, and lose the five before it
   pub later-kept : (s : State) (words script reel : ℕ) → perform (openReel words script reel) s .answer ≡ 0
-      → Interrupted (openReel words script reel) s 6 (set (s .image) (reelAt (emptySlot (shape s) (memory s))) reel)
+      → Interrupted plain (openReel words script reel) s 6 (set (s .image) (reelAt (emptySlot (shape s) (memory s))) reel)
   -- a crash of Recover may leave any mixture of old and new words
   pub mixed : (s : State) (words : ℕ) (image : List ℕ) → length image ≡ length (s .image)
       → ((i : ℕ) → (reads image i ≡ memory s i) ⊎ (reads image i ≡ memory (perform (recover words) s .work .after) i))
-      → Interrupted (recover words) s 0 image
+      → Interrupted plain (recover words) s 0 image
   -- a second crash may come, in the recovery from the first
-  pub second-crash : (s s' : State) (m m' : List ℕ) (words k : ℕ) → s .image ≡ m → Interrupted (recover words) s k m' → Recovered m' s' → Recovered m s'
+  pub second-crash : (on : Module) (s s' : State) (m m' : List ℕ) (words k : ℕ) → s .image ≡ m → Interrupted on (recover words) s k m' → Recovered on m' s' → Recovered on m s'
   -- after any crash and any attempts some recovery ends, and the history goes on
-  pub goes-on : (s : State) (t : Table) → Follows s t → (op : Operation) → Fit (arguments op) → (k : ℕ) (m m' : List ℕ) → Interrupted op s k m
-      → Attempts m m' → GoesOn m'
+  pub goes-on : (on : Module) (s : State) (t : Table) → Follows on s t → (op : Operation) → Fit (arguments op) → (k : ℕ) (m m' : List ℕ) → Interrupted on op s k m
+      → Attempts on m m' → GoesOn on m'
   -- a history may start on an image of edition 1
   pub old-book : OldBook
   -- an image full of stale words may be converted, and a history may start on the copy

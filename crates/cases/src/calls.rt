@@ -27,6 +27,7 @@ use reelbook::reelbook_recover;
 use reelbook::reelbook_remove;
 use reelbook::reelbook_retire;
 use reelbook::reelbook_tidy;
+use reelbook::reelbook_translate;
 
 // What stands where a count is handed back, or the places left or the number of nodes on a path are, before they are.
 pub const NO_COUNT: u64 = 999;
@@ -87,6 +88,13 @@ pub fn run_query(command: Command, image: &[u64], scratch: &mut [u64], list: &mu
             count,
         ),
     }
+}
+
+// The script translated for an image of so many words.
+pub fn run_translate(command: Command, script: &[u64], flushed: &mut [u64]) {
+    let mut used = NO_COUNT;
+    let number = reelbook_translate(script, flushed, command.a, &mut used);
+    print::counted(number, used);
 }
 
 // The others, which write a script.

@@ -37,28 +37,32 @@ pub const LIST: u64 = 13;
 
 pub const CONVERT: u64 = 14;
 
-pub const CRASH: u64 = 15;
+pub const TRANSLATE: u64 = 15;
 
-pub const SWAP: u64 = 16;
+pub const CRASH: u64 = 16;
 
-pub const PUT: u64 = 17;
+pub const SWAP: u64 = 17;
 
-pub const ALL: u64 = 18;
+pub const REPLAY: u64 = 18;
 
-pub const RAMP: u64 = 19;
+pub const PUT: u64 = 19;
 
-pub const SHOW: u64 = 20;
+pub const ALL: u64 = 20;
 
-pub const LEND: u64 = 21;
+pub const RAMP: u64 = 21;
 
-pub const HOLD: u64 = 22;
+pub const SHOW: u64 = 22;
 
-pub const CARRY: u64 = 23;
+pub const LEND: u64 = 23;
+
+pub const HOLD: u64 = 24;
+
+pub const CARRY: u64 = 25;
 
 // An empty line or one that starts with #; and one that cannot be read.
-pub const HEADING: u64 = 24;
+pub const HEADING: u64 = 26;
 
-pub const UNKNOWN: u64 = 25;
+pub const UNKNOWN: u64 = 27;
 
 // A command's number, how many values stand behind it, and the values.
 pub struct Command {
@@ -110,22 +114,22 @@ fn name_of(line: &[u8], count: usize) -> u64 {
 fn named(word: &[u8]) -> u64 {
     let operation = index_of(
         word,
-        b"format recover apply open claim fill commit abandon remove retire tidy add has list convert",
+        b"format recover apply open claim fill commit abandon remove retire tidy add has list convert translate",
     );
     if operation < CRASH {
         return operation;
     }
     std::num::wrapping_add_u64(
         CRASH,
-        index_of(word, b"crash swap put all ramp show lend hold carry"),
+        index_of(word, b"crash swap replay put all ramp show lend hold carry"),
     )
 }
 
 // Does a command take so many values?
 fn takes(name: u64, count: usize) -> bool {
     match name {
-        RECOVER | APPLY | CONVERT | SWAP | HOLD | CARRY => count == 0,
-        OPEN | FILL | COMMIT | ABANDON | RETIRE | TIDY | LIST => count == 1,
+        RECOVER | APPLY | CONVERT | SWAP | REPLAY | HOLD | CARRY => count == 0,
+        OPEN | FILL | COMMIT | ABANDON | RETIRE | TIDY | LIST | TRANSLATE => count == 1,
         FORMAT | REMOVE | HAS | ALL | LEND => count == 2,
         CLAIM | CRASH | SHOW => count == 3,
         ADD => count == 4,

@@ -8,23 +8,27 @@ use crate::values::COPY;
 use crate::values::IMAGE;
 use crate::values::LIST;
 use crate::values::MAP;
+use crate::values::MODULE;
 use crate::values::SCRATCH;
 use crate::values::SCRIPT;
 use crate::values::TABLE;
 
-// The words of the buffers: an image of 128 nodes, a second one, and its maps; the longest script; the frames of a path down to
-// level 31; one more than a table has bytes.
+// The words of the buffers: an image of 128 nodes, a second one, and its maps; an entry more than the longest script and than its
+// translation; the frames of a path down to level 31; one more than a table has bytes.
 pub const IMAGE_WORDS: usize = 10306;
 
 pub const MAP_WORDS: usize = 2;
 
-pub const SCRIPT_WORDS: usize = 50;
+pub const SCRIPT_WORDS: usize = 52;
+
+pub const MODULE_WORDS: usize = 100;
 
 pub const LIST_WORDS: usize = 2016;
 
 pub const TABLE_WORDS: usize = 257;
 
 // How many words are lent, the first ones; and whether a script is held, or carried out as soon as it is written.
+// `flushed` is of the buffer `module`, a name that the proofs' language keeps for itself.
 pub struct Lent {
     pub image: usize,
     pub map: usize,
@@ -33,6 +37,7 @@ pub struct Lent {
     pub list: usize,
     pub table: usize,
     pub copy: usize,
+    pub flushed: usize,
     pub held: bool,
 }
 
@@ -46,6 +51,7 @@ impl Lent {
             list: 0,
             table: 0,
             copy: 0,
+            flushed: 0,
             held: false,
         }
     }
@@ -70,6 +76,7 @@ impl Lent {
             LIST => self.list = words,
             TABLE => self.table = words,
             COPY => self.copy = words,
+            MODULE => self.flushed = words,
             _ => {}
         }
         self
@@ -91,6 +98,7 @@ pub fn has_words(buffer: u64, words: usize) -> bool {
         LIST => words <= LIST_WORDS,
         TABLE => words <= TABLE_WORDS,
         COPY => words <= IMAGE_WORDS,
+        MODULE => words <= MODULE_WORDS,
         _ => false,
     }
 }

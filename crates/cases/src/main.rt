@@ -10,6 +10,8 @@
 //                              answer, and behind it what is handed back
 //   convert                    the other edition of `image` goes to `copy`
 //   swap                       image and copy, of one length, exchanged
+//   translate WORDS            the words of `script` that are lent, for an image of so many words, go to `module`
+//   replay                     carries out the words of `module` that are lent
 //   apply                      carries out a script: the words of `script` that are lent
 //   hold, carry                from now on, scripts that an operation writes are left, for `apply` or `crash`; or they are
 //                              carried out at once, as in the beginning
@@ -38,6 +40,7 @@ use lent::IMAGE_WORDS;
 use lent::LIST_WORDS;
 use lent::Lent;
 use lent::MAP_WORDS;
+use lent::MODULE_WORDS;
 use lent::SCRIPT_WORDS;
 use lent::TABLE_WORDS;
 use libc::STDIN_FILENO;
@@ -64,6 +67,7 @@ fn run_text(text: &[u8]) {
     let mut list = [0u64; LIST_WORDS];
     let mut table = [0u64; TABLE_WORDS];
     let mut copy = [0u64; IMAGE_WORDS];
+    let mut flushed = [0u64; MODULE_WORDS];
     let mut lent = Lent::nothing();
     let mut at = 0;
     while at < text.len() {
@@ -81,6 +85,7 @@ fn run_text(text: &[u8]) {
             &mut list,
             &mut table,
             &mut copy,
+            &mut flushed,
             lent,
         );
     }

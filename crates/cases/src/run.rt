@@ -6,6 +6,7 @@ use crate::buffers::swap;
 use crate::calls::NO_COUNT;
 use crate::calls::call_scripted;
 use crate::calls::run_query;
+use crate::calls::run_translate;
 use crate::calls::run_whole;
 use crate::command::ADD;
 use crate::command::APPLY;
@@ -21,8 +22,10 @@ use crate::command::LEND;
 use crate::command::LIST;
 use crate::command::OPEN;
 use crate::command::PUT;
+use crate::command::REPLAY;
 use crate::command::SHOW;
 use crate::command::SWAP;
+use crate::command::TRANSLATE;
 use crate::command::UNKNOWN;
 use crate::crash::run_crash;
 use crate::lent::Lent;
@@ -34,6 +37,7 @@ use crate::values::COPY;
 use crate::values::HEADS;
 use crate::values::IMAGE;
 use crate::values::MAP;
+use crate::values::MODULE;
 use crate::values::SCRATCH;
 use crate::values::SCRIPT;
 use crate::values::TABLE;
@@ -52,6 +56,7 @@ pub fn run_lent(
     list: &mut [u64],
     table: &mut [u64],
     copy: &mut [u64],
+    flushed: &mut [u64],
     lent: Lent,
 ) {
     let a = least(lent.image, image.len());
@@ -61,6 +66,7 @@ pub fn run_lent(
     let e = least(lent.list, list.len());
     let f = least(lent.table, table.len());
     let g = least(lent.copy, copy.len());
+    let h = least(lent.flushed, flushed.len());
     run_command(
         command,
         &mut image[..a],
@@ -71,6 +77,7 @@ pub fn run_lent(
         &mut list[..e],
         &mut table[..f],
         &mut copy[..g],
+        &mut flushed[..h],
         lent.held,
     );
 }
@@ -85,6 +92,7 @@ fn run_command(
     list: &mut [u64],
     table: &mut [u64],
     copy: &mut [u64],
+    flushed: &mut [u64],
     held: bool,
 ) {
     let name = command.name;
@@ -94,7 +102,9 @@ fn run_command(
         HAS..=LIST => run_query(command, image, scratch, list),
         CONVERT => print::answer(reelbook_convert(image, copy, scratch)),
         CRASH => run_crash(command, image, script, list),
+        TRANSLATE => run_translate(command, script, flushed),
         SWAP => print::end(swap(image, copy)),
+        REPLAY => print::answer(reelbook_apply(image, flushed)),
         PUT..=SHOW => run_buffer(
             command,
             image,
@@ -105,6 +115,7 @@ fn run_command(
             list,
             table,
             copy,
+            flushed,
         ),
         _ => run_mode(command),
     }
@@ -228,6 +239,7 @@ fn run_buffer(
     list: &mut [u64],
     table: &mut [u64],
     copy: &mut [u64],
+    flushed: &mut [u64],
 ) {
     let buffer = command.a;
     match buffer {
@@ -239,6 +251,7 @@ fn run_buffer(
         values::LIST => run_words(command, list),
         TABLE => run_words(command, table),
         COPY => run_words(command, copy),
+        MODULE => run_words(command, flushed),
         _ => print::end(false),
     }
 }

@@ -29,6 +29,8 @@ pub const TABLE: u64 = 6;
 
 pub const COPY: u64 = 7;
 
+pub const MODULE: u64 = 8;
+
 // The first place of a byte from a place on, or the end.
 pub fn place_of(b: u8, text: &[u8], from: usize) -> usize
     requires { ⌜ from ≤ length (now text) ⌝ }
@@ -94,7 +96,10 @@ fn value_of(word: &[u8]) -> One {
     if let One::Number(exponent) = read_one(word, 0, b"2^") {
         return power(exponent);
     }
-    named(index_of(word, b"image map heads scratch script list table copy ones"))
+    named(index_of(
+        word,
+        b"image map heads scratch script list table copy module ones",
+    ))
 }
 
 fn power(exponent: u64) -> One {
@@ -107,8 +112,8 @@ fn power(exponent: u64) -> One {
 
 fn named(index: u64) -> One {
     match index {
-        IMAGE..=COPY => One::Number(index),
-        8 => One::Number(ONES),
+        IMAGE..=MODULE => One::Number(index),
+        9 => One::Number(ONES),
         _ => One::Missing,
     }
 }

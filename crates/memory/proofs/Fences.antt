@@ -8,7 +8,7 @@ use Prim.Native.Nat.{ℕ, _≤_}
 use native.Mathlib.Nat.{le-refl}
 use native.Mathlib.Omega.{arith}
 use lib.ListN.{length, drop, getElem?, drop-of-length-le}
-use Rattle.memory.specs.Script.{Entry, store, barrier}
+use Rattle.memory.specs.Script.{Entry, store, barrier, flush}
 use Rattle.memory.specs.Crash.{hasBarrier, fenced, unfenced, passed}
 use Rattle.memory.proofs.Cases.{test, clash}
 use Rattle.memory.proofs.Lists.{number-from, element-from}
@@ -20,6 +20,7 @@ unfolding hasBarrier
 barrier-append [] fs = refl
 barrier-append (store i v ∷ es) fs = barrier-append es fs
 barrier-append (barrier ∷ es) fs = refl
+barrier-append (flush l ∷ es) fs = barrier-append es fs
 
 pub a-barrier : (es : List Entry) → List·Memᴰ barrier es → hasBarrier es ≡ true
 unfolding hasBarrier
@@ -29,12 +30,17 @@ a-barrier (store i v ∷ es) x = elim (List·Memᴰ·cases-cons x) [
   | inr y ↦ a-barrier es y
 ]
 a-barrier (barrier ∷ es) x = refl
+a-barrier (flush l ∷ es) x = elim (List·Memᴰ·cases-cons x) [
+  | inl q ↦ let never : _≡_ {A = ℕ} 0 1 = cc in absurd (omega arith)
+  | inr y ↦ a-barrier es y
+]
 
 pub no-barrier : (es : List Entry) → (List·Memᴰ barrier es → ⊥) → hasBarrier es ≡ false
 unfolding hasBarrier
 no-barrier [] h = refl
 no-barrier (store i v ∷ es) h = no-barrier es (λ x. h (List·Memᴰ·tail x))
 no-barrier (barrier ∷ es) h = absurd (h (List·Memᴰ·head refl))
+no-barrier (flush l ∷ es) h = no-barrier es (λ x. h (List·Memᴰ·tail x))
 
 -- none after k entries, by their numbers
 pub passed-means : (es : List Entry) (k : ℕ) → passed es k ↔ ((j : ℕ) → k ≤ j → getElem? es j ≢ some barrier)

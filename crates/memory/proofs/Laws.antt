@@ -8,6 +8,13 @@ pub use Rattle.memory.proofs.Bitmap.{clearIn, unmarked, full-word, Pass
 pub use Rattle.memory.proofs.Trailing.{trailing-first, lowest-in, lowest-set, lowest-taken, not-bits}
 pub use Rattle.memory.proofs.Bytes.{equal-bit, equal-beside, set-ahead, half-bits, or-bits, and-bits}
 pub use Rattle.memory.proofs.Cases.{test, clash}
+-- and what `flushes`, which knows crashes from within, builds on
+pub use Rattle.memory.proofs.Lists.{mem-take, number-of, element-at, take-through}
+pub use Rattle.memory.proofs.Written.{set-two, Reads, as-barrier, as-flush, as-store, entry-reads}
+pub use Rattle.memory.proofs.Stores.{length-apply, apply-append}
+pub use Rattle.memory.proofs.StoreLists.{store-of}
+pub use Rattle.memory.proofs.Fences.{Fenced, no-barrier, rejoined, barrier-later, none-later}
+pub use Rattle.memory.proofs.Possible.{fenced-at, length-image, reads-image}
 use Rattle.memory.specs.Laws.{CrashLaws}
 use Rattle.memory.proofs.Fences.{passed-means, passed-at-end}
 use Rattle.memory.proofs.Possible.{last-barrier, only-chosen, possible, outside}

@@ -4,7 +4,7 @@ use mathlib.Core.Bool.{Bool, true, false, cond, _&&_}
 use mathlib.Core.Logic.{_≢_}
 use mathlib.Core.Option.{Option, none, some}
 use mathlib.Core.List.{List, [], _∷_}
-use Prim.Native.Nat.{ℕ, suc, _+_, _≤_, _<_}
+use Prim.Native.Nat.{ℕ, suc, _+_, _^_, _≤_, _<_}
 use native.Mathlib.Omega.{arith}
 use native.Mathlib.Numerals.{add-one}
 use native.Mathlib.Decide.{decLt, ℕ-discrete}
@@ -12,11 +12,11 @@ use lib.ListN.{length, getD, drop, set, length-set, drop-of-length-le}
 use lib.Seq.{drop-cons}
 use lib.Dec.{eqb, ltb}
 use borrow.Author.Tests.{eq-eqb, ne-eqb}
-use Rattle.memory.specs.Script.{Entry, store, barrier, barrierWord, entryOf, onto, decode, storesIn}
+use Rattle.memory.specs.Script.{Entry, store, barrier, flush, barrierWord, flushWord, entryOf, onto, decode, storesIn}
 use Rattle.memory.specs.Crash.{apply}
 use Rattle.memory.specs.Apply.{isSome, outcome, applied, carryOut, isEntry, isScript, madeStores}
 use Rattle.memory.proofs.Cases.{clash}
-use Rattle.memory.proofs.Written.{Reads, as-barrier, as-store, entry-reads}
+use Rattle.memory.proofs.Written.{Reads, as-barrier, as-flush, as-store, entry-reads}
 
 -- the words from `at` on: an entry and what is left, or the end
 decode-step : (n at : ℕ) (ws : List ℕ) → at + 1 < length ws
@@ -44,9 +44,13 @@ pub barrier-entry : (n i v : ℕ) → i ≡ barrierWord → eqb v 0 ≡ isEntry 
 unfolding isEntry entryOf
 barrier-entry n i v h = rw (eq-eqb i barrierWord h) (sym (some-if (eqb v 0) barrier))
 
-pub store-entry : (n i v : ℕ) → i ≢ barrierWord → ltb i n ≡ isEntry n i v
+pub flush-entry : (n i v : ℕ) → i ≡ flushWord → true ≡ isEntry n i v
 unfolding isEntry entryOf
-store-entry n i v h = rw (ne-eqb i barrierWord h) (sym (some-if (ltb i n) (store i v)))
+flush-entry n i v f = rw f refl
+
+pub store-entry : (n i v : ℕ) → i ≢ barrierWord → i ≢ flushWord → ltb i n ≡ isEntry n i v
+unfolding isEntry entryOf
+store-entry n i v h f = rw (ne-eqb i barrierWord h, ne-eqb i flushWord f) (sym (some-if (ltb i n) (store i v)))
 
 both-there : (o : Option Entry) (os : Option (List Entry)) → isSome (onto o os) ≡ isSome o && isSome os
 both-there none os = refl
@@ -86,15 +90,18 @@ pub record Made (m m' ws : List ℕ) (at : ℕ) : Type 0 where
 abbrev stepped : List ℕ → Entry → List ℕ
 stepped m (store i v) = set m i v
 stepped m barrier = m
+stepped m (flush l) = m
 
 length-stepped : (m : List ℕ) (e : Entry) → length (stepped m e) ≡ length m
 length-stepped m (store i v) = length-set m i v
 length-stepped m barrier = refl
+length-stepped m (flush l) = refl
 
 apply-stepped : (m : List ℕ) (e : Entry) (es : List Entry) → apply m (e ∷ es) ≡ apply (stepped m e) es
 unfolding apply
 apply-stepped m (store i v) es = refl
 apply-stepped m barrier es = refl
+apply-stepped m (flush l) es = refl
 
 made : (m ws : List ℕ) (at : ℕ) (e : Entry) (es : List Entry) → decode (length m) (drop at ws) ≡ some (e ∷ es)
     → decode (length m) (drop (at + 2) ws) ≡ some es → Made m (stepped m e) ws at
@@ -121,23 +128,25 @@ made-step m ws at h c =
     go (some e) none eo eos all t = clash false t refl
     go (some e) (some es) eo eos all t = (e, entry-reads _ _ _ e eo, made m ws at e es all eos)
 
--- a store, where the first word is an index; a barrier, where it is not
-pub made-store : (m ws : List ℕ) (at : ℕ) → at + 1 < length ws → isScript (length m) (drop at ws) ≡ true → getD ws at 0 ≢ barrierWord
+-- a store, where the first word is below the two marks; a barrier or a flush, where it is not
+pub made-store : (m ws : List ℕ) (at : ℕ) → at + 1 < length ws → isScript (length m) (drop at ws) ≡ true → getD ws at 0 < flushWord
     → (getD ws at 0 < length m) × Made m (set m (getD ws at 0) (getD ws (at + 1) 0)) ws at
 made-store m ws at h c b = let s = made-step m ws at h c in go (s .0) (s .1) (s .2)
   where
     go : (e : Entry) → Reads (length m) (getD ws at 0) (getD ws (at + 1) 0) e → Made m (stepped m e) ws at
         → (getD ws at 0 < length m) × Made m (set m (getD ws at 0) (getD ws (at + 1) 0)) ws at
-    go barrier (as-barrier q z) d = absurd (b q)
-    go (store i v) (as-store l q) d = (l, d)
+    go barrier (as-barrier q z) d = absurd (omega arith)
+    go (flush l) (as-flush q) d = absurd (omega arith)
+    go (store i v) (as-store l q f) d = (l, d)
 
-pub made-barrier : (m ws : List ℕ) (at : ℕ) → at + 1 < length ws → isScript (length m) (drop at ws) ≡ true → getD ws at 0 ≡ barrierWord
+pub made-skip : (m ws : List ℕ) (at : ℕ) → length m ≤ flushWord → at + 1 < length ws → isScript (length m) (drop at ws) ≡ true → flushWord ≤ getD ws at 0
     → Made m m ws at
-made-barrier m ws at h c b = let s = made-step m ws at h c in go (s .0) (s .1) (s .2)
+made-skip m ws at short h c b = let s = made-step m ws at h c in go (s .0) (s .1) (s .2)
   where
     go : (e : Entry) → Reads (length m) (getD ws at 0) (getD ws (at + 1) 0) e → Made m (stepped m e) ws at → Made m m ws at
     go barrier (as-barrier q z) d = d
-    go (store i v) (as-store l q) d = absurd (q b)
+    go (flush l) (as-flush q) d = d
+    go (store i v) (as-store l q f) d = absurd (omega arith)
 
 -- the last entry is made
 pub made-last : (m ws : List ℕ) (at : ℕ) → length ws ≤ at + 1 → madeStores m (drop at ws) ≡ m
@@ -151,17 +160,22 @@ made-last m ws at h = elim (decLt at (length ws)) [
 
 count-step : (at : ℕ) (ws : List ℕ) → at + 1 < length ws
     → let rest = storesIn (drop (at + 2) ws) in
-    storesIn (drop at ws) ≡ cond (eqb (getD ws at 0) barrierWord) rest (1 + rest)
+    storesIn (drop at ws) ≡ cond (eqb (getD ws at 0) barrierWord) rest (cond (eqb (getD ws at 0) flushWord) rest (1 + rest))
 unfolding storesIn
 count-step at ws h =
     let two : at + 2 ≡ suc (suc at) = omega arith in
     rw (two, drop-cons ws at 0 (omega arith), drop-cons ws (suc at) 0 (omega arith)) refl
 
-pub count-store : (at : ℕ) (ws : List ℕ) → at + 1 < length ws → getD ws at 0 ≢ barrierWord → storesIn (drop at ws) ≡ 1 + storesIn (drop (at + 2) ws)
-count-store at ws h b = count-step at ws h ∙ rw (ne-eqb (getD ws at 0) barrierWord b) refl
+pub count-store : (at : ℕ) (ws : List ℕ) → at + 1 < length ws → getD ws at 0 < flushWord → storesIn (drop at ws) ≡ 1 + storesIn (drop (at + 2) ws)
+count-store at ws h b =
+    count-step at ws h ∙ rw (ne-eqb (getD ws at 0) barrierWord (λ q. omega arith), ne-eqb (getD ws at 0) flushWord (λ q. omega arith)) refl
 
-pub count-barrier : (at : ℕ) (ws : List ℕ) → at + 1 < length ws → getD ws at 0 ≡ barrierWord → storesIn (drop at ws) ≡ storesIn (drop (at + 2) ws)
-count-barrier at ws h b = count-step at ws h ∙ rw (eq-eqb (getD ws at 0) barrierWord b) refl
+pub count-skip : (at : ℕ) (ws : List ℕ) → at + 1 < length ws → flushWord ≤ getD ws at 0 → getD ws at 0 < 2 ^ 64
+    → storesIn (drop at ws) ≡ storesIn (drop (at + 2) ws)
+count-skip at ws h b u = count-step at ws h ∙ elim (ℕ-discrete (getD ws at 0) barrierWord) [
+  | yes q ↦ rw (eq-eqb (getD ws at 0) barrierWord q) refl
+  | no q ↦ rw (ne-eqb (getD ws at 0) barrierWord q, eq-eqb (getD ws at 0) flushWord (omega arith)) refl
+]
 
 pub count-last : (at : ℕ) (ws : List ℕ) → length ws ≤ at + 1 → storesIn (drop at ws) ≡ 0
 unfolding storesIn

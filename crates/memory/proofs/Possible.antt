@@ -9,7 +9,7 @@ use native.Mathlib.Decide.{decLt}
 use lib.ListN.{length, take, drop, getElem?, take-append-drop, List·getD-eq-default}
 use lib.Seq.{take-take}
 use Rattle.memory.specs.Words.{reads}
-use Rattle.memory.specs.Script.{Entry, store, barrier}
+use Rattle.memory.specs.Script.{Entry, store, barrier, flush}
 use Rattle.memory.specs.Crash.{apply, hasBarrier, fenced, unfenced, CrashImage}
 use Rattle.memory.specs.Laws.{Avoids, LastBarrier, Choice, old, new, image}
 use Rattle.memory.proofs.Lists.{number-of, element-at, take-through}
@@ -22,6 +22,7 @@ pub is-barrier : (o : Option Entry) → Dec (o ≡ some barrier)
 is-barrier none = no (Option·none-ne-some barrier)
 is-barrier (some (store i v)) = no (λ q. let z : _≡_ {A = ℕ} 0 1 = cc in omega arith)
 is-barrier (some barrier) = yes refl
+is-barrier (some (flush l)) = no (λ q. let z : _≡_ {A = ℕ} 0 1 = cc in omega arith)
 
 pub last-barrier : (es : List Entry) (k : ℕ) → (b : ℕ) × LastBarrier es k b
 last-barrier es zero = (0, record { passed-at = inl refl; within = omega arith; none-since = λ j g h. absurd (omega arith) })

@@ -8,7 +8,7 @@ use native.Mathlib.Decide.{ℕ-discrete, decLt}
 use lib.ListN.{length, set, length-set}
 use lib.Seq.{getD-set-same, getD-set-other, set-out}
 use Rattle.memory.specs.Words.{reads}
-use Rattle.memory.specs.Script.{Entry, store, barrier, Store, stores}
+use Rattle.memory.specs.Script.{Entry, store, barrier, flush, Store, stores}
 use Rattle.memory.specs.Crash.{apply, fenced, unfenced}
 use Rattle.memory.specs.Laws.{Avoids, FitStores, ApplyLaws}
 
@@ -19,12 +19,14 @@ unfolding apply
 length-apply m [] = refl
 length-apply m (store i v ∷ es) = length-apply (set m i v) es ∙ length-set m i v
 length-apply m (barrier ∷ es) = length-apply m es
+length-apply m (flush l ∷ es) = length-apply m es
 
 pub apply-append : (m : List ℕ) (es fs : List Entry) → apply m (es ++ fs) ≡ apply (apply m es) fs
 unfolding apply
 apply-append m [] fs = refl
 apply-append m (store i v ∷ es) fs = apply-append (set m i v) es fs
 apply-append m (barrier ∷ es) fs = apply-append m es fs
+apply-append m (flush l ∷ es) fs = apply-append m es fs
 
 -- ---- a word's content: the old one, or one of the stores
 
@@ -66,6 +68,7 @@ unfolding apply
 content m [] i = inl refl
 content m (store j w ∷ es) i = elim (content (set m j w) es i) [ inl q ↦ rw q (set-content m j w i) | inr x ↦ inr (List·Memᴰ·tail x) ]
 content m (barrier ∷ es) i = elim (content m es i) [ inl q ↦ inl q | inr x ↦ inr (List·Memᴰ·tail x) ]
+content m (flush l ∷ es) i = elim (content m es i) [ inl q ↦ inl q | inr x ↦ inr (List·Memᴰ·tail x) ]
 
 -- a word that has a value, or gets it by a store, and gets no other, has it in the end
 pub settles : (m : List ℕ) (seg : List Store) (i v : ℕ) → i < length m → ((u : ℕ) → List·Memᴰ (i, u) seg → u ≡ v)

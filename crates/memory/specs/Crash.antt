@@ -6,18 +6,20 @@ use mathlib.Core.List.{List, [], _∷_, List·Memᴰ}
 use Prim.Native.Nat.{ℕ, _≤_}
 use lib.ListN.{length, set, take, drop}
 use Rattle.memory.specs.Words.{reads}
-use Rattle.memory.specs.Script.{Entry, store, barrier}
+use Rattle.memory.specs.Script.{Entry, store, barrier, flush}
 
--- the image once entries are carried out, in order; a barrier changes nothing
+-- the image once entries are carried out, in order; barriers and flushes change nothing
 unfoldable pub apply : List ℕ → List Entry → List ℕ
 apply m [] = m
 apply m (store i v ∷ es) = apply (set m i v) es
 apply m (barrier ∷ es) = apply m es
+apply m (flush l ∷ es) = apply m es
 
 unfoldable pub hasBarrier : List Entry → Bool
 hasBarrier [] = false
 hasBarrier (store i v ∷ es) = hasBarrier es
 hasBarrier (barrier ∷ es) = true
+hasBarrier (flush l ∷ es) = hasBarrier es
 
 -- the entries up to the last barrier
 unfoldable pub fenced : List Entry → List Entry

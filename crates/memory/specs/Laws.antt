@@ -4,11 +4,11 @@ use mathlib.Core.Bool.{Bool, true, false}
 use mathlib.Core.Logic.{_⊎_, _↔_, _≢_}
 use mathlib.Core.Option.{some}
 use mathlib.Core.List.{List, [], _∷_, _++_, map, List·Memᴰ}
-use Prim.Native.Nat.{ℕ, zero, suc, _+_, _-_, _*_, _^_, _≤_, _<_}
+use Prim.Native.Nat.{ℕ, zero, suc, _+_, _-_, _*_, _%_, _^_, _≤_, _<_}
 use lib.ListN.{length, set, take, drop, getElem?}
 use Rattle.memory.specs.Words.{reads, isSet, withBit, withoutBit, byte, withByte}
 use Rattle.memory.specs.Search.{first}
-use Rattle.memory.specs.Script.{Entry, store, barrier, barrierWord, encode, written, decode, Store, stores, segmented, storeCount, storesIn}
+use Rattle.memory.specs.Script.{Entry, store, barrier, flush, barrierWord, flushWord, encode, written, decode, Store, stores, segmented, storeCount, storesIn}
 use Rattle.memory.specs.Crash.{apply, CrashImage, passed}
 use Rattle.memory.specs.Apply.{outcome, carryOut}
 
@@ -51,7 +51,7 @@ pub record SearchLaws (p : ℕ → Bool) (n : ℕ) : Type 0 where
 
 -- every store is inside an image of n words
 abbrev pub Inside : ℕ → List Entry → Type 0
-Inside n es = (i v : ℕ) → List·Memᴰ (store i v) es → (i < n) × (i ≢ barrierWord)
+Inside n es = (i v : ℕ) → List·Memᴰ (store i v) es → (i < n) × (i ≢ barrierWord) × (i ≢ flushWord)
 
 -- no entry stores to word i
 abbrev pub Avoids : ℕ → List Entry → Type 0
@@ -65,10 +65,11 @@ abbrev pub FitStores : List Entry → Type 0
 FitStores es = (i v : ℕ) → List·Memᴰ (store i v) es → v < 2 ^ 64
 
 pub record ScriptLaws : Type 0 where
-  -- an entry is two words: index and value for a store, 2^64 − 1 and 0 for a barrier
+  -- an entry is two words: index and value for a store, 2^64 − 1 and 0 for a barrier, 2^64 − 2 and the line for a flush
   pub none-words : encode [] ≡ []
   pub store-words : (i v : ℕ) (es : List Entry) → encode (store i v ∷ es) ≡ i ∷ v ∷ encode es
   pub barrier-words : (es : List Entry) → encode (barrier ∷ es) ≡ (2 ^ 64 - 1) ∷ 0 ∷ encode es
+  pub flush-words : (line : ℕ) (es : List Entry) → encode (flush line ∷ es) ≡ (2 ^ 64 - 2) ∷ line ∷ encode es
   pub length-encode : (es : List Entry) → length (encode es) ≡ 2 * length es
   -- what is encoded is read back, and what is read back was encoded
   pub read-back : (n : ℕ) (es : List Entry) → Inside n es → decode n (encode es) ≡ some es
@@ -78,6 +79,8 @@ pub record ScriptLaws : Type 0 where
   pub none-carried-out : (m : List ℕ) → carryOut m [] ≡ outcome 0 m
   -- words that no entries inside the image are written as are refused, and the image stays
   pub refused : (m ws : List ℕ) → ((es : List Entry) → Inside (length m) es → encode es ≡ ws → ⊥) → carryOut m ws ≡ outcome 3 m
+  -- a flush is skipped, whatever line it names and wherever it stands
+  pub flush-skipped : (m ws vs : List ℕ) (line : ℕ) → length ws % 2 ≡ 0 → carryOut m (ws ++ flushWord ∷ line ∷ vs) ≡ carryOut m (ws ++ vs)
   -- entries, then others written to the rest of the buffer, are all of them written
   pub written-append : (es fs : List Entry) (buffer : List ℕ)
       → take (2 * length es) (written es buffer) ++ written fs (drop (2 * length es) (written es buffer)) ≡ written (es ++ fs) buffer

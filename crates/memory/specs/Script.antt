@@ -6,28 +6,37 @@ use Prim.Native.Nat.{ℕ, _+_, _-_, _*_, _^_}
 use lib.ListN.{length, drop}
 use lib.Dec.{eqb, ltb}
 
--- an entry: a store of a value to the word at an index, or a barrier
+-- an entry: a store of a value to the word at an index, a barrier, or a flush of a line
 pub data Entry : Type 0 where
   store : (index value : ℕ) → Entry
   barrier : Entry
+  flush : (line : ℕ) → Entry
 
 -- the word that a barrier has where a store has its index
 abbrev pub barrierWord : ℕ
 barrierWord = 2 ^ 64 - 1
 
--- an entry is two words: index and value for a store, 2^64 − 1 and 0 for a barrier
+-- the word that a line flush has there
+abbrev pub flushWord : ℕ
+flushWord = 2 ^ 64 - 2
+
+-- an entry is two words: index and value for a store, 2^64 − 1 and 0 for a barrier, 2^64 − 2 and the line for a flush
 unfoldable pub encode : List Entry → List ℕ
 encode [] = []
 encode (store i v ∷ es) = i ∷ v ∷ encode es
 encode (barrier ∷ es) = barrierWord ∷ 0 ∷ encode es
+encode (flush l ∷ es) = flushWord ∷ l ∷ encode es
 
 -- a script buffer with entries written at its start: unused words stay
 unfoldable pub written : List Entry → List ℕ → List ℕ
 written es buffer = encode es ++ drop (2 * length es) buffer
 
--- two words as an entry on an image of n words: a barrier, or a store inside the image
+-- two words as an entry on an image of n words: a barrier, a flush of any line, or a store inside the image
 unfoldable pub entryOf : ℕ → ℕ → ℕ → Option Entry
-entryOf n i v = cond (eqb i barrierWord) (cond (eqb v 0) (some barrier) none) (cond (ltb i n) (some (store i v)) none)
+entryOf n i v =
+    cond (eqb i barrierWord) (cond (eqb v 0) (some barrier) none)
+    (cond (eqb i flushWord) (some (flush v))
+    (cond (ltb i n) (some (store i v)) none))
 
 -- an entry before others, where all are there
 abbrev pub onto : Option Entry → Option (List Entry) → Option (List Entry)
@@ -59,9 +68,10 @@ unfoldable pub storeCount : List Entry → ℕ
 storeCount [] = 0
 storeCount (store i v ∷ es) = 1 + storeCount es
 storeCount (barrier ∷ es) = storeCount es
+storeCount (flush l ∷ es) = storeCount es
 
--- the same of words, two at a time: whatever is no barrier is a store
+-- the same of words, two at a time: whatever is no barrier and no flush is a store
 unfoldable pub storesIn : List ℕ → ℕ
 storesIn [] = 0
 storesIn (i ∷ []) = 0
-storesIn (i ∷ v ∷ ws) = cond (eqb i barrierWord) (storesIn ws) (1 + storesIn ws)
+storesIn (i ∷ v ∷ ws) = cond (eqb i barrierWord) (storesIn ws) (cond (eqb i flushWord) (storesIn ws) (1 + storesIn ws))

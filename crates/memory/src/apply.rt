@@ -4,6 +4,7 @@ ghost use mathlib.Core.Bool.{true};
 ghost use lib.ListN.{length};
 ghost use Rattle.memory.specs.Apply.{isEntry, isScript, madeStores, numberOf, outcome, carryOut};
 use crate::script::BARRIER;
+use crate::script::FLUSH;
 
 // What carrying a script out answers.
 pub enum Applied {
@@ -16,14 +17,16 @@ fn is_entry(n: usize, index: u64, value: u64) -> bool
     ensures { λ r. ⌜ r ≡ isEntry n index value ⌝ }
 {
     if index == BARRIER {
-        value == 0
-    } else {
-        index < n as u64
+        return value == 0;
     }
+    if index == FLUSH {
+        return true;
+    }
+    index < n as u64
 }
 
 // Are all of a script's words whole entries on an image of n words?
-fn is_script(n: usize, script: &[u64]) -> bool
+pub fn is_script(n: usize, script: &[u64]) -> bool
     ensures { λ r. ⌜ r ≡ isScript n (now (script .entry)) ⌝ }
 {
     let mut at = 0;
@@ -44,7 +47,7 @@ fn make_stores(image: &mut [u64], script: &[u64])
     let mut at = 0;
     while at + 1 < script.len() {
         let index = script[at];
-        if index != BARRIER {
+        if index < FLUSH {
             image[index as usize] = script[at + 1];
         }
         at += 2;

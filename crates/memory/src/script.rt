@@ -9,6 +9,9 @@ ghost use Rattle.memory.specs.Script.{store, barrier, written, storesIn}
 // The word that a barrier has where a store has its index.
 pub const BARRIER: u64 = 0xffff_ffff_ffff_ffff;
 
+// The word that a line flush has there.
+pub const FLUSH: u64 = 0xffff_ffff_ffff_fffe;
+
 pub fn put_store(script: &mut [u64], index: u64, value: u64)
     requires { ⌜ 2 ≤ length (now script) ⌝ }
     ensures { λ _. ⌜ now (script .exit) ≡ written (store index value ∷ []) (now (script .entry)) ⌝ }
@@ -46,14 +49,14 @@ pub fn put_fenced_pair(script: &mut [u64], index: u64, value: u64, index2: u64, 
     put_fenced(&mut script[4..], index2, value2);
 }
 
-// How many stores a script has; barriers are not counted.
+// How many stores a script has; barriers and flushes are not counted.
 pub fn count_stores(script: &[u64]) -> u64
     ensures { λ r. ⌜ r ≡ storesIn (now (script .entry)) ⌝ }
 {
     let mut count = 0;
     let mut at = 0;
     while at + 1 < script.len() {
-        if script[at] != BARRIER {
+        if script[at] < FLUSH {
             count += 1;
         }
         at += 2;

@@ -10,5 +10,6 @@ fn main() {
     vectors::bitmap_searches();
     vectors::writers();
     vectors::carried_out();
+    vectors::flushes();
     vectors::refusals();
 }

@@ -8,6 +8,8 @@ use memory::words;
 
 const FULL: u64 = 0xffff_ffff_ffff_ffff;
 
+const FLUSH: u64 = 0xffff_ffff_ffff_fffe;
+
 const BYTES: u64 = 0x0807_0605_0403_0201;
 
 pub fn bits() {
@@ -130,6 +132,25 @@ pub fn carried_out() {
     );
 }
 
+pub fn flushes() {
+    carry_out(
+        b"carry out on 10 20 30, a store, a flush of its line, a barrier:",
+        &[0, 11, FLUSH, 0, FULL, 0],
+    );
+    carry_out(
+        b"carry out on 10 20 30, a flush of line 1, a store:",
+        &[FLUSH, 1, 1, 21],
+    );
+    carry_out(
+        b"carry out on 10 20 30, a flush of line 2^64-1, a store:",
+        &[FLUSH, FULL, 2, 31],
+    );
+    print::number(
+        b"stores counted of a flush, a store, a barrier, a store to word 0, a flush, a barrier:",
+        script::count_stores(&[FLUSH, 5, 5, 50, FULL, 0, 0, 0, FLUSH, 0, FULL, 0]),
+    );
+}
+
 pub fn refusals() {
     carry_out(
         b"carry out on 10 20 30, a store and half an entry:",
@@ -140,8 +161,12 @@ pub fn refusals() {
         &[0, 11, 3, 12],
     );
     carry_out(
-        b"carry out on 10 20 30, a store and one at index 2^64-2:",
-        &[0, 11, FULL - 1, 0],
+        b"carry out on 10 20 30, a store and one at index 2^64-3:",
+        &[0, 11, FLUSH - 1, 0],
+    );
+    carry_out(
+        b"carry out on 10 20 30, a store and half a flush:",
+        &[0, 11, FLUSH],
     );
     carry_out(
         b"carry out on 10 20 30, a store and a barrier with second word 1:",

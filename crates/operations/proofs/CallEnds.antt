@@ -36,7 +36,7 @@ use Rattle.operations.proofs.Endings.{refused as ends-refused, done as 
 no-words : [] ≡ encode (segmented [])
 no-words = sym (segment-laws .none-encoded)
 
-none-inside : (n : ℕ) → Inside n (segmented [])
+pub none-inside : (n : ℕ) → Inside n (segmented [])
 none-inside n i v x = absurd (List·Memᴰ·not-nil (rw (segment-laws .no-segment) at x))
 
 pub no-entries : (n : ℕ) → decode n [] ≡ some (segmented [])

@@ -7,7 +7,7 @@ use native.Mathlib.Omega.{arith}
 use lib.ListN.{length}
 use lib.Dec.{eqb}
 use borrow.Author.Tests.{eqb-true, eqb-false}
-use Rattle.tree.specs.Memory.{reads}
+use Rattle.tree.specs.Memory.{reads, Module}
 use Rattle.tree.specs.Test.{holds}
 use Rattle.tree.specs.Layout.{badImage, geometryOf}
 use Rattle.tree.proofs.Cases.{test}
@@ -26,6 +26,7 @@ use Rattle.operations.specs.Ends.{Buffers, state, Ends, ended, ends}
 use Rattle.operations.specs.Chain.{counted, next, Fits, OtherBuffer, another-length, to-format, Called, with-its-map, with-another, afterCall, GoesOn, Chain}
 use Rattle.operations.proofs.Endings.{refused as ends-refused}
 use Rattle.operations.proofs.CallEnds.{none-carried, nothing-over, answer-ends, tells, answered, refused, scratch-cleared, scratch-left, one-to-three, unread}
+use Rattle.operations.proofs.OnModule.{carried-there}
 
 -- ---- the next state
 
@@ -46,7 +47,7 @@ steps op s b fit = elim (test (eqb (perform op s .answer) 0)) [
 
 -- ---- in a history, with the book's map
 
-goes-on : (op : Operation) (s : State) (t : Table) (b : Buffers) → Follows s t → Fits op s → GoesOn op s t (ends op s b) (next op (ends op s b))
+goes-on : {on : Module} (op : Operation) (s : State) (t : Table) (b : Buffers) → Follows on s t → Fits op s → GoesOn on op s t (ends op s b) (next op (ends op s b))
 goes-on op s t b f fit =
     let a = demand2 .alike s t f op (fit .numbers) in
     let d = tells op s b in
@@ -125,8 +126,8 @@ sent-back-next {op} {s} {e = e} x z =
     rw (n .0, nothing-carried (e .after .image), image, heads) (sym (x .stays z))
 
 -- and is told what the table replies
-sent-back-goes-on : {op : Operation} {s : State} {t : Table} {map : List ℕ} {b : Buffers} {e : Ends} → Follows s t → Fits op s → SentBack op s map b e
-    → e .answer ≢ 0 → GoesOn op s t e (state (next op e .image) (s .pool) (e .after .heads))
+sent-back-goes-on : {op : Operation} {s : State} {t : Table} {map : List ℕ} {b : Buffers} {e : Ends} {on : Module} → Follows on s t → Fits op s → SentBack op s map b e
+    → e .answer ≢ 0 → GoesOn on op s t e (state (next op e .image) (s .pool) (e .after .heads))
 sent-back-goes-on {op} {s} {t} {map} {b} {e} f fit x z =
     let a = demand2 .alike s t f op (fit .numbers) in
     let d = demand1 .refused op s (rw (← x .answer) z) in
@@ -139,9 +140,9 @@ sent-back-goes-on {op} {s} {t} {map} {b} {e} f fit x z =
     }
 
 -- a format that is answered starts the book anew, with the map that it was lent
-format-goes-on : (words : ℕ) (table : List ℕ) (slots nodes : ℕ) (s : State) (t : Table) (map : List ℕ) (b : Buffers) {e : Ends} → Follows s t → Fits (format words table slots nodes) s
+format-goes-on : {on : Module} (words : ℕ) (table : List ℕ) (slots nodes : ℕ) (s : State) (t : Table) (map : List ℕ) (b : Buffers) {e : Ends} → Follows on s t → Fits (format words table slots nodes) s
     → e ≡ ends (format words table slots nodes) (state (s .image) map (s .heads)) b → e .answer ≡ 0
-    → GoesOn (format words table slots nodes) s t e (next (format words table slots nodes) e)
+    → GoesOn on (format words table slots nodes) s t e (next (format words table slots nodes) e)
 format-goes-on words table slots nodes s t map b {e} f fit q h =
     let op = format words table slots nodes in
     let s' = state (s .image) map (s .heads) in
@@ -158,14 +159,14 @@ format-goes-on words table slots nodes s t map b {e} f fit q h =
     }
 
 -- one that is lent a map of another length is never answered
-answered-another : (op : Operation) (s : State) (t : Table) (b : Buffers) (e : Ends) (map : List ℕ) → Follows s t → Fits op s → OtherBuffer (s .image) op
-    → e ≡ ends op (state (s .image) map (s .heads)) b → e .answer ≡ 0 → GoesOn op s t e (next op e)
+answered-another : {on : Module} (op : Operation) (s : State) (t : Table) (b : Buffers) (e : Ends) (map : List ℕ) → Follows on s t → Fits op s → OtherBuffer (s .image) op
+    → e ≡ ends op (state (s .image) map (s .heads)) b → e .answer ≡ 0 → GoesOn on op s t e (next op e)
 answered-another op s t b e map f fit (another-length o) q h =
     absurd (one-to-three (unread op (s .image) map (s .heads) b o .number) .0 (sym (ap (λ (y : Ends). y .answer) q) ∙ h))
 answered-another op s t b e map f fit (to-format {words} {slots} {nodes} {table}) q h = format-goes-on words table slots nodes s t map b f fit q h
 
-called-goes-on : (op : Operation) (s : State) (t : Table) (b : Buffers) (e : Ends) → Follows s t → Fits op s → (c : Called op s b e)
-    → GoesOn op s t e (afterCall c)
+called-goes-on : {on : Module} (op : Operation) (s : State) (t : Table) (b : Buffers) (e : Ends) → Follows on s t → Fits op s → (c : Called op s b e)
+    → GoesOn on op s t e (afterCall c)
 called-goes-on op s t b e f fit (with-its-map q) = rw q (goes-on op s t b f fit)
 called-goes-on op s t b e f fit (with-another map o q) = elim (test (eqb (e .answer) 0)) [
   | inl r ↦ rw r (answered-another op s t b e map f fit o q (eqb-true (e .answer) 0 r))
@@ -176,6 +177,7 @@ pub chain : Chain
 chain = record {
   tells = λ op s b e q. rw q (tells op s b);
   answered = λ op s b e fit q h. rw q (answered op s b (sym (answer-ends op s b) ∙ sym (ap (λ (x : Ends). x .answer) q) ∙ h) fit);
+  on-module = λ on op s b e buffer fit q room. rw q (carried-there op s b fit on buffer room);
   refused = λ op s b e q h. rw q (refused op s b (λ z. h (ap (λ (x : Ends). x .answer) q ∙ answer-ends op s b ∙ z)));
   scratch-cleared = λ op s b e q c. rw q (scratch-cleared op s b (rw q at c));
   scratch-left = λ op s b e q n. rw q (scratch-left op s b (rw q at n));

@@ -5,5 +5,6 @@ pub mod Tested
 pub mod HeadRecords
 pub mod HandedOver
 pub mod CallEnds
+pub mod OnModule
 pub mod Chain
 pub mod Driver

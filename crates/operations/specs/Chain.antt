@@ -5,10 +5,10 @@ use mathlib.Core.Bool.{cond}
 use mathlib.Core.Logic.{_⊎_, _≢_}
 use mathlib.Core.Option.{none, some}
 use mathlib.Core.List.{List, [], _∷_, List·Memᴰ}
-use Prim.Native.Nat.{ℕ, _<_}
+use Prim.Native.Nat.{ℕ, _≤_, _<_}
 use lib.ListN.{length, take, drop}
 use lib.Dec.{eqb}
-use Rattle.tree.specs.Memory.{reads, segmented, encode, decode, Fit}
+use Rattle.tree.specs.Memory.{reads, segmented, encode, decode, translate, Module, plain, flushing, entriesOn, Fit}
 use Rattle.tree.specs.Layout.{mapWords, geometryOf}
 use Rattle.tree.specs.Fingerprint.{isGiven}
 use Rattle.book.specs.State.{State, Operation, format, recover, openReel, claim, fill, commit, abandon, remove, retire, tidy, query, Query, has, list, convert, arguments}
@@ -67,7 +67,13 @@ valueIn frames e = e .count
 valueIn nothing e = 0
 valueIn script-words e = 0
 
--- the driver's state once it has carried out the script's words
+-- the words that it carries out on either memory module, for an image of n words: on the one with line flushes those that the
+-- translator has put into the buffer lent to it
+abbrev pub wordsOn : Module → (n : ℕ) (buffer ws : List ℕ) → List ℕ
+wordsOn plain n buffer ws = ws
+wordsOn flushing n buffer ws = let t = translate n ws buffer in take (t .count) (t .buffer)
+
+-- the driver's state once it has carried out the script's words: on either module, by `CarriedOn`
 abbrev pub next : Operation → Ends → State
 next op e = state (carry (e .after .image) (wordsIn (counted op) e) .image) (e .after .pool) (e .after .heads)
 
@@ -100,6 +106,16 @@ pub record Tells (op : Operation) (s : State) (b : Buffers) (e : Ends) : Type 1 
   -- of script and list the words after those handed over stay
   pub script-tail : drop (length (wordsIn (counted op) e)) (e .buffers .script) ≡ drop (length (wordsIn (counted op) e)) (b .script)
   pub list-tail : drop (length (framesIn (counted op) e)) (e .buffers .list) ≡ drop (length (framesIn (counted op) e)) (b .list)
+
+-- on either memory module, with a buffer lent to the translator
+pub record CarriedOn (on : Module) (op : Operation) (s : State) (e : Ends) (buffer : List ℕ) : Type 0 where
+  -- the translator takes the words that were handed out
+  pub taken : translate (length (s .image)) (wordsIn (counted op) e) buffer .answer ≡ 0
+  -- the words carried out are the entries of which histories say what a crash leaves there
+  pub entries : decode (length (s .image)) (wordsOn on (length (s .image)) buffer (wordsIn (counted op) e))
+      ≡ some (entriesOn on (segmented (perform op s .work .script)))
+  -- and leave the same image
+  pub carried-out : e .answer ≡ 0 → carry (e .after .image) (wordsOn on (length (s .image)) buffer (wordsIn (counted op) e)) ≡ carried 0 (done op s .image)
 
 pub record Refused (op : Operation) (s : State) (b : Buffers) (e : Ends) : Type 0 where
   pub count : e .count ≡ 0
@@ -161,15 +177,17 @@ afterCall {op} {e = e} (with-its-map q) = next op e
 afterCall {op} {s} {e = e} (with-another map o q) = state (next op e .image) (cond (eqb (e .answer) 0) (e .after .pool) (s .pool)) (e .after .heads)
 
 -- the driver is told what the table replies, and with its next state the history goes on
-pub record GoesOn (op : Operation) (s : State) (t : Table) (e : Ends) (s' : State) : Type 0 where
+pub record GoesOn (on : Module) (op : Operation) (s : State) (t : Table) (e : Ends) (s' : State) : Type 0 where
   pub answer : e .answer ≡ replied op s t .answer
   pub value : valueIn (counted op) e ≡ replied op s t .work .handed .value
   pub listing : EachOnce (framesIn (counted op) e) (replied op s t .work .handed .listing)
-  pub follows : Follows s' (replied op s t .work .after)
+  pub follows : Follows on s' (replied op s t .work .after)
 
 pub record Chain : Type 1 where
   pub tells : (op : Operation) (s : State) (b : Buffers) (e : Ends) → e ≡ ends op s b → Tells op s b e
   pub answered : (op : Operation) (s : State) (b : Buffers) (e : Ends) → Fits op s → e ≡ ends op s b → e .answer ≡ 0 → Answered op s e
+  pub on-module : (on : Module) (op : Operation) (s : State) (b : Buffers) (e : Ends) (buffer : List ℕ) → Fits op s → e ≡ ends op s b
+      → 98 ≤ length buffer → CarriedOn on op s e buffer
   pub refused : (op : Operation) (s : State) (b : Buffers) (e : Ends) → e ≡ ends op s b → e .answer ≢ 0 → Refused op s b e
   pub scratch-cleared : (op : Operation) (s : State) (b : Buffers) (e : Ends) → e ≡ ends op s b → Clears op e
       → Cleared (b .scratch) (e .buffers .scratch)
@@ -177,9 +195,9 @@ pub record Chain : Type 1 where
       → e .buffers .scratch ≡ b .scratch
   pub other-map : (op : Operation) (image pool heads : List ℕ) (b : Buffers) (e : Ends) → OtherMap image op
       → e ≡ ends op (state image pool heads) b → Unread op image heads b e
-  pub starts : (words : ℕ) (table : List ℕ) (slots nodes : ℕ) (s : State) (b : Buffers) (e : Ends) → Fits (format words table slots nodes) s
-      → e ≡ ends (format words table slots nodes) s b → e .answer ≡ 0 → Follows (next (format words table slots nodes) e) (emptyTable (isGiven table) slots nodes)
-  pub starts-on : (words : ℕ) (s : State) (b : Buffers) (e : Ends) → Fits (recover words) s
-      → e ≡ ends (recover words) s b → e .answer ≡ 0 → Follows (next (recover words) e) (tableOf (s .image))
-  pub goes-on : (op : Operation) (s : State) (t : Table) (b : Buffers) (e : Ends) → Follows s t → Fits op s → (c : Called op s b e)
-      → GoesOn op s t e (afterCall c)
+  pub starts : {on : Module} (words : ℕ) (table : List ℕ) (slots nodes : ℕ) (s : State) (b : Buffers) (e : Ends) → Fits (format words table slots nodes) s
+      → e ≡ ends (format words table slots nodes) s b → e .answer ≡ 0 → Follows on (next (format words table slots nodes) e) (emptyTable (isGiven table) slots nodes)
+  pub starts-on : {on : Module} (words : ℕ) (s : State) (b : Buffers) (e : Ends) → Fits (recover words) s
+      → e ≡ ends (recover words) s b → e .answer ≡ 0 → Follows on (next (recover words) e) (tableOf (s .image))
+  pub goes-on : {on : Module} (op : Operation) (s : State) (t : Table) (b : Buffers) (e : Ends) → Follows on s t → Fits op s → (c : Called op s b e)
+      → GoesOn on op s t e (afterCall c)

@@ -11,12 +11,14 @@ ghost use lib.ListN.{length};
 ghost use Rattle.book.specs.State.{format, recover, openReel, claim, fill, commit, abandon, remove, retire, tidy};
 ghost use Rattle.book.specs.State.{query, has, list as list-reel, convert};
 ghost use Rattle.book.specs.CarryOut.{carry, carried};
+ghost use Rattle.tree.specs.Memory.{translate as translateWords, translation};
 ghost use Rattle.operations.specs.Ends.{allBuffers, buffers, noBuffers, state, ended, endedLeft, endedPath, ends};
 use claims::claim;
 use images::apply;
 use images::convert;
 use images::format;
 use images::recover;
+use images::translate;
 use lookups::frames;
 use operations::hand_over::answer_number;
 use operations::hand_over::hand_over;
@@ -307,10 +309,26 @@ pub extern "C" fn reelbook_convert(image: &[u64], copy: &mut [u64], scratch: &mu
     answer_number(convert::convert(image, copy, scratch))
 }
 
-// Carries a script out on the image, barriers skipped.
+// Carries a script out on the image, barriers and flushes skipped.
 #[no_mangle]
 pub extern "C" fn reelbook_apply(image: &mut [u64], script: &[u64]) -> u64
     ensures { λ r. ⌜ carried r (now (image .exit)) ≡ carry (now (image .entry)) (now (script .entry)) ⌝ }
 {
     answer_number(apply::apply(image, script))
+}
+
+// Translates a script for a memory module with line flushes, and for an image of so many words.
+#[no_mangle]
+pub extern "C" fn reelbook_translate(
+    script: &[u64],
+    flushed: &mut [u64],
+    words: u64,
+    used: &mut u64,
+) -> u64
+    ensures { λ r. ⌜
+        translation r (now (used .exit)) (now (flushed .exit))
+        ≡ translateWords words (now (script .entry)) (now (flushed .entry))
+        ⌝ }
+{
+    hand_over(translate::translate(script, flushed, words as usize), used)
 }

@@ -5,6 +5,7 @@ use mathlib.Core.Logic.{inl, inr}
 use Prim.Native.Nat.{ℕ, _≤_}
 use native.Mathlib.Omega.{arith}
 use lib.ListN.{length, take, replicate}
+use Rattle.tree.specs.Memory.{plain}
 use Rattle.tree.specs.MemoryComputed.{field, withField, bit, isSet, withBit, withoutBit, byte, withByte, marked, first, stores, segmented, apply}
 use Rattle.tree.specs.Layout.{badImage, geometryOf}
 use Rattle.tree.specs.Lists.{upTo, range, keep, every, hasKey, distinct}
@@ -66,7 +67,7 @@ cut = record {
   recovered = at-once 1 left (computed .recovers);
 }
 
-goes-on : (t : Table) × Follows cutClaim t × (length (inUse t 7) ≡ 64)
+goes-on : (t : Table) × Follows plain cutClaim t × (length (inUse t 7) ≡ 64)
 goes-on =
     let h = full-history .0 in
     let fit = words-fit (0 ∷ 7 ∷ 64 ∷ []) (omega arith) in

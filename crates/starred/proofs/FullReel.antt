@@ -8,6 +8,7 @@ use native.Mathlib.Omega.{arith}
 use lib.ListN.{length}
 use lib.Dec.{ltb}
 use borrow.Author.Tests.{ltb-true}
+use Rattle.tree.specs.Memory.{plain}
 use Rattle.tree.specs.MemoryComputed.{field, withField, bit, isSet, withBit, byte, withByte, marked, first, stores, segmented, apply}
 use Rattle.tree.specs.Layout.{badImage, geometryOf}
 use Rattle.tree.specs.Lists.{upTo, range, keep, every, hasKey}
@@ -79,7 +80,7 @@ step-small op ops s t e =
     let l = ltb-true (length (inUse t' 7)) 65 (b .0) in
     (a .0, omega arith, b .1)
 
-small-run : (ops : List Operation) (w : InWords ops) {s : State} {t : Table} (f : Follows s t) → Small 7 f → staysSmall ops s t ≡ true
+small-run : (ops : List Operation) (w : InWords ops) {s : State} {t : Table} (f : Follows plain s t) → Small 7 f → staysSmall ops s t ≡ true
     → Small 7 (run-follows ops w f)
 unfolding run-follows
 small-run [] w f x e = x
@@ -87,12 +88,12 @@ small-run (op ∷ ops) w {s} {t} f x e =
     let p = step-small op ops s t e in
     small-run ops (w .1) (performed f op (words-fit (arguments op) (w .0))) (p .0, p .1, inr x) (p .2)
 
-pub full-history : (h : Follows (withFrames 3 64) fullTable) × Small 7 h
+pub full-history : (h : Follows plain (withFrames 3 64) fullTable) × Small 7 h
 unfolding withFrames fullTable run tableAfter
 full-history =
     let fresh = format-follows 1 3 (computed .formats) in
     let p = step-small (opens 7) filling (formatted 1 3) (emptyTable false 1 3) (computed .small) in
-    let first : Follows (done (opens 7) (formatted 1 3)) (replied (opens 7) (formatted 1 3) (emptyTable false 1 3) .work .after) =
+    let first : Follows plain (done (opens 7) (formatted 1 3)) (replied (opens 7) (formatted 1 3) (emptyTable false 1 3) .work .after) =
     performed fresh (opens 7) (words-fit (7 ∷ []) (omega arith)) in
     (run-follows filling filling-words first, small-run filling filling-words first (p .0, p .1, inl (answered-open (computed .answered))) (p .2))
 

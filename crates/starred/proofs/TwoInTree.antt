@@ -2,6 +2,7 @@
 use mathlib.Core.Path.{_≡_, refl}
 use mathlib.Core.List.{flatMap}
 use native.Mathlib.Omega.{arith}
+use Rattle.tree.specs.Memory.{plain}
 use Rattle.tree.specs.MemoryComputed.{field, withField, bit, isSet, withBit, byte, withByte, marked, first}
 use Rattle.tree.specs.MemoryComputed.{stores, segmented, apply}
 use Rattle.tree.specs.Layout.{badImage, geometryOf}
@@ -29,7 +30,7 @@ use Rattle.starred.proofs.FullReel.{full-history}
 
 -- ---- the history
 
-history : (t : Table) × Follows twoInTree t
+history : (t : Table) × Follows plain twoInTree t
 unfolding twoInTree
 history = (_, run-follows _ (omega arith) (full-history .0))
 

@@ -7,7 +7,7 @@ use native.Mathlib.Omega.{arith}
 use lib.ListN.{length, getD, drop, set}
 use borrow.Author.Needs.{needs}
 use Rattle.memory.specs.Apply.{isScript, madeStores}
-use Rattle.memory.proofs.Passes.{Made, made-store, made-barrier, made-last}
+use Rattle.memory.proofs.Passes.{Made, made-store, made-skip, made-last}
 use Rattle.memory.proofs.apply.make_stores.Statement.{statement}
 use Rattle.memory.proofs.apply.make_stores.Tie as tie
 
@@ -57,7 +57,7 @@ make-stores-spec =
     (λ c. let l = c .before .before .before .loop in
     ⊎-elim
     (λ w. rw (w .2) (kept (c .before) _ (stored (record { before = c .before; if1 = w .0 }) .1)))
-    (λ w. rw (w .1) (kept (c .before) (l .image) (made-barrier (l .image) _ _ (c .before .before .loop-test .taken) (l .inv .2) (w .0 .left))))
+    (λ w. rw (w .1) (kept (c .before) (l .image) (made-skip (l .image) _ _ (omega arith) (c .before .before .loop-test .taken) (l .inv .2) (w .0 .left))))
     (c .if1 .came))
     (λ c. search needs)
     (λ c. sym (c .before .loop .inv .3 ∙ made-last _ _ _ (c .loop-test .left))))

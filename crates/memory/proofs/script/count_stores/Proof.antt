@@ -5,7 +5,7 @@ use Prim.Native.Nat.{_+_, _-_, _≤_}
 use native.Mathlib.Omega.{arith}
 use lib.ListN.{length, drop}
 use Rattle.memory.specs.Script.{storesIn}
-use Rattle.memory.proofs.Passes.{count-store, count-barrier, count-last}
+use Rattle.memory.proofs.Passes.{count-store, count-skip, count-last}
 use Rattle.memory.proofs.script.count_stores.Statement.{statement}
 use Rattle.memory.proofs.script.count_stores.Tie as tie
 
@@ -35,7 +35,7 @@ count-stores-spec =
       ⊎-elim (λ w. omega (arith, w .1, l .inv .1)) (λ w. omega (arith, w .1, l .inv .1)) (c .if1 .came),
       ⊎-elim
           (λ w. omega (arith, w .1, l .inv .2, count-store (l .at) ws step (w .0 .taken)))
-          (λ w. omega (arith, w .1, l .inv .2, count-barrier (l .at) ws step (w .0 .left)))
+          (λ w. omega (arith, w .1, l .inv .2, count-skip (l .at) ws step (w .0 .left) (c .before .shared-slice-known .given (l .at) .fits)))
           (c .if1 .came),
     ))
     (λ c. let l = c .before .loop in

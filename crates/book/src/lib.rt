@@ -1,5 +1,7 @@
 // The types that the operations' definitions and their code share: a head's record and its state.
 
+#![tactic(auto)]
+
 // How many heads there are, and how many words their records have. `headCount` of specs/Heads.antt is the same number.
 pub const HEADS: usize = 4;
 

@@ -26,6 +26,8 @@
 //                              is lent, the map, one word, must be one of the two, and every head idle (crash.rt)
 //
 // Behind a line that cannot be read, or names a place that is not there, stands = ?.
+#![tactic(auto)]
+
 mod buffers;
 mod calls;
 mod command;

@@ -1,5 +1,7 @@
 // The lines of the bench program: reading them, and collecting them from pieces of input. `field` reads the lines of
 // `cases` too.
+#![tactic(auto)]
+
 pub mod field;
 pub mod input;
 pub mod line;

@@ -1,8 +1,8 @@
 -- What a crash can leave, by the numbers of the entries: the last barrier, and for each word a store since then or none.
 use mathlib.Core.Path.{◌≡◌, refl, sym, ◌∙◌, ap}
-use mathlib.Core.Logic.{inl, inr, ◌↔◌}
+use mathlib.Core.Logic.{◌⊎◌, inl, inr, ◌↔◌}
 use mathlib.Core.Option.{Option, none, some, none-ne-some}
-use mathlib.Core.List.{List, [], ◌∷◌, ◌++◌}
+use mathlib.Core.List.{List, [], ◌∷◌, ◌++◌, Memᴰ}
 use Prim.Native.Nat.{ℕ, zero, suc, ◌≤◌, ◌<◌}
 use native.Mathlib.Omega.{arith}
 use native.Mathlib.Decide.{dec_lt}
@@ -52,10 +52,16 @@ fenced_at es k b l =
 
 -- ---- choices
 
+-- a choice is old, or stored since
+choice_means : (m : List ℕ) (es : List Entry) (b k i : ℕ) {v : ℕ} → Choice m es b k i v
+    → (v ≡ reads (apply m (take b es)) i) ⊎ Memᴰ (store i v) (drop b (take k es))
+choice_means m es b k i old = inl refl
+choice_means m es b k i (new j s) = inr (element_at es b k j s.since s.before s.entry)
+
 -- a choice is what is possible
 pub chosen : (m : List ℕ) (es : List Entry) (k b i v : ℕ) → LastBarrier es k b → Choice m es b k i v ↔ Possible m (take k es) i v
 chosen m es k b i v l = let f = fenced_at es k b l in (
-  λ c. rw (f.up_to, f.after) (elim c [ old ↦ inl refl | new j s ↦ inr (element_at es b k j s.since s.before s.entry) ]),
+  λ c. rw (f.up_to, f.after) (choice_means m es b k i c),
   λ p. elim (rw (f.up_to, f.after) at p) [
     | inl q ↦ rw q old
     | inr x ↦ let r = number_of es b k x in new r.0 (record { since = r.1; before = r.2; entry = r.3 })

@@ -1,5 +1,7 @@
 // Executes vectors of the memory layer and prints what came out, one line each. The file stdout
 // beside src/ has what they should be.
+#![tactic(auto)]
+
 mod print;
 mod vectors;
 

@@ -1,4 +1,6 @@
 // Lines of output: a label, then numbers.
+#![tactic(auto)]
+
 use libc::STDOUT_FILENO;
 
 // A label and a number.

@@ -4,6 +4,8 @@
 // and the head records have changed when the call returns. The driver passes a barrier after Format and after Recover.
 // After power-up it calls Recover, and nothing else until that answers 0. `reelbook_apply` passes no barriers: it is for
 // images that need no crash safety while it runs. No buffer may overlap another. Buffers lent to be read stay.
+#![tactic(auto)]
+
 ghost use Rattle.std.specs.Prelude.{◌≡◌, List, [], ℕ, length};
 ghost use Rattle.book.specs.State.{format, recover, open_reel, claim, fill, commit, abandon, remove, retire, tidy};
 ghost use Rattle.book.specs.State.{query, has, list as list-reel, list_range, floor as floor-of, convert};

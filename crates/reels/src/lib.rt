@@ -1,4 +1,6 @@
 // The operations on a whole reel: Open, List, Range, Floor, Retire and Tidy.
+#![tactic(auto)]
+
 pub mod floor;
 pub mod list;
 pub mod open;

@@ -1,1 +1,3 @@
 // Parts of slices that are lent on: no code, lemmas alone, below the three layers and of none.
+
+#![tactic(auto)]

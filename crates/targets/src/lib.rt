@@ -1,4 +1,6 @@
 // Fill, Commit and Abandon: what becomes of the place that a head has claimed. Each gets that head's state alone.
+#![tactic(auto)]
+
 ghost use Rattle.std.specs.Prelude.{◌≡◌, List, [], ◌∷◌, ℕ, ◌≤◌, ◌<◌, length};
 ghost use Rattle.tree.specs.Memory.{segmented, written, reads};
 ghost use Rattle.tree.specs.Test.{holds};

@@ -3,4 +3,4 @@ use Rattle.memory.proofs.apply.is_entry.Statement.{statement}
 use Rattle.memory.proofs.apply.is_entry.Tie as tie
 
 pub is_entry_spec : {M : Type 1} → statement M
-is_entry_spec = tie.close (tie.spec (λ c. barrier_entry _ _ _ c.if1.true) (λ c. flush_entry _ _ _ c.if2.true) (λ c. store_entry _ _ _ c.before.if1.false c.if2.false))
+is_entry_spec = tie.close (tie.spec (λ c. barrier_entry _ _ _ c.if-index-eq-BARRIER.true) (λ c. flush_entry _ _ _ c.if-index-eq-FLUSH.true) (λ c. store_entry _ _ _ c.before.if-index-eq-BARRIER.false c.if-index-eq-FLUSH.false))

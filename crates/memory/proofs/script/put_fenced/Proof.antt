@@ -17,6 +17,6 @@ put_fenced_spec =
     (λ c κs. search rules)
     (λ c. search rules)
     (λ c. let a = c.before.before.before.before.before.before.before.before.before.args in
-    let one = c.before.before.before.before.before.before.put-store in
-    let two = c.before.before.put-barrier in
-    written_rest (store a.index a.value ∷ []) (barrier ∷ []) 2 a.script.now one.new.0 two.new.0 refl one.ensures two.ensures))
+    let one = c.before.before.before.before.before.before.put_store in
+    let two = c.before.before.put_barrier in
+    written_rest (store a.index a.value ∷ []) (barrier ∷ []) 2 a.script.now one.new.script two.new.script refl one.ensures two.ensures))

@@ -17,8 +17,8 @@ put_fenced_pair_spec =
     (λ c κs. search rules)
     (λ c. search rules)
     (λ c. let a = c.before.before.before.before.before.before.before.before.before.args in
-    let one = c.before.before.before.before.before.before.put-fenced in
-    let two = c.before.before.put-fenced2 in
+    let one = c.before.before.before.before.before.before.put_fenced in
+    let two = c.before.before.put_fenced-2 in
     let first = store a.index a.value ∷ barrier ∷ [] in
     let second = store a.index2 a.value2 ∷ barrier ∷ [] in
-    written_rest first second 4 a.script.now one.new.0 two.new.0 refl one.ensures two.ensures))
+    written_rest first second 4 a.script.now one.new.script two.new.script refl one.ensures two.ensures))

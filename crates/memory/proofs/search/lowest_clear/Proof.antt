@@ -7,5 +7,5 @@ pub lowest_clear_spec : {M : Type 1} → statement M
 lowest_clear_spec =
     tie.close
     (tie.spec
-    (λ c. clear_below _ _ c.before.ranges.w.fits c.before.requires c.if1.true)
+    (λ c. clear_below _ _ c.before.ranges.w.fits c.before.requires c.if-k-n.true)
     (λ c. clear_none _ _ c.before.ranges.w.fits c.before.requires (omega arith)))

@@ -8,7 +8,7 @@ use Rattle.memory.proofs.words.is_set.Tie as tie
 
 returns : tie.Need-returns
 unfolding is_set
-returns c = ap (λ (b : ℕ). eqb b 1) c.bit-of.ensures
+returns c = ap (λ (b : ℕ). eqb b 1) c.bit_of.ensures
 
 pub is_set_spec : {M : Type 1} → statement M
 is_set_spec = tie.close (tie.spec (λ c κs. search rules) returns)

@@ -1,21 +1,22 @@
 -- Either module, for scripts in segments.
 use mathlib.Core.Path.{◌≡◌, refl, sym, ◌∙◌, ap}
 use mathlib.Core.List.Memᴰ
+use mathlib.Core.Logic.{◌↔◌}
 use mathlib.Core.List.{List, [], ◌∷◌, ◌++◌, Memᴰ}
 use Prim.Native.Nat.{ℕ, zero, suc, ◌≤◌, ◌<◌}
 use native.Mathlib.Omega.{arith}
 use lib.ListN.{length, take, set, length-set}
 use Rattle.memory.specs.Script.{Entry, store, barrier, flush, Store, stores, segmented}
 use Rattle.flushes.specs.Translate.{translated, unflushing, as_far}
-use Rattle.flushes.specs.Module.{plain, flushing, Lasting}
-use Rattle.flushes.specs.Laws.{NoFlush, ModuleLaws}
+use Rattle.flushes.specs.Module.{Module, plain, flushing, CrashOn, Lasting, entries_on, ours_on}
+use Rattle.flushes.specs.Laws.{NoFlush, EachLine, ModuleLaws}
 use Rattle.flushes.proofs.Translator.{translator_laws}
 use Rattle.flushes.proofs.Possible.{flush_crash_laws, own_writes_laws, any_store}
 use Rattle.flushes.specs.Crash.{line_of}
 use lib.Seq.{ext_get_or, get_or-set_same, get_or-set_other}
 use native.Mathlib.Decide.{ℕ_discrete}
 use Rattle.memory.specs.Words.{reads}
-use Rattle.memory.specs.Crash.{apply}
+use Rattle.memory.specs.Crash.{apply, CrashImage, passed}
 use Rattle.memory.proofs.Laws.{crash_laws, segment_laws, apply_append, length_apply}
 
 -- among a list's entries that are no flushes, the first k are those of some front of it
@@ -67,28 +68,39 @@ no_line_out before after lines own i q w out l =
     let z : suc u ≡ u = sym (get_or-set_same after i (suc u) 0 (omega (arith, len, w))) ∙ ap (λ m. reads m i) same in
     absurd (omega (arith, z))
 
+-- what is said of either module, by its clauses
+refines_on : (on : Module) (m : List ℕ) (segs : List (List Store)) (k : ℕ) (m' : List ℕ) → CrashOn on m (entries_on on (segmented segs)) k m'
+    → CrashImage m (segmented segs) (ours_on on (segmented segs) k) m'
+refines_on plain m segs k m' c = c
+refines_on flushing m segs k m' c = translator_laws.refines m (segmented segs) k m' (translator_laws.in_segments segs).0 c
+
+passed_on : (on : Module) (segs : List (List Store)) (k : ℕ)
+    → passed (entries_on on (segmented segs)) k ↔ passed (segmented segs) (ours_on on (segmented segs) k)
+passed_on plain segs k = (λ p. p, λ p. p)
+passed_on flushing segs k = translator_laws.passed_alike (segmented segs) k (translator_laws.in_segments segs).0
+
+as_far_on : (on : Module) (segs : List (List Store)) (k : ℕ) → k ≤ length (segmented segs)
+    → (k' : ℕ) × (k' ≤ length (entries_on on (segmented segs))) × (ours_on on (segmented segs) k' ≡ k)
+as_far_on plain segs k h = (k, h, refl)
+as_far_on flushing segs k h = as_far_lem (segmented segs) k (translator_laws.in_segments segs).0 h
+
+possible_on : (on : Module) (m : List ℕ) (segs : List (List Store)) (k : ℕ) (m' : List ℕ) → k ≤ length (entries_on on (segmented segs))
+    → CrashImage m (segmented segs) (ours_on on (segmented segs) k) m' → CrashOn on m (entries_on on (segmented segs)) k m'
+possible_on plain m segs k m' h c = c
+possible_on flushing m segs k m' h c = translator_laws.as_possible m (segmented segs) k m' (translator_laws.in_segments segs).0 h c
+
+lasting_on : (on : Module) (before after lines : List ℕ) → EachLine before lines → Lasting on before after lines
+lasting_on plain before after lines cover =
+    record { lasts = λ own q m c. (crash_laws.all_done before (stores own) m).0 c ∙ own_barrier before own ∙ q }
+lasting_on flushing before after lines cover = record { lasts = λ own q m c. own_writes_laws.lasting before own lines m cover c ∙ q }
+
 pub module_laws : ModuleLaws
 module_laws = record {
-  refines = λ on m segs k m'. elim on [
-    | plain ↦ λ c. c
-    | flushing ↦ translator_laws.refines m (segmented segs) k m' (translator_laws.in_segments segs).0
-  ];
-  passed_alike = λ on segs k. elim on [
-    | plain ↦ (λ p. p, λ p. p)
-    | flushing ↦ translator_laws.passed_alike (segmented segs) k (translator_laws.in_segments segs).0
-  ];
-  as_far_lem = λ on segs k h. elim on [
-    | plain ↦ (k, h, refl)
-    | flushing ↦ as_far_lem (segmented segs) k (translator_laws.in_segments segs).0 h
-  ];
-  as_possible = λ on m segs k m'. elim on [
-    | plain ↦ λ h c. c
-    | flushing ↦ λ h c. translator_laws.as_possible m (segmented segs) k m' (translator_laws.in_segments segs).0 h c
-  ];
-  each_line_lasts = λ on before after lines cover. elim on [
-    | plain ↦ record { lasts = λ own q m c. (crash_laws.all_done before (stores own) m).0 c ∙ own_barrier before own ∙ q }
-    | flushing ↦ record { lasts = λ own q m c. own_writes_laws.lasting before own lines m cover c ∙ q }
-  ];
+  refines = refines_on;
+  passed_alike = passed_on;
+  as_far_lem = as_far_on;
+  as_possible = possible_on;
+  each_line_lasts = lasting_on;
   left_out = no_line_out;
   lost_whole = λ m segs k h. flush_crash_laws.untranslated m (segmented segs) k (translator_laws.in_segments segs).0 h;
 }

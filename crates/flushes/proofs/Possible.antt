@@ -136,9 +136,15 @@ parts es k line b f =
 abbrev Possible : List ℕ → List Entry → ℕ → ℕ → Type 0
 Possible m t i v = (v ≡ reads (apply m (flushed (line_of i) (fenced t))) i) ⊎ Memᴰ (store i v) (unflushed (line_of i) (fenced t) ++ unfenced t)
 
+-- a choice is old, or stored since
+choice_means : (m : List ℕ) (es : List Entry) (b k i : ℕ) {v : ℕ} → Choice m es b k i v
+    → (v ≡ reads (apply m (take b es)) i) ⊎ Memᴰ (store i v) (drop b (take k es))
+choice_means m es b k i old = inl refl
+choice_means m es b k i (new j s) = inr (element_at es b k j s.since s.before s.entry)
+
 chosen : (m : List ℕ) (es : List Entry) (k b i v : ℕ) → LastFlush es k (line_of i) b → Choice m es b k i v ↔ Possible m (take k es) i v
 chosen m es k b i v l = let f = parts es k (line_of i) b l in (
-  λ c. rw (f.up_to, f.after) (elim c [ old ↦ inl refl | new j s ↦ inr (element_at es b k j s.since s.before s.entry) ]),
+  λ c. rw (f.up_to, f.after) (choice_means m es b k i c),
   λ p. elim (rw (f.up_to, f.after) at p) [
     | inl q ↦ rw q old
     | inr x ↦ let r = number_of es b k x in new r.0 (record { since = r.1; before = r.2; entry = r.3 })

@@ -7,8 +7,8 @@ pub ends_fenced_spec : {M : Type 1} → statement M
 ends_fenced_spec =
     tie.close
     (tie.spec
-    (λ c. ends_empty _ c.if1.true)
+    (λ c. ends_empty _ c.if-n-eq0.true)
     (λ c. search rules)
     (λ c. search rules)
     (λ c. search rules)
-    (λ c. ends_last _ c.before.before.requires c.before.if1.false))
+    (λ c. ends_last _ c.before.before.requires c.before.if-n-eq0.false))

@@ -9,7 +9,7 @@ put_new_spec =
     tie.close
     (tie.spec
     (λ c κs. search rules)
-    (λ c. new_none _ _ _ (sym c.before.holds-line.ensures ∙ c.if1.true))
+    (λ c. new_none _ _ _ (sym c.before.holds_line.ensures ∙ c.if-holds_line.true))
     (λ c κs. search rules)
     (λ c. search rules)
-    (λ c. new_one _ _ _ _ (sym c.before.before.before.before.before.holds-line.ensures ∙ c.before.before.before.before.if1.false) c.before.before.put-flush.ensures))
+    (λ c. new_one _ _ _ _ (sym c.before.before.before.before.before.holds_line.ensures ∙ c.before.before.before.before.if-holds_line.false) c.before.before.put_flush.ensures))

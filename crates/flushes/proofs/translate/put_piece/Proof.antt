@@ -7,8 +7,8 @@ use Rattle.flushes.proofs.translate.put_piece.Statement.{statement}
 use Rattle.flushes.proofs.translate.put_piece.Tie as tie
 
 -- the flushes leave room for the barrier
-few : (c : tie.After-put-flushes) → c.put-flushes.result ≤ length c.before.before.before.before.before.args.segment.now
-few c = omega (arith, c.put-flushes.ensures.0, flushes_few c.before.before.before.before.before.args.segment.now)
+few : (c : tie.After-put_flushes-used) → c.put_flushes-used.result ≤ length c.before.before.before.before.before.args.segment.now
+few c = omega (arith, c.put_flushes-used.ensures.0, flushes_few c.before.before.before.before.before.args.segment.now)
 
 pub put_piece_spec : {M : Type 1} → statement M
 put_piece_spec =
@@ -23,7 +23,7 @@ put_piece_spec =
     (λ c. search (rules, few c.before.before.before.before.before.before))
     (λ c. search rules)
     (λ c. let b = c.before.before.before.before.before.before in
-    piece_barrier _ _ _ _ _ _ _ b.before.before.if1.true b.put-flushes.ensures.0 b.put-flushes.ensures.1 c.before.before.put-barrier.ensures)
+    piece_barrier _ _ _ _ _ _ _ b.before.before.if-index-eq-BARRIER.true b.put_flushes-used.ensures.0 b.put_flushes-used.ensures.1 c.before.before.put_barrier.ensures)
     (λ c κs. search rules)
     (λ c. search rules)
-    (λ c. piece_store _ _ _ _ _ c.before.before.before.before.if1.false c.before.before.put-store.ensures))
+    (λ c. piece_store _ _ _ _ _ c.before.before.before.before.if-index-eq-BARRIER.false c.before.before.put_store.ensures))

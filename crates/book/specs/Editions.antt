@@ -1,5 +1,5 @@
 -- The edition, word 0 of the image, and with it the header through histories: statements alone, over any state. The rule of
--- an edition is `ruleFor` of `tree`; that of an image, which may have its own table, is `ruleOf` (OwnTables).
+-- an edition is `rule_for` of `tree`; that of an image, which may have its own table, is `rule_of` (OwnTables).
 use Rattle.std.specs.Prelude.{◌≡◌, List, ℕ, ◌<◌}
 use Rattle.tree.specs.Memory.{Memory, Module}
 use Rattle.tree.specs.Layout.{edition_at}

@@ -2,7 +2,7 @@
 
 #![tactic(auto)]
 
-// How many heads there are, and how many words their records have. `headCount` of specs/Heads.antt is the same number.
+// How many heads there are, and how many words their records have. `head_count` of specs/Heads.antt is the same number.
 pub const HEADS: usize = 4;
 
 pub const HEAD_WORDS: usize = 5 * HEADS;

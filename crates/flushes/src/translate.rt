@@ -3,7 +3,7 @@
 ghost use Rattle.std.specs.Prelude.{◌≡◌, true, [], ◌∷◌, ◌+◌, ◌*◌, ◌%◌, ◌≤◌, length};
 ghost use Rattle.memory.specs.Script.{flush, written};
 ghost use Rattle.flushes.specs.Translate.{any_flush, ends_fenced, translated};
-ghost use Rattle.flushes.specs.Translate.{translate as translateWords, translation};
+ghost use Rattle.flushes.specs.Translate.{translate as translate_words, translation};
 ghost use Rattle.flushes.specs.Passes.{elem, line_words, new_flush, line_flushes, piece_of};
 ghost use Rattle.flushes.specs.Passes.{entries_in, segment_start, Ours, answer_of, count_of};
 
@@ -146,7 +146,7 @@ fn ends_fenced(script: &[u64]) -> bool
 // writes nothing.
 pub fn translate(script: &[u64], buffer: &mut [u64], n: usize) -> Translated
     ensures { translation (answer_of result) (count_of result) buffer.new
-        ≡ translateWords n script.now buffer.old }
+        ≡ translate_words n script.now buffer.old }
 {
     if buffer.len() < 98 {
         return Translated::Refused;

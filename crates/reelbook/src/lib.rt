@@ -10,7 +10,7 @@ ghost use Rattle.std.specs.Prelude.{◌≡◌, List, [], ℕ, length};
 ghost use Rattle.book.specs.State.{format, recover, open_reel, claim, fill, commit, abandon, remove, retire, tidy};
 ghost use Rattle.book.specs.State.{query, has, list as list-reel, list_range, floor as floor-of, convert};
 ghost use Rattle.book.specs.CarryOut.{carry, carried};
-ghost use Rattle.tree.specs.Memory.{translate as translateWords, translation};
+ghost use Rattle.tree.specs.Memory.{translate as translate_words, translation};
 ghost use Rattle.operations.specs.Ends.{all_buffers, buffers, no_buffers, state, ended, ended_left, ended_path, ended_floor, ends};
 
 use claims::claim;
@@ -331,7 +331,7 @@ pub extern "C" fn reelbook_translate(
     used: &mut u64,
 ) -> u64
     ensures { translation result used.new flushed.new
-        ≡ translateWords words script.now flushed.old }
+        ≡ translate_words words script.now flushed.old }
 {
     hand_over(translate::translate(script, flushed, words as usize), used)
 }

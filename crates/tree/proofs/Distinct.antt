@@ -17,7 +17,7 @@ use Rattle.tree.proofs.Lists.{index_of, within, together, in_range_lem, kept}
 module _ {A : Type 0} (key : A → ℕ) where
   -- ---- the test
 
-  pub has_key_lem : {xs : List A} {y : A} → Memᴰ y xs → has_key key (key y) xs ≡ true
+  pub has_key_lem : {y : A} {xs : List A} → Memᴰ y xs → has_key key (key y) xs ≡ true
   unfolding has_key
   has_key_lem {y = y} (Memᴰ.head {x} {xs} q) = or_left (has_key key (key y) xs) (eq-eqb (key x) (key y) (ap key (sym q)))
   has_key_lem {y = y} (Memᴰ.tail {x} {xs} z) = or_right (eqb (key x) (key y)) (has_key_lem z)
@@ -50,6 +50,7 @@ module _ {A : Type 0} {key : A → ℕ} where
   -- ---- its elements
 
   pub same_element : {xs : List A} {x y : A} → Distinct key xs → Memᴰ x xs → Memᴰ y xs → key x ≡ key y → x ≡ y
+  same_element empty x y e = elim x [ ]
   same_element (onto a d) (Memᴰ.head q) (Memᴰ.head q') e = q ∙ sym q'
   same_element (onto a d) (Memᴰ.head q) (Memᴰ.tail z) e = absurd (a _ z (sym e ∙ ap key q))
   same_element (onto a d) (Memᴰ.tail z) (Memᴰ.head q) e = absurd (a _ z (e ∙ ap key q))
@@ -89,13 +90,13 @@ module _ {A : Type 0} {key : A → ℕ} where
 
 module _ {A B : Type 0} {key : B → ℕ} (f : A → List B) where
   -- each of the lists is distinct
-  pub distinct_part : {ss : List A} {s : A} → Distinct key (flat_map f ss) → Memᴰ s ss → Distinct key (f s)
+  pub distinct_part : {s : A} {ss : List A} → Distinct key (flat_map f ss) → Memᴰ s ss → Distinct key (f s)
   unfolding flat_map
   distinct_part d (Memᴰ.head {x} {xs} q) = subst (λ t. Distinct key (f t)) (sym q) (distinct_left (f x) (flat_map f xs) d)
   distinct_part d (Memᴰ.tail {x} {xs} y) = distinct_part (distinct_right (f x) d) y
 
   -- and no key is in two of them
-  pub same_part : {ss : List A} {s s' : A} {b b' : B} → Distinct key (flat_map f ss) → Memᴰ s ss → Memᴰ b (f s) → Memᴰ s' ss → Memᴰ b' (f s')
+  pub same_part : {s : A} {ss : List A} {s' : A} {b b' : B} → Distinct key (flat_map f ss) → Memᴰ s ss → Memᴰ b (f s) → Memᴰ s' ss → Memᴰ b' (f s')
       → key b ≡ key b' → s ≡ s'
   unfolding flat_map
   same_part d (Memᴰ.head q) x (Memᴰ.head q') x' e = q ∙ sym q'

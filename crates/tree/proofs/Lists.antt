@@ -22,7 +22,7 @@ module _ {A : Type 0} (d : A) where
   at_index (x ∷ xs) zero h = Memᴰ.head refl
   at_index (x ∷ xs) (suc i) h = Memᴰ.tail (at_index xs i (omega arith))
 
-  pub index_of : {xs : List A} {x : A} → Memᴰ x xs → (i : ℕ) × (i < length xs) × (get_or xs i d ≡ x)
+  pub index_of : {x : A} {xs : List A} → Memᴰ x xs → (i : ℕ) × (i < length xs) × (get_or xs i d ≡ x)
   index_of (Memᴰ.head {x} {xs} q) = (0, omega arith, sym q)
   index_of (Memᴰ.tail {x} {xs} y) = let a = index_of y in (suc a.0, omega (arith, a.1), a.2)
 
@@ -42,7 +42,7 @@ module _ {A B : Type 0} (f : A → List B) where
       go (inl y) ih = record { from = a; member = Memᴰ.head refl; inside = y }
       go (inr y) ih = let t = ih y in record { from = t.from; member = Memᴰ.tail t.member; inside = t.inside }
 
-  pub together : {xs : List A} {a : A} {b : B} → Memᴰ a xs → Memᴰ b (f a) → Memᴰ b (flat_map f xs)
+  pub together : {a : A} {xs : List A} {b : B} → Memᴰ a xs → Memᴰ b (f a) → Memᴰ b (flat_map f xs)
   unfolding flat_map
   together {b = b} (Memᴰ.head {x} {xs} q) y = Memᴰ.append_left (flat_map f xs) (subst (λ t. Memᴰ b (f t)) q y)
   together (Memᴰ.tail {x} x') y = Memᴰ.append_right (f x) (together x' y)
@@ -110,7 +110,7 @@ module _ {A : Type 0} where
       go (inl e) ih = elim (Memᴰ.cases_cons (rw e at x)) [ inl q ↦ (Memᴰ.head q, ap p q ∙ e) | inr z ↦ let t = ih z in (Memᴰ.tail t.0, t.1) ]
       go (inr e) ih = let t = ih (rw e at x) in (Memᴰ.tail t.0, t.1)
 
-  pub keeps : (p : A → Bool) {xs : List A} {a : A} → Memᴰ a xs → p a ≡ true → Memᴰ a (keep p xs)
+  pub keeps : (p : A → Bool) {a : A} {xs : List A} → Memᴰ a xs → p a ≡ true → Memᴰ a (keep p xs)
   unfolding keep
   keeps p (Memᴰ.head {x} {xs} q) e = rw (sym (ap p q) ∙ e) (Memᴰ.head q)
   keeps p (Memᴰ.tail {x} {xs} y) e = elim (test (p x)) [ inl t ↦ rw t (Memᴰ.tail (keeps p y e)) | inr t ↦ rw t (keeps p y e) ]
@@ -147,7 +147,7 @@ keep_first p q from (suc n) t l h below e f other = elim (ℕ_discrete from t) [
 -- ---- a test of every element
 
 module _ {A : Type 0} where
-  pub every_at : (p : A → Bool) {xs : List A} {a : A} → every p xs ≡ true → Memᴰ a xs → p a ≡ true
+  pub every_at : (p : A → Bool) {a : A} {xs : List A} → every p xs ≡ true → Memᴰ a xs → p a ≡ true
   unfolding every
   every_at p h (Memᴰ.head {x} {xs} q) = ap p q ∙ (and-true (p x) (every p xs) h).0
   every_at p h (Memᴰ.tail {x} {xs} y) = every_at p (and-true (p x) (every p xs) h).1 y

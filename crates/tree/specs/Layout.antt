@@ -36,8 +36,8 @@ abbrev pub nodes_at : ℕ
 nodes_at = 2
 
 -- in edition 2 word 3 is 1 where the image has a table of its own, and 0 where it has none
-abbrev pub field_own : ℕ
-field_own = 3
+abbrev pub own_at : ℕ
+own_at = 3
 
 -- the first of the words that have that table, 8 to 39
 abbrev pub table_at : ℕ

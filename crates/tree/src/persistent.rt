@@ -2,7 +2,7 @@
 // translating. Passed on, as specs/Memory.antt passes the definitions on.
 ghost use Rattle.std.specs.Prelude.{◌≡◌, cond};
 ghost use Rattle.memory.specs.Apply.{outcome, carry_out};
-ghost use Rattle.flushes.specs.Translate.{translate as translateWords, translation};
+ghost use Rattle.flushes.specs.Translate.{translate as translate_words, translation};
 
 use flushes::translate::{Translated, translate};
 use memory::apply::{Applied, apply};
@@ -24,7 +24,7 @@ pub fn carry_out(image: &mut [u64], script: &[u64]) -> bool
 // words that took; or refuses it (3) and writes nothing: was it translated?
 pub fn translate_script(script: &[u64], flushed: &mut [u64], n: usize, used: &mut u64) -> bool
     ensures { translation (cond result 0 3) (cond result used.new 0) flushed.new
-        ≡ translateWords n script.now flushed.old }
+        ≡ translate_words n script.now flushed.old }
 {
     match translate(script, flushed, n) {
         Translated::Done(count) => {

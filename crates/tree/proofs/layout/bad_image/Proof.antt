@@ -8,27 +8,27 @@ use borrow.Author.Rules.{rules}
 use Rattle.tree.proofs.layout.bad_image.Statement.{statement}
 use Rattle.tree.proofs.layout.bad_image.Tie as tie
 
-returns : tie.Need-returns
+returns : tie.Need-returns-then-g-lt1
 unfolding bad_image
-returns c = let a = c.before.before.args in sym (said (bad_image a.words a.g) (inl (inl c.if1.true)))
+returns c = let a = c.before.before.args in sym (said (bad_image a.words a.g) (inl (inl c.if-g-lt1.true)))
 
-returns_2 : tie.Need-returns-2
+returns_2 : tie.Need-returns-then-g-gt4096
 unfolding bad_image
-returns_2 c = let a = c.before.before.before.before.args in sym (said (bad_image a.words a.g) (inl (inr (inl c.if2.true))))
+returns_2 c = let a = c.before.before.before.before.args in sym (said (bad_image a.words a.g) (inl (inr (inl c.if-g-gt4096.true))))
 
-returns_3 : tie.Need-returns-3
+returns_3 : tie.Need-returns-then-g-lt1-2
 unfolding bad_image
-returns_3 c = let a = c.before.before.before.before.before.before.args in sym (said (bad_image a.words a.g) (inl (inr (inr (inl c.if3.true)))))
+returns_3 c = let a = c.before.before.before.before.before.before.args in sym (said (bad_image a.words a.g) (inl (inr (inr (inl c.if-g-lt1-2.true)))))
 
-returns_4 : tie.Need-returns-4
+returns_4 : tie.Need-returns-then-g-gt65536
 unfolding bad_image
-returns_4 c = let a = c.before.before.before.before.before.before.before.before.args in sym (said (bad_image a.words a.g) (inl (inr (inr (inr c.if4.true)))))
+returns_4 c = let a = c.before.before.before.before.before.before.before.before.args in sym (said (bad_image a.words a.g) (inl (inr (inr (inr c.if-g-gt65536.true)))))
 
-returns_5 : tie.Need-returns-5
+returns_5 : tie.Need-returns
 unfolding bad_image
 returns_5 c =
     let g = c.before.before.before.before.before.before.before.before.before.args.g in
-    rw (le-ltb g.slots 1 (omega arith), le-ltb 4096 g.slots (omega arith), le-ltb g.nodes 1 (omega arith), le-ltb 65536 g.nodes (omega arith), c.image_words_lem.ensures)
+    rw (le-ltb g.slots 1 (omega arith), le-ltb 4096 g.slots (omega arith), le-ltb g.nodes 1 (omega arith), le-ltb 65536 g.nodes (omega arith), c.image_words.ensures)
 
 pub bad_image_spec : {M : Type 1} → statement M
 bad_image_spec =

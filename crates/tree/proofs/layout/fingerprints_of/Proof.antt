@@ -16,4 +16,4 @@ fingerprints_of_spec =
     (λ c. search rules)
     (λ c.
     let a = c.before.before.before.args in
-    ap (λ at. reads a.image.now (at + 8 + a.j)) c.before.Node-at.ensures))
+    ap (λ at. reads a.image.now (at + 8 + a.j)) c.before.node_at.ensures))

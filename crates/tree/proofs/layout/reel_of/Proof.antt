@@ -11,4 +11,4 @@ reel_of_spec =
     (λ c κs. search rules)
     (λ c. search rules)
     (λ c. search rules)
-    (λ c. ap (reads c.before.before.before.args.image.now) c.before.reel-at.ensures))
+    (λ c. ap (reads c.before.before.before.args.image.now) c.before.reel_at.ensures))

@@ -11,4 +11,4 @@ root_of_spec =
     (λ c κs. search rules)
     (λ c. search rules)
     (λ c. search rules)
-    (λ c. ap (reads c.before.before.before.args.image.now) c.before.root-at.ensures))
+    (λ c. ap (reads c.before.before.before.args.image.now) c.before.root_at.ensures))

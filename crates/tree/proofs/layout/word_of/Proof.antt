@@ -15,4 +15,4 @@ word_of_spec =
     (λ c. search rules)
     (λ c.
     let a = c.before.before.before.args in
-    ap (λ at. reads a.image.now (at + a.offset)) c.before.Node-at.ensures))
+    ap (λ at. reads a.image.now (at + a.offset)) c.before.node_at.ensures))

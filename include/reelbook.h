@@ -27,9 +27,9 @@
 /* The version of this header, and of the library beside which it is installed. With another major number the interface is
  * another: a program has to be compiled anew, and the shared object has another name. */
 #define REELBOOK_VERSION_MAJOR 5
-#define REELBOOK_VERSION_MINOR 3
+#define REELBOOK_VERSION_MINOR 2
 #define REELBOOK_VERSION_PATCH 0
-#define REELBOOK_VERSION "5.3.0"
+#define REELBOOK_VERSION "5.2.0"
 
 #ifdef __cplusplus
 extern "C" {
@@ -38,24 +38,23 @@ extern "C" {
 /* Answers; reelbook_answer_text has each in words. There is no 15. */
 enum {
     REELBOOK_DONE = 0,
-    REELBOOK_BAD_IMAGE = 1,        /* the image's length, its number of slots or of nodes, or the copy's length is wrong */
-    REELBOOK_BAD_EDITION = 2,      /* the image's edition is neither 1 nor 2 */
-    REELBOOK_BAD_BUFFER = 3,       /* map or scratch map is not of the map's length; a script is too short, or is none */
-    REELBOOK_MALFORMED = 4,        /* the tree or the image's own table is malformed, or a head's node or place is outside */
-    REELBOOK_NO_REEL = 5,          /* no such reel */
-    REELBOOK_ALREADY_OPEN = 6,     /* the reel is open already */
-    REELBOOK_NO_SLOT = 7,          /* no empty reel slot */
-    REELBOOK_NO_RUN = 8,           /* not enough adjacent free nodes */
-    REELBOOK_FRAME_HELD = 9,       /* the reel holds the frame already */
-    REELBOOK_NOT_HELD = 10,        /* the reel does not hold the frame */
-    REELBOOK_BAD_HEAD = 11,        /* no such head */
-    REELBOOK_WRONG_STATE = 12,     /* the head is in another state than the operation needs */
-    REELBOOK_BUSY = 13,            /* another head has this frame or is at this node (Claim); a claim is open in this reel (else) */
-    REELBOOK_LIST_SHORT = 14,      /* the list has too little room */
-    REELBOOK_BAD_TABLE = 16,       /* the given table is not 256 bytes long, or lacks some byte */
-    REELBOOK_HAS_OWN_TABLE = 17,   /* the image has its own table, which can't go to edition 1 */
-    REELBOOK_NO_EMPTY_GROUP = 18,  /* no node of the reel has children that are all empty */
-    REELBOOK_FIRST_ABOVE_LAST = 19 /* the first number of a range is above its last */
+    REELBOOK_BAD_IMAGE = 1,      /* the image's length, its number of slots or of nodes, or the copy's length is wrong */
+    REELBOOK_BAD_EDITION = 2,    /* the image's edition is neither 1 nor 2 */
+    REELBOOK_BAD_BUFFER = 3,     /* map or scratch map is not of the map's length; a script is too short, or is none */
+    REELBOOK_MALFORMED = 4,      /* the tree or the image's own table is malformed, or a head's node or place is outside */
+    REELBOOK_NO_REEL = 5,        /* no such reel */
+    REELBOOK_ALREADY_OPEN = 6,   /* the reel is open already */
+    REELBOOK_NO_SLOT = 7,        /* no empty reel slot */
+    REELBOOK_NO_RUN = 8,         /* not enough adjacent free nodes */
+    REELBOOK_FRAME_HELD = 9,     /* the reel holds the frame already */
+    REELBOOK_NOT_HELD = 10,      /* the reel does not hold the frame */
+    REELBOOK_BAD_HEAD = 11,      /* no such head */
+    REELBOOK_WRONG_STATE = 12,   /* the head is in another state than the operation needs */
+    REELBOOK_BUSY = 13,          /* another head has this frame or is at this node (Claim); a claim is open in this reel (else) */
+    REELBOOK_LIST_SHORT = 14,    /* the list has too little room */
+    REELBOOK_BAD_TABLE = 16,     /* the given table is not 256 bytes long, or lacks some byte */
+    REELBOOK_HAS_OWN_TABLE = 17, /* the image has its own table, which can't go to edition 1 */
+    REELBOOK_NO_EMPTY_GROUP = 18 /* no node of the reel has children that are all empty */
 };
 
 /* Scripts. No operation writes more words than the minimum that it asks for. */
@@ -140,7 +139,6 @@ static inline const char *reelbook_answer_text(uint64_t answer) {
     case REELBOOK_BAD_TABLE: return "the given table is not 256 bytes with each byte once";
     case REELBOOK_HAS_OWN_TABLE: return "an own table can't go to edition 1";
     case REELBOOK_NO_EMPTY_GROUP: return "no empty group of nodes";
-    case REELBOOK_FIRST_ABOVE_LAST: return "the first number is above the last";
     default: return "unknown answer";
     }
 }
@@ -217,19 +215,6 @@ uint64_t reelbook_has(const uint64_t *image, size_t image_words, uint64_t reel, 
  * 14; nothing is written to the list then. The scratch map is all 0 after any end but 1, 2 or 3. */
 uint64_t reelbook_list(const uint64_t *image, size_t image_words, uint64_t *scratch, size_t scratch_words, uint64_t *list,
                        size_t list_words, uint64_t reel, uint64_t *count);
-
-/* Writes a reel's frames from first to last, both included, to the list's start, rising and each once, and their number to *count.
- * A frame is held where List lists it. Refusals 1, 2, 3, 4 for the table, 19 if first is above last, 5, 4, 14; nothing is written
- * to the list then, and nothing ever behind the frames. The scratch map is all 0 after any end but 1, 2 or 3. Libraries before 5.3
- * have neither this function nor reelbook_floor. */
-uint64_t reelbook_range(const uint64_t *image, size_t image_words, uint64_t *scratch, size_t scratch_words, uint64_t *list,
-                        size_t list_words, uint64_t reel, uint64_t first, uint64_t last, uint64_t *count);
-
-/* Finds a reel's greatest frame at or below a number: 1 to *yes and the frame to *floor, or 0 to both where there is none, which is
- * an ordinary answer; only *yes tells frame 0 from none. Refusals 1, 2, 3, 4 for the table, 5, 4. The scratch map is all 0 after
- * any end but 1, 2 or 3. */
-uint64_t reelbook_floor(const uint64_t *image, size_t image_words, uint64_t *scratch, size_t scratch_words, uint64_t reel,
-                        uint64_t frame, uint64_t *yes, uint64_t *floor);
 
 /* Takes a reel out with all its frames; its nodes become free in the map. Refusals 1, 2, 3, 4 for the table, 5, 13 while a
  * claim is open in the reel, 4. The scratch map is all 0 after any end but 1, 2 or 3. */

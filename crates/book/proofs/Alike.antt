@@ -12,9 +12,7 @@ use lib.Dec.{eqb, ltb, leb}
 use borrow.Author.Tests.{ltb-false, leb-true, le-leb, lt-leb, not-false}
 use Rattle.tree.specs.Memory.{reads, is_some, Fit}
 use Rattle.tree.specs.Test.{Test, lt, le, ne, is, ◌or◌, holds}
-use Rattle.tree.specs.Lists.{Distinct, empty}
-use Rattle.sorting.specs.Sorted.{stretch, floor_in}
-use Rattle.sorting.proofs.Stretches.{stretch_laws, floor_laws}
+use Rattle.tree.specs.Lists.{empty}
 use Rattle.tree.specs.declared.layout.Geometry.{Geometry}
 use Rattle.tree.specs.Layout.{bad_image, image_words, bad_edition}
 use Rattle.tree.specs.Fingerprint.{bad_own}
@@ -26,7 +24,7 @@ use Rattle.tree.proofs.Tests.{says}
 use Rattle.book.specs.Heads.{head_count, head_at, target_of}
 use Rattle.book.specs.Refusals.{Refusal, ◌gives◌, refusal}
 use Rattle.tree.specs.Room.{room_on, at_level31}
-use Rattle.book.specs.State.{State, Operation, format, recover, open_reel, claim, fill, commit, abandon, remove, retire, tidy, query, has, list, list_range, floor, convert, arguments, nothing_handed, or_zero, Work, memory, shape}
+use Rattle.book.specs.State.{State, Operation, format, recover, open_reel, claim, fill, commit, abandon, remove, retire, tidy, query, has, list, convert, arguments, Work, memory, shape}
 use Rattle.book.specs.Checks.{first_three, bad_map, bad_script, not_sound, outside, no_path, no_run_for, refusals}
 use Rattle.book.specs.Perform.{one_if, granted, perform}
 use Rattle.book.specs.Table as table
@@ -34,7 +32,7 @@ use Rattle.book.specs.Table.{Table, TableHead, TableWork, Fed, nothing, fed, is_
 use Rattle.book.specs.Agrees.{EachOnce, Agrees}
 use Rattle.book.specs.Ways.{SlotHas, Lacks, LacksGroup, no_group, InTheWay}
 use Rattle.book.specs.Histories.{replied}
-use Rattle.book.specs.Demands.{GivesOne, by_format, by_convert, InOrder, Alike}
+use Rattle.book.specs.Demands.{GivesOne, by_format, by_convert, Alike}
 use Rattle.book.proofs.Refusals.{Named, Passes, decided, denies, denied, passes}
 use Rattle.book.proofs.Performed.{answer_is, work_granted, work_refused, reply_is, reply_granted, reply_refused}
 use Rattle.book.proofs.InTheWay.{busy_remove, busy_retire, busy_tidy, taken_in_the_way, conflict_claim, lacking}
@@ -46,14 +44,6 @@ use Rattle.book.proofs.Reading.{same_frames, same_length, same_held, all_filled,
 
 image_words_lem : {s : State} {t : Table} → Agrees s t → length s.image ≡ image_words (table.geometry t)
 image_words_lem a = a.shows.words ∙ ap image_words (same_geometry a.shows)
-
--- ---- what depends on a reel's numbers alone
-
-same_stretch : (a b : ℕ) {xs ys : List ℕ} → EachOnce xs ys → stretch a b xs ≡ stretch a b ys
-same_stretch a b {xs} {ys} e = stretch_laws.alike a b xs ys (record { members = e.same })
-
-same_floor : (f : ℕ) {xs ys : List ℕ} → EachOnce xs ys → floor_in f xs ≡ floor_in f ys
-same_floor f {xs} {ys} e = floor_laws.alike f xs ys (record { members = e.same })
 
 -- ---- the operations' lists
 
@@ -188,16 +178,6 @@ module _ {s : State} {t : Table} (a : Agrees s t) where
       reel_there reel (λ r.
       skip (ap not (tree_right a.shows r.open_slot))
       (same 14 refl (ap (ltb room) (same_length (same_frames a.shows r))) (λ e. end (λ w. elim w [ ]) (λ w. elim w [ ]) (λ w. elim w [ ])))))
-  paired (query (list_range scratch room reel a' b)) x =
-      borrowed (ap (λ g. holds (bad_map g scratch)) (same_geometry a.shows)) (λ e.
-      same 19 refl refl (λ e.
-      reel_there reel (λ r.
-      skip (ap not (tree_right a.shows r.open_slot))
-      (same 14 refl (ap (λ fs. ltb room (length fs)) (same_stretch a' b (same_frames a.shows r))) (λ e. end (λ w. elim w [ ]) (λ w. elim w [ ]) (λ w. elim w [ ]))))))
-  paired (query (floor scratch reel f)) x =
-      borrowed (ap (λ g. holds (bad_map g scratch)) (same_geometry a.shows)) (λ e.
-      reel_there reel (λ r.
-      skip (ap not (tree_right a.shows r.open_slot)) (end (λ w. elim w [ ]) (λ w. elim w [ ]) (λ w. elim w [ ]))))
   paired (query (convert scratch copy)) x =
       let n = length s.image in
       let longer : holds (bad_image n (shape s) or ne copy n) ≡ not (eqb copy (image_words (table.geometry t))) =
@@ -224,65 +204,43 @@ module _ {s : State} {t : Table} (a : Agrees s t) where
 table_passes : (op : Operation) (x : Fed) (t : Table) → Named (table_refusals op x t) → (reply op x t).answer ≡ 0 → Passes (table_refusals op x t)
 table_passes op x t named h = passes (table_refusals op x t) named (sym (reply_is op x t) ∙ h)
 
-each_once : {xs : List ℕ} → Distinct (λ x. x) xs → EachOnce xs xs
-each_once d = record { once = d; once_too = d; same = λ x. (λ y. y, λ y. y) }
-
 none_once : EachOnce [] []
-none_once = each_once empty
+none_once = record { once = empty; once_too = empty; same = λ x. (λ y. y, λ y. y) }
 
 -- two works hand back the same
-record SameWork (op : Operation) (w : Work) (u : TableWork) : Type 0 where
+record SameWork (w : Work) (u : TableWork) : Type 0 where
   value : w.handed.value ≡ u.handed.value
-  found : w.handed.found ≡ u.handed.found
   listing : EachOnce w.handed.listing u.handed.listing
-  in_order : InOrder op → w.handed.listing ≡ u.handed.listing
 
--- nothing
-nothing_handed_lem : {op : Operation} {w : Work} {u : TableWork} → w.handed ≡ nothing_handed → u.handed ≡ nothing_handed → SameWork op w u
-nothing_handed_lem {w = w} {u = u} e q = let z = e ∙ sym q in record {
-  value = ap (λ x. x.value) z;
-  found = ap (λ x. x.found) z;
-  listing = rw (e, q) none_once;
-  in_order = λ o. ap (λ x. x.listing) z;
-}
-
-granted_alike : {s : State} {t : Table} → Agrees s t → (op : Operation) (x : Fed) → (reply op x t).answer ≡ 0 → SameWork op (granted op s) (table_work op t)
+granted_alike : {s : State} {t : Table} → Agrees s t → (op : Operation) (x : Fed) → (reply op x t).answer ≡ 0 → SameWork (granted op s) (table_work op t)
 unfolding granted table_work table_refusals
-granted_alike a (format words table slots nodes) x h = nothing_handed_lem refl refl
-granted_alike a (recover words) x h = nothing_handed_lem refl refl
-granted_alike a (open_reel words script reel) x h = nothing_handed_lem refl refl
-granted_alike a (claim words script h' reel f) x h = nothing_handed_lem refl refl
-granted_alike a (fill script h') x h = nothing_handed_lem refl refl
-granted_alike a (commit script h') x h = nothing_handed_lem refl refl
-granted_alike a (abandon script h') x h = nothing_handed_lem refl refl
-granted_alike a (remove script reel f) x h = nothing_handed_lem refl refl
-granted_alike a (retire words scratch script reel) x h = nothing_handed_lem refl refl
-granted_alike a (tidy words scratch script reel) x h = nothing_handed_lem refl refl
-granted_alike a (query (convert scratch copy)) x h = record { value = refl; found = refl; listing = none_once; in_order = λ w. elim w [ ] }
+granted_alike a (format words table slots nodes) x h = record { value = refl; listing = none_once }
+granted_alike a (recover words) x h = record { value = refl; listing = none_once }
+granted_alike a (open_reel words script reel) x h = record { value = refl; listing = none_once }
+granted_alike a (claim words script h' reel f) x h = record { value = refl; listing = none_once }
+granted_alike a (fill script h') x h = record { value = refl; listing = none_once }
+granted_alike a (commit script h') x h = record { value = refl; listing = none_once }
+granted_alike a (abandon script h') x h = record { value = refl; listing = none_once }
+granted_alike a (remove script reel f) x h = record { value = refl; listing = none_once }
+granted_alike a (retire words scratch script reel) x h = record { value = refl; listing = none_once }
+granted_alike a (tidy words scratch script reel) x h = record { value = refl; listing = none_once }
+granted_alike a (query (convert scratch copy)) x h = record { value = refl; listing = none_once }
 granted_alike {s} {t} a (query (has reel f)) x h =
     let r = slot_has a.shows reel (not-false _ (table_passes (query (has reel f)) x t (omega arith) h).0) in
-    record { value = ap one_if (same_held a.shows r f); found = refl; listing = none_once; in_order = λ w. elim w [ ] }
+    record { value = ap one_if (same_held a.shows r f); listing = none_once }
 granted_alike {s} {t} a (query (list scratch room reel)) x h =
     let r = slot_has a.shows reel (not-false _ (table_passes (query (list scratch room reel)) x t (omega arith) h).1.0) in
-    record { value = same_length (same_frames a.shows r); found = refl; listing = same_frames a.shows r; in_order = λ w. elim w [ ] }
-granted_alike {s} {t} a (query (list_range scratch room reel a' b)) x h =
-    let r = slot_has a.shows reel (not-false _ (table_passes (query (list_range scratch room reel a' b)) x t (omega arith) h).1.1.0) in
-    let q = same_stretch a' b (same_frames a.shows r) in
-    record { value = ap length q; found = refl; listing = rw q (each_once (stretch_laws.once a' b (table.frames_of t reel))); in_order = λ w. q }
-granted_alike {s} {t} a (query (floor scratch reel f)) x h =
-    let r = slot_has a.shows reel (not-false _ (table_passes (query (floor scratch reel f)) x t (omega arith) h).1.0) in
-    let q = same_floor f (same_frames a.shows r) in
-    record { value = ap (λ o. one_if (is_some o)) q; found = ap or_zero q; listing = none_once; in_order = λ w. elim w [ ] }
+    record { value = same_length (same_frames a.shows r); listing = same_frames a.shows r }
 
 work_alike : {s : State} {t : Table} → Agrees s t → (op : Operation) → (perform op s).answer ≡ (replied op s t).answer
-    → SameWork op (perform op s).work (replied op s t).work
+    → SameWork (perform op s).work (replied op s t).work
 work_alike {s} {t} a op e = elim (ℕ_discrete (perform op s).answer 0) [
   | yes z ↦
       let y : (replied op s t).answer ≡ 0 = sym e ∙ z in
       rw (work_granted op s z, reply_granted op (fed (perform op s).answer) t y) (granted_alike a op (fed (perform op s).answer) y)
   | no z ↦
       rw (work_refused op s z, reply_refused op (fed (perform op s).answer) t (λ q. z (e ∙ q)))
-      (nothing_handed_lem refl refl)
+      (record { value = refl; listing = none_once })
 ]
 
 -- ---- the table's numbers: 2 and 4 never, 1 only of Format, and of Convert for the second image's length
@@ -332,8 +290,6 @@ table_answers {t = t} a (abandon script h) x = never_these (table_refusals (aban
 table_answers {t = t} a (remove script reel f) x = never_these (table_refusals (remove script reel f) x t) (omega arith)
 table_answers {t = t} a (query (has reel f)) x = never_these (table_refusals (query (has reel f)) x t) (omega arith)
 table_answers {t = t} a (query (list scratch room reel)) x = never_these (table_refusals (query (list scratch room reel)) x t) (omega arith)
-table_answers {t = t} a (query (list_range scratch room reel a' b)) x = never_these (table_refusals (query (list_range scratch room reel a' b)) x t) (omega arith)
-table_answers {t = t} a (query (floor scratch reel f)) x = never_these (table_refusals (query (floor scratch reel f)) x t) (omega arith)
 table_answers {t = t} a (retire words scratch script reel) x = never_these (table_refusals (retire words scratch script reel) x t) (omega arith)
 table_answers {t = t} a (tidy words scratch script reel) x = never_these (table_refusals (tidy words scratch script reel) x t) (omega arith)
 
@@ -349,9 +305,7 @@ alike {s} {t} a op fit =
     record {
       answer = q;
       value = w.value;
-      found = w.found;
       listing = w.listing;
-      in_order = w.in_order;
       not_edition = λ z. n.not_edition (sym e ∙ z);
       not_malformed = λ z. n.not_malformed (sym e ∙ z);
       one_from = λ z. n.one_from (sym e ∙ z);

@@ -27,7 +27,7 @@ use Rattle.tree.proofs.Laws.{slot_laws, sound_laws, node_laws, convert_laws, con
 use Rattle.tree.specs.Recovery.{recover_stores}
 use Rattle.tree.proofs.Memory.{crash_none, segment_laws}
 use Rattle.book.specs.Refusals.{Refusal, ◌gives◌, refusal}
-use Rattle.book.specs.State.{State, Operation, format, recover, open_reel, claim, fill, commit, abandon, remove, retire, tidy, query, Query, has, list, list_range, floor, convert, memory, shape}
+use Rattle.book.specs.State.{State, Operation, format, recover, open_reel, claim, fill, commit, abandon, remove, retire, tidy, query, Query, has, list, convert, memory, shape}
 use Rattle.book.specs.Checks.{bad_map, not_sound, query_refusals, refusals}
 use Rattle.book.specs.Perform.{granted, leaves, perform}
 use Rattle.book.specs.Table.{Table}
@@ -335,8 +335,6 @@ none_copied (retire words scratch script reel) s ws h e = none_some e
 none_copied (tidy words scratch script reel) s ws h e = none_some e
 none_copied (query (has reel f)) s ws h e = none_some e
 none_copied (query (list scratch room reel)) s ws h e = none_some e
-none_copied (query (list_range scratch room reel a b)) s ws h e = none_some e
-none_copied (query (floor scratch reel f)) s ws h e = none_some e
 none_copied (query (convert scratch copy)) s ws h e = written h (copied scratch copy s h ∙ e)
 
 alone : (op : Operation) (s : State) (ws : List ℕ) → (perform op s).work.handed.copy ≡ some ws → Writes op s ws

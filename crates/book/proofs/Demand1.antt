@@ -8,10 +8,10 @@ use lib.Dec.{eqb, ltb}
 use borrow.Author.Tests.{eqb-true, eqb-false, ltb-true, eq-eqb, lt-ltb}
 use Rattle.tree.specs.Test.{is}
 use Rattle.book.specs.Refusals.{Refusal, refusal, ◌gives◌}
-use Rattle.book.specs.State.{State, Operation, format, recover, open_reel, claim, fill, commit, abandon, remove, retire, tidy, query, has, list, list_range, floor, convert}
+use Rattle.book.specs.State.{State, Operation, format, recover, open_reel, claim, fill, commit, abandon, remove, retire, tidy, query, has, list, convert}
 use Rattle.book.specs.Checks.{refusals}
 use Rattle.book.specs.Perform.{leaves, past_checks, clears, perform}
-use Rattle.book.specs.Demands.{numbers, ClearsMap, unsound, BorrowsScratch, by_list, by_range, by_floor, by_retire, by_tidy, by_convert, Leaves, as_before, map_cleared, Refused, Demand1}
+use Rattle.book.specs.Demands.{numbers, ClearsMap, unsound, BorrowsScratch, by_list, by_retire, by_tidy, by_convert, Leaves, as_before, map_cleared, Refused, Demand1}
 use Rattle.tree.proofs.Laws.{pool_laws}
 use Rattle.tree.proofs.Cases.{test, true_not_false, or-true, or_left, or_right}
 use Rattle.book.proofs.Refusals.{refusal_listed}
@@ -36,8 +36,6 @@ numbered (abandon script h) s = refusal_listed _
 numbered (remove script reel f) s = refusal_listed _
 numbered (query (has reel f)) s = without_third _ _ _ _
 numbered (query (list scratch room reel)) s = refusal_listed _
-numbered (query (list_range scratch room reel a b)) s = refusal_listed _
-numbered (query (floor scratch reel f)) s = refusal_listed _
 numbered (query (convert scratch copy)) s = refusal_listed _
 numbered (retire words scratch script reel) s = refusal_listed _
 numbered (tidy words scratch script reel) s = refusal_listed _
@@ -82,8 +80,6 @@ clears_scratch (fill script h) n = (λ h. absurd (true_not_false h refl), λ x. 
 clears_scratch (commit script h) n = (λ h. absurd (true_not_false h refl), λ x. elim x.0 [ ])
 clears_scratch (abandon script h) n = (λ h. absurd (true_not_false h refl), λ x. elim x.0 [ ])
 clears_scratch (remove script reel f) n = (λ h. absurd (true_not_false h refl), λ x. elim x.0 [ ])
-clears_scratch (query (list_range scratch room reel a b)) n = (λ h. (by_range, (past_checks_lem n).0 h), λ x. (past_checks_lem n).1 x.1)
-clears_scratch (query (floor scratch reel f)) n = (λ h. (by_floor, (past_checks_lem n).0 h), λ x. (past_checks_lem n).1 x.1)
 clears_scratch (query (convert scratch copy)) n = (λ h. (by_convert, (past_checks_lem n).0 h), λ x. (past_checks_lem n).1 x.1)
 clears_scratch (query (has reel f)) n = (λ h. absurd (true_not_false h refl), λ x. elim x.0 [ ])
 

@@ -13,7 +13,6 @@ pub use Rattle.book.proofs.Scripts.{scripts}
 pub use Rattle.book.proofs.CarryOut.{carry_laws}
 pub use Rattle.book.proofs.Editions.{editions}
 pub use Rattle.book.proofs.Flushing.{flushing_laws}
-pub use Rattle.book.proofs.Ranges.{ranges}
 use Rattle.book.proofs.Assembly.{Scripted, opens, claims, fills, commits, abandons, removes, asks, retires, tidies, Steps, demand2_from, demand3_from}
 use Rattle.book.proofs.StepOpen.{step_open}
 use Rattle.book.proofs.StepClaim.{step_claim}

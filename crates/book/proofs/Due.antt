@@ -7,7 +7,7 @@ use Prim.Native.Nat.{ℕ}
 use native.Mathlib.Omega.{arith}
 use lib.ListN.{length}
 use Rattle.tree.specs.Memory.{reads}
-use Rattle.tree.specs.Test.{Test, lt, le, ne, is, ◌or◌, holds, Says}
+use Rattle.tree.specs.Test.{Test, le, ne, is, ◌or◌, holds, Says}
 use Rattle.tree.specs.declared.layout.Geometry.{Geometry}
 use Rattle.tree.specs.Layout.{bad_image, bad_edition}
 use Rattle.tree.specs.Fingerprint.{bad_own}
@@ -18,7 +18,7 @@ use Rattle.tree.proofs.Cases.{test, true_not_false}
 use Rattle.tree.proofs.Laws.{table_laws}
 use Rattle.book.specs.Heads.{head_count, busy}
 use Rattle.book.specs.Refusals.{Refusal, ◌gives◌, refusal}
-use Rattle.book.specs.State.{State, Operation, format, recover, open_reel, claim, fill, commit, abandon, remove, retire, tidy, query, has, list, list_range, floor, convert, memory, shape}
+use Rattle.book.specs.State.{State, Operation, format, recover, open_reel, claim, fill, commit, abandon, remove, retire, tidy, query, has, list, convert, memory, shape}
 use Rattle.book.specs.Checks.{bad_map, bad_script, first_three, refusals}
 use Rattle.book.specs.Ways.{ReelAt}
 use Rattle.tree.specs.Groups.{NoGroup}
@@ -27,7 +27,7 @@ use Rattle.book.proofs.Refusals.{decided}
 use Rattle.book.proofs.Performed.{answer_is}
 use Rattle.book.proofs.DueWords.{plain, turned, either, unsound_test, own_test, given_test, image_test, idle_test, claimed_test, filled_test, outside_test, busy_test, open_test, absent_test, present, of_reel, full_test, run_says}
 use Rattle.book.proofs.DuePaths.{path_test, path_there, room_test, find_test, conflict_test, children_test}
-use Rattle.book.proofs.DueTrees.{tree_test, tree_sound, group_test, frames_test, between_test}
+use Rattle.book.proofs.DueTrees.{tree_test, tree_sound, group_test, frames_test}
 
 -- ---- a list of tests and a list of conditions
 
@@ -145,14 +145,6 @@ module _ (s : State) where
       next (tree_of r) (λ b.
       let o = r.has.open_slot in
       next (of_reel s reel _ r (frames_test s o room (tree_sound s o (past_reel r b)))) (λ c. end))))
-  decides (query (list_range scratch room reel a b)) =
-      after_3 {t = bad_map (shape s) scratch} (
-      next (plain (lt b a)) (λ d.
-      reel_there reel (λ r.
-      next (tree_of r) (λ c.
-      next (of_reel s reel _ r (between_test s r.has.open_slot room a b)) (λ e. end)))))
-  decides (query (floor scratch reel f)) =
-      after_3 {t = bad_map (shape s) scratch} (reel_there reel (λ r. next (tree_of r) (λ b. end)))
   decides (query (convert scratch copy)) =
       next (either (image_test (length s.image) (shape s)) (plain (ne copy (length s.image)))) (λ a.
       next (plain (bad_edition (memory s))) (λ b.

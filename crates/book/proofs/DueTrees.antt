@@ -5,7 +5,7 @@ use mathlib.Core.Logic.{◌⊎◌, inl, inr, ◌↔◌, ◌≢◌}
 use mathlib.Core.List.Memᴰ
 use mathlib.Core.List.{List, [], ◌∷◌, map, flat_map, map-map, List-discrete}
 use mathlib.Core.List.{Memᴰ}
-use Prim.Native.Nat.{ℕ, ◌≤◌, ◌<◌}
+use Prim.Native.Nat.{ℕ, ◌<◌}
 use native.Mathlib.Omega.{arith}
 use native.Mathlib.Decide.{ℕ_discrete}
 use lib.ListN.{length, length-map}
@@ -17,7 +17,7 @@ use Rattle.tree.specs.Layout.{frame_at}
 use Rattle.tree.specs.Fingerprint.{rule_of}
 use Rattle.tree.specs.Node.{well_formed, held, frame}
 use Rattle.tree.specs.Slots.{Filled}
-use Rattle.tree.specs.Reach.{Reaches, Holds, FrameOf}
+use Rattle.tree.specs.Reach.{Reaches, Holds}
 use Rattle.tree.specs.Sound.{SoundTree}
 use Rattle.tree.specs.declared.path.Spot.{Spot}
 use Rattle.tree.specs.Lookup.{spot}
@@ -29,10 +29,8 @@ use Rattle.tree.proofs.Lists.{within, together, map_flat_map, flat_map_cong}
 use Rattle.tree.proofs.Distinct.{distinct_by, distinct_keep, distinct_made, distinct_map, distinct_parts, distinct_up_to}
 use Rattle.tree.proofs.Subtree.{held_places_lem}
 use Rattle.tree.proofs.Laws.{tree_laws, group_laws, sound_laws}
-use Rattle.sorting.specs.Sorted.{stretch}
-use Rattle.sorting.proofs.Stretches.{stretch_laws}
 use Rattle.book.specs.State.{State, memory, shape}
-use Rattle.book.specs.Due.{BadTree, malformed, twice, MoreFrames, MoreBetween}
+use Rattle.book.specs.Due.{BadTree, malformed, twice, MoreFrames}
 use Rattle.book.proofs.Refusals.{decided}
 use Rattle.book.proofs.Reading.{no_longer}
 
@@ -189,30 +187,3 @@ module _ (s : State) {slot : ℕ} (open_slot : Filled (shape s) (memory s) slot)
           let t = Memᴰ.of_map word_of x.places y in
           rw (← t.2) (Memᴰ.map word_of (held_listed (x.each t.0 t.1).1))) in
           omega (arith, many, x.more, length-map x.places word_of, length-map all_places word_of)
-
-  abbrev listed_between : (a b : ℕ) → List ℕ
-  listed_between a b = stretch a b (listing (shape s) (memory s) slot)
-
-  -- the numbers listed of a stretch are the frames of the reel that lie in it
-  pub is_between : (a b x : ℕ) → Memᴰ x (listed_between a b) ↔ (FrameOf (shape s) (memory s) slot x × (a ≤ x) × (x ≤ b))
-  is_between a b x =
-      let t = stretch_laws.members a b (listing (shape s) (memory s) slot) x in
-      let l = (tree_laws open_slot).listed x in
-      (λ m. let y = t.0 m in (l.0 y.0, y.1, y.2), λ y. t.1 (l.1 y.0, y.1, y.2))
-
-  -- 14 in Range
-  pub between_test : (room a b : ℕ) → (holds (lt room (length (listed_between a b))) ≡ true) ↔ MoreBetween s room a b slot
-  between_test room a b = decided (lt room (length (listed_between a b))) (there, back)
-    where
-      there : room < length (listed_between a b) → MoreBetween s room a b slot
-      there l = record {
-        numbers = listed_between a b;
-        once = stretch_laws.once a b (listing (shape s) (memory s) slot);
-        each = λ x m. let t = (is_between a b x).0 m in (t.1, t.2, t.0);
-        more = l;
-      }
-
-      back : MoreBetween s room a b slot → room < length (listed_between a b)
-      back x =
-          let few = no_longer {ys = listed_between a b} x.once (λ i y. let t = x.each i y in (is_between a b i).1 (t.2, t.0, t.1)) in
-          omega (arith, few, x.more)

@@ -68,7 +68,6 @@ pub mod Tidy
 pub mod OwnTables
 pub mod Conversions
 pub mod Flushing
-pub mod Ranges
 pub mod Demands
 pub mod Sample
 pub mod OldBook

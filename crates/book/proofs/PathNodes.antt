@@ -15,7 +15,7 @@ use Rattle.tree.proofs.Cases.{true_not_false, none_some, seen, nothing, just}
 use Rattle.tree.proofs.Reach.{slot_filled}
 use Rattle.tree.proofs.PathNodes.{path_from_nodes}
 use Rattle.tree.proofs.Laws.{child_laws, path_laws}
-use Rattle.book.specs.State.{State, Operation, format, recover, open_reel, claim, fill, commit, abandon, remove, retire, tidy, query, has, list, list_range, floor, convert, arguments, memory, shape}
+use Rattle.book.specs.State.{State, Operation, format, recover, open_reel, claim, fill, commit, abandon, remove, retire, tidy, query, has, list, convert, arguments, memory, shape}
 use Rattle.book.specs.Checks.{refusals}
 use Rattle.book.specs.Perform.{granted, perform}
 use Rattle.book.specs.Table.{Table, is_present, fed, table_refusals, table_work}
@@ -74,8 +74,6 @@ none_told : (op : Operation) (s : State) → (IsHas op → ⊥) → (granted op 
 unfolding granted
 none_told (query (has reel f)) s n = absurd (n is_has)
 none_told (query (list scratch room reel)) s n = refl
-none_told (query (list_range scratch room reel a b)) s n = refl
-none_told (query (floor scratch reel f)) s n = refl
 none_told (query (convert scratch copy)) s n = refl
 none_told (format words table slots nodes) s n = refl
 none_told (recover words) s n = refl

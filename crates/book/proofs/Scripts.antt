@@ -12,7 +12,7 @@ use Rattle.tree.specs.declared.layout.Geometry.{Geometry}
 use Rattle.tree.specs.Layout.{bad_image, slots_at, nodes_at, geometry_of}
 use Rattle.tree.specs.Fingerprint.{rule_of}
 use Rattle.book.specs.Refusals.{refusal}
-use Rattle.book.specs.State.{State, Operation, format, recover, open_reel, claim, fill, commit, abandon, remove, retire, tidy, query, Query, has, list, list_range, floor, convert, arguments, Work}
+use Rattle.book.specs.State.{State, Operation, format, recover, open_reel, claim, fill, commit, abandon, remove, retire, tidy, query, Query, has, list, convert, arguments, Work}
 use Rattle.book.specs.Checks.{query_refusals, refusals}
 use Rattle.book.specs.CarryOut.{carry, carried}
 use Rattle.tree.specs.Recovery.{recover_stores}
@@ -64,8 +64,6 @@ recovered im g =
 query_header : (q : Query) (image : List ℕ) → refusal (query_refusals q image) ≡ 0 → Denies (bad_image (length image) (geometry_of (reads image)))
 query_header (has reel f) image h = first_passed _ _ (omega arith) h
 query_header (list scratch room reel) image h = first_passed _ _ (omega arith) h
-query_header (list_range scratch room reel a b) image h = first_passed _ _ (omega arith) h
-query_header (floor scratch reel f) image h = first_passed _ _ (omega arith) h
 query_header (convert scratch copy) image h = (first_passed _ _ (omega arith) h).0
 
 answered : (op : Operation) (s : State) → Fit s.image → Fit s.heads → Fit (arguments op) → refusal (refusals op s) ≡ 0 → Answered s (granted op s)

@@ -15,7 +15,7 @@ use Rattle.tree.specs.Layout.{map_words, reel_at, geometry_of}
 use Rattle.tree.specs.Slots.{empty_slot}
 use Rattle.tree.specs.Lookup.{free_run}
 use Rattle.tree.proofs.Memory.{segment_laws, crash_laws}
-use Rattle.book.specs.State.{State, Operation, format, recover, open_reel, claim, fill, commit, abandon, remove, retire, tidy, query, has, list, list_range, floor, convert, arguments}
+use Rattle.book.specs.State.{State, Operation, format, recover, open_reel, claim, fill, commit, abandon, remove, retire, tidy, query, has, list, convert, arguments}
 use Rattle.book.specs.Perform.{new_node, open_script, granted, perform}
 use Rattle.book.specs.Table.{Table, all_idle}
 use Rattle.book.specs.Agrees.{Agrees}
@@ -183,8 +183,6 @@ numbers_fit (retire map scratch script reel) w = words_fit (reel ∷ []) (w, tt)
 numbers_fit (tidy map scratch script reel) w = words_fit (reel ∷ []) (w, tt)
 numbers_fit (query (has reel f)) w = words_fit (reel ∷ f ∷ []) (w.0, (w.1, tt))
 numbers_fit (query (list scratch room reel)) w = words_fit (reel ∷ []) (w, tt)
-numbers_fit (query (list_range scratch room reel a b)) w = words_fit (reel ∷ a ∷ b ∷ []) (w.0, (w.1, (w.2, tt)))
-numbers_fit (query (floor scratch reel f)) w = words_fit (reel ∷ f ∷ []) (w.0, (w.1, tt))
 numbers_fit (query (convert scratch copy)) w = words_fit [] tt
 
 -- all of them, where every history agrees with its table through every crash

@@ -15,12 +15,11 @@ use Rattle.tree.specs.Lookup.{spot, path_from, find, free_run}
 use Rattle.tree.specs.Subtree.{listing}
 use Rattle.tree.specs.Check.{is_sound_tree, is_sound}
 use Rattle.tree.specs.Groups.{first_group}
-use Rattle.sorting.specs.Sorted.{stretch}
 use Rattle.book.specs.declared.Target.{Target}
 use Rattle.book.specs.Heads.{head_count, head_at, is_idle, is_claimed, is_filled, target_of, any_head, busy, conflicts}
 use Rattle.book.specs.Refusals.{Refusal, ◌gives◌}
 use Rattle.tree.specs.Room.{room_on, needs, at_level31}
-use Rattle.book.specs.State.{State, Operation, format, recover, open_reel, claim, fill, commit, abandon, remove, retire, tidy, query, Query, has, list, list_range, floor, convert}
+use Rattle.book.specs.State.{State, Operation, format, recover, open_reel, claim, fill, commit, abandon, remove, retire, tidy, query, Query, has, list, convert}
 
 -- 3: a map, or a scratch map, is not of the map's length; a script is too short
 abbrev pub bad_map : Geometry → ℕ → Test
@@ -86,22 +85,6 @@ query_refusals (list scratch room reel) image =
     ∷ (is (not (is_sound_tree g m slot)) gives 4)
     ∷ (lt room (length (listing g m slot)) gives 14)
     ∷ [])
--- 19: the first number is above the last
-query_refusals (list_range scratch room reel a b) image =
-    let m = reads image in
-    let g = geometry_of m in
-    let slot = slot_of g m reel in
-    checked image (bad_map g scratch)
-    ((lt b a gives 19)
-    ∷ (le g.slots slot gives 5)
-    ∷ (is (not (is_sound_tree g m slot)) gives 4)
-    ∷ (lt room (length (stretch a b (listing g m slot))) gives 14)
-    ∷ [])
-query_refusals (floor scratch reel f) image =
-    let m = reads image in
-    let g = geometry_of m in
-    let slot = slot_of g m reel in
-    checked image (bad_map g scratch) ((le g.slots slot gives 5) ∷ (is (not (is_sound_tree g m slot)) gives 4) ∷ [])
 -- the second image must be as long as the image; 17: an own table can't go to edition 1
 query_refusals (convert scratch copy) image =
     let m = reads image in

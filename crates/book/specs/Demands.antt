@@ -12,7 +12,7 @@ use Rattle.book.specs.declared.Target.{Target}
 use Rattle.book.specs.declared.HeadState.TheVariants.{Claimed, Filled}
 use Rattle.book.specs.Heads.{head_count, head_at}
 use Rattle.book.specs.Refusals.{comes_to}
-use Rattle.book.specs.State.{State, Operation, format, recover, open_reel, claim, fill, commit, abandon, remove, retire, tidy, query, Query, has, list, list_range, floor, convert, arguments, nothing_handed}
+use Rattle.book.specs.State.{State, Operation, format, recover, open_reel, claim, fill, commit, abandon, remove, retire, tidy, query, Query, has, list, convert, arguments, nothing_handed}
 use Rattle.book.specs.Perform.{perform}
 use Rattle.book.specs.CarryOut.{carry, carried}
 use Rattle.book.specs.Table.{Table, nothing, table_refusals, all_idle}
@@ -27,8 +27,6 @@ use Rattle.book.specs.Histories.{done, replied, Interrupted, Attempts, Recovered
 abbrev pub query_numbers : Query → List ℕ
 query_numbers (has reel f) = 1 ∷ 2 ∷ 4 ∷ 5 ∷ 4 ∷ []
 query_numbers (list scratch room reel) = 1 ∷ 2 ∷ 3 ∷ 4 ∷ 5 ∷ 4 ∷ 14 ∷ []
-query_numbers (list_range scratch room reel a b) = 1 ∷ 2 ∷ 3 ∷ 4 ∷ 19 ∷ 5 ∷ 4 ∷ 14 ∷ []
-query_numbers (floor scratch reel f) = 1 ∷ 2 ∷ 3 ∷ 4 ∷ 5 ∷ 4 ∷ []
 query_numbers (convert scratch copy) = 1 ∷ 2 ∷ 3 ∷ 4 ∷ 17 ∷ []
 
 abbrev pub numbers : Operation → List ℕ
@@ -48,11 +46,9 @@ numbers (query q) = query_numbers q
 pub data ClearsMap : Operation → ℕ → Type 0 where
   unsound : {words : ℕ} → ClearsMap (recover words) 4
 
--- List, Range, Floor, Retire, Tidy and Convert borrow a scratch map
+-- List, Retire, Tidy and Convert borrow a scratch map
 pub data BorrowsScratch : Operation → Type 0 where
   by_list : {scratch room reel : ℕ} → BorrowsScratch (query (list scratch room reel))
-  by_range : {scratch room reel a b : ℕ} → BorrowsScratch (query (list_range scratch room reel a b))
-  by_floor : {scratch reel f : ℕ} → BorrowsScratch (query (floor scratch reel f))
   by_retire : {words scratch script reel : ℕ} → BorrowsScratch (retire words scratch script reel)
   by_tidy : {words scratch script reel : ℕ} → BorrowsScratch (tidy words scratch script reel)
   by_convert : {scratch copy : ℕ} → BorrowsScratch (query (convert scratch copy))
@@ -83,16 +79,10 @@ pub data GivesOne (s : State) : Operation → Type 0 where
   by_format : {words slots nodes : ℕ} {table : List ℕ} → GivesOne s (format words table slots nodes)
   by_convert : {scratch copy : ℕ} → copy ≢ length s.image → GivesOne s (query (convert scratch copy))
 
--- the orders whose list is rising: book and table hand back the same list, order included
-pub data InOrder : Operation → Type 0 where
-  by_range : {scratch room reel a b : ℕ} → InOrder (query (list_range scratch room reel a b))
-
 pub record Alike (op : Operation) (s : State) (t : Table) : Type 0 where
   pub answer : (perform op s).answer ≡ (replied op s t).answer
   pub value : (perform op s).work.handed.value ≡ (replied op s t).work.handed.value
-  pub found : (perform op s).work.handed.found ≡ (replied op s t).work.handed.found
   pub listing : EachOnce (perform op s).work.handed.listing (replied op s t).work.handed.listing
-  pub in_order : InOrder op → (perform op s).work.handed.listing ≡ (replied op s t).work.handed.listing
   pub not_edition : (perform op s).answer ≢ 2
   pub not_malformed : (perform op s).answer ≢ 4
   pub one_from : (perform op s).answer ≡ 1 → GivesOne s op

@@ -9,13 +9,13 @@ use Rattle.tree.specs.Layout.{edition_at, root_at, frame_at}
 use Rattle.tree.specs.Path.{fanout}
 use Rattle.tree.specs.Fingerprint.{rule_of, LacksByte, BadOwn}
 use Rattle.tree.specs.Node.{well_formed, frame}
-use Rattle.tree.specs.Reach.{Reaches, Holds, FrameOf}
+use Rattle.tree.specs.Reach.{Reaches, Holds}
 use Rattle.tree.specs.Sound.{SoundImage}
 use Rattle.tree.specs.Groups.{NoGroup}
 use Rattle.tree.specs.declared.path.Spot.{Spot}
 use Rattle.tree.specs.Laws.{Malformed, FreeRun}
 use Rattle.book.specs.Heads.{head_count}
-use Rattle.book.specs.State.{State, Operation, format, recover, open_reel, claim, fill, commit, abandon, remove, retire, tidy, query, has, list, list_range, floor, convert, memory, shape}
+use Rattle.book.specs.State.{State, Operation, format, recover, open_reel, claim, fill, commit, abandon, remove, retire, tidy, query, has, list, convert, memory, shape}
 use Rattle.book.specs.Perform.{perform}
 use Rattle.book.specs.Ways.{FullPath, SlotHas, ReelAt, Matches, Uses}
 
@@ -156,13 +156,6 @@ module _ (s : State) where
         → (w : List ℕ) × Holds (shape s) (memory s) slot w t.node t.place (frame (shape s) (memory s) t.node t.place)
     pub more : room < length places
 
-  -- 14 in Range: more numbers from the first to the last are held in the nodes reached than a list has room for, each counted once
-  pub record MoreBetween (room a b slot : ℕ) : Type 0 where
-    pub numbers : List ℕ
-    pub once : Distinct (λ x. x) numbers
-    pub each : (x : ℕ) → Memᴰ x numbers → (a ≤ x) × (x ≤ b) × FrameOf (shape s) (memory s) slot x
-    pub more : room < length numbers
-
   -- 8: no run of k adjacent nodes is free in the map
   abbrev pub NoRun : ℕ → Type 0
   NoRun k = (n : ℕ) → FreeRun (shape s) (reads s.pool) k n → ⊥
@@ -242,16 +235,6 @@ due (query (list scratch room reel)) s =
     ∷ (4 when OfReel s reel (BadTree s))
     ∷ (14 when OfReel s reel (MoreFrames s room))
     ∷ [])
--- 19: first above last
-due (query (list_range scratch room reel a b)) s =
-    checked s (WrongMap (shape s) scratch)
-    ((19 when (b < a))
-    ∷ (5 when NoReel s reel)
-    ∷ (4 when OfReel s reel (BadTree s))
-    ∷ (14 when OfReel s reel (MoreBetween s room a b))
-    ∷ [])
-due (query (floor scratch reel f)) s =
-    checked s (WrongMap (shape s) scratch) ((5 when NoReel s reel) ∷ (4 when OfReel s reel (BadTree s)) ∷ [])
 -- 17: the image is of edition 2 and word 3 is 1, so that it has an own table
 due (query (convert scratch copy)) s =
     (1 when (WrongImage s ⊎ (copy ≢ length s.image)))

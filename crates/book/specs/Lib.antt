@@ -13,7 +13,6 @@ pub mod OwnTables
 pub mod Conversions
 pub mod Ways
 pub mod Demands
-pub mod Ranges
 pub mod Growth
 pub mod Stores
 pub mod PathNodes

@@ -13,7 +13,6 @@ use Rattle.tree.specs.declared.path.Spot.{Spot}
 use Rattle.tree.specs.Lookup.{spot, path_from, find, free_run}
 use Rattle.tree.specs.Subtree.{Visit, visit, tree, all_trees, nodes_of, listing}
 use Rattle.tree.specs.Groups.{first_group}
-use Rattle.sorting.specs.Sorted.{stretch, floor_in}
 use Rattle.tree.specs.Recovery.{recover_stores}
 use Rattle.tree.specs.Convert.{converted_image}
 use Rattle.tree.specs.Pool.{mark, mark_all, unmark_all, clear_map, map_of}
@@ -25,7 +24,7 @@ use Rattle.book.specs.Refusals.{refusal}
 use Rattle.tree.specs.declared.path.Room.{Room}
 use Rattle.tree.specs.declared.path.Room.TheVariants.{Clear, ScaleUp, BranchOut}
 use Rattle.tree.specs.Room.{room_on, needs, places_left}
-use Rattle.book.specs.State.{State, Operation, format, recover, open_reel, claim, fill, commit, abandon, remove, retire, tidy, query, Query, has, list, list_range, floor, convert, Handed, handing, handing_frames, handing_found, handing_copy, nothing_handed, Work, leaving, Outcome}
+use Rattle.book.specs.State.{State, Operation, format, recover, open_reel, claim, fill, commit, abandon, remove, retire, tidy, query, Query, has, list, convert, Handed, handing, handing_frames, handing_copy, nothing_handed, Work, leaving, Outcome}
 use Rattle.book.specs.Checks.{place_in, target_in, refusals}
 
 -- ---- what is written
@@ -149,14 +148,6 @@ queried (list scratch room reel) image =
     let m = reads image in
     let g = geometry_of m in
     handing_frames (listing g m (slot_of g m reel))
-queried (list_range scratch room reel a b) image =
-    let m = reads image in
-    let g = geometry_of m in
-    handing_frames (stretch a b (listing g m (slot_of g m reel)))
-queried (floor scratch reel f) image =
-    let m = reads image in
-    let g = geometry_of m in
-    handing_found (floor_in f (listing g m (slot_of g m reel)))
 queried (convert scratch copy) image = handing_copy (converted_image image)
 
 unfoldable pub granted : Operation → State → Work
@@ -225,11 +216,9 @@ past_checks n = eqb n 0 || ltb 3 n
 abbrev pub borrows_scratch : Query → Bool
 borrows_scratch (has reel f) = false
 borrows_scratch (list scratch room reel) = true
-borrows_scratch (list_range scratch room reel a b) = true
-borrows_scratch (floor scratch reel f) = true
 borrows_scratch (convert scratch copy) = true
 
--- the scratch map of List, Range, Floor, Retire, Tidy and Convert is all 0 after any end but 1, 2 or 3
+-- List's, Retire's, Tidy's and Convert's scratch map is all 0 after any end but 1, 2 or 3
 unfoldable pub clears : Operation → ℕ → Bool
 clears (query q) n = borrows_scratch q && past_checks n
 clears (retire words scratch script reel) n = past_checks n

@@ -1,7 +1,7 @@
 -- What the driver keeps, the operations with their arguments, and what an operation answers.
 use Rattle.std.specs.Prelude.{Bool, cond, List, [], ◌∷◌, ℕ, length}
 use Rattle.std.proofs.Math.Option.{Option, none, some}
-use Rattle.tree.specs.Memory.{Memory, reads, Store, is_some}
+use Rattle.tree.specs.Memory.{Memory, reads, Store}
 use Rattle.tree.specs.declared.layout.Geometry.{Geometry}
 use Rattle.tree.specs.Layout.{geometry_of}
 use Rattle.tree.specs.Pool.{clear_map}
@@ -23,8 +23,6 @@ shape s = geometry_of (memory s)
 pub data Query : Type 0 where
   has : (reel frame : ℕ) → Query
   list : (scratch room : ℕ) (reel : ℕ) → Query
-  list_range : (scratch room : ℕ) (reel first last : ℕ) → Query
-  floor : (scratch : ℕ) (reel frame : ℕ) → Query
   convert : (scratch copy : ℕ) → Query
 
 -- the paper's orders, each with the lengths of the buffers that it borrows beside image and heads, and its numbers; Format with
@@ -46,8 +44,6 @@ pub data Operation : Type 0 where
 abbrev pub query_arguments : Query → List ℕ
 query_arguments (has reel frame) = reel ∷ frame ∷ []
 query_arguments (list scratch room reel) = reel ∷ []
-query_arguments (list_range scratch room reel a b) = reel ∷ a ∷ b ∷ []
-query_arguments (floor scratch reel f) = reel ∷ f ∷ []
 query_arguments (convert scratch copy) = []
 
 abbrev pub arguments : Operation → List ℕ
@@ -63,34 +59,25 @@ arguments (retire map scratch script reel) = reel ∷ []
 arguments (tidy map scratch script reel) = reel ∷ []
 arguments (query q) = query_arguments q
 
--- what an operation hands back beside its script: the yes or no of Has and Floor, the count of List and Range; the number of nodes
--- on the path of Has's frame; the frame that Floor found; the frames of List and Range; the words that Convert writes to the second image. The plain table knows neither paths nor copies: 0 and none there
+-- what an operation hands back beside its script: Has's yes or no, List's count; the number of nodes on the path of Has's frame;
+-- List's frames; the words that Convert writes to the second image. The plain table knows neither paths nor copies: 0 and none there
 pub record Handed : Type 0 where
   pub value : ℕ
   pub path_nodes : ℕ
-  pub found : ℕ
   pub listing : List ℕ
   pub copy : Option (List ℕ)
 
 abbrev pub nothing_handed : Handed
-nothing_handed = record { value = 0; path_nodes = 0; found = 0; listing = []; copy = none }
+nothing_handed = record { value = 0; path_nodes = 0; listing = []; copy = none }
 
 abbrev pub handing : (value path_nodes : ℕ) → Handed
-handing n d = record { value = n; path_nodes = d; found = 0; listing = []; copy = none }
+handing n d = record { value = n; path_nodes = d; listing = []; copy = none }
 
 abbrev pub handing_frames : List ℕ → Handed
-handing_frames fs = record { value = length fs; path_nodes = 0; found = 0; listing = fs; copy = none }
-
-abbrev pub or_zero : Option ℕ → ℕ
-or_zero none = 0
-or_zero (some n) = n
-
--- Floor's yes with the frame, or no with 0
-abbrev pub handing_found : Option ℕ → Handed
-handing_found o = record { value = cond (is_some o) 1 0; path_nodes = 0; found = or_zero o; listing = []; copy = none }
+handing_frames fs = record { value = length fs; path_nodes = 0; listing = fs; copy = none }
 
 abbrev pub handing_copy : List ℕ → Handed
-handing_copy ws = record { value = 0; path_nodes = 0; found = 0; listing = []; copy = some ws }
+handing_copy ws = record { value = 0; path_nodes = 0; listing = []; copy = some ws }
 
 -- what an operation does: a script in segments, what it hands back, and the state as it leaves it, before the script is carried out
 pub record Work : Type 0 where

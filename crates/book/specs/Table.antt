@@ -8,10 +8,9 @@ use Rattle.tree.specs.Lists.{keep, every, has_key}
 use Rattle.tree.specs.declared.layout.Geometry.{Geometry}
 use Rattle.tree.specs.Layout.{bad_image, image_words}
 use Rattle.tree.specs.Fingerprint.{is_given, bad_given}
-use Rattle.sorting.specs.Sorted.{stretch, floor_in}
 use Rattle.book.specs.Heads.{head_count}
 use Rattle.book.specs.Refusals.{Refusal, ◌gives◌, refusal}
-use Rattle.book.specs.State.{Operation, format, recover, open_reel, claim, fill, commit, abandon, remove, retire, tidy, query, Query, has, list, list_range, floor, convert, Handed, nothing_handed, handing, handing_frames, handing_found}
+use Rattle.book.specs.State.{Operation, format, recover, open_reel, claim, fill, commit, abandon, remove, retire, tidy, query, Query, has, list, convert, Handed, nothing_handed, handing, handing_frames}
 use Rattle.book.specs.Checks.{bad_map, bad_script}
 
 -- per head idle, or claimed or filled with reel and frame
@@ -134,13 +133,6 @@ abbrev pub table_query_refusals : Query → Table → List Refusal
 table_query_refusals (has reel f) t = (is (not (is_present t reel)) gives 5) ∷ []
 table_query_refusals (list scratch room reel) t =
     (bad_map (geometry t) scratch gives 3) ∷ (is (not (is_present t reel)) gives 5) ∷ (lt room (length (frames_of t reel)) gives 14) ∷ []
-table_query_refusals (list_range scratch room reel a b) t =
-    (bad_map (geometry t) scratch gives 3)
-    ∷ (lt b a gives 19)
-    ∷ (is (not (is_present t reel)) gives 5)
-    ∷ (lt room (length (stretch a b (frames_of t reel))) gives 14)
-    ∷ []
-table_query_refusals (floor scratch reel f) t = (bad_map (geometry t) scratch gives 3) ∷ (is (not (is_present t reel)) gives 5) ∷ []
 table_query_refusals (convert scratch copy) t =
     (ne copy (image_words (geometry t)) gives 1) ∷ (bad_map (geometry t) scratch gives 3) ∷ (is t.own gives 17) ∷ []
 
@@ -233,8 +225,6 @@ becoming t = record { handed = nothing_handed; after = t }
 abbrev pub table_queried : Query → Table → Handed
 table_queried (has reel f) t = handing (cond (is_held t reel f) 1 0) 0
 table_queried (list scratch room reel) t = handing_frames (frames_of t reel)
-table_queried (list_range scratch room reel a b) t = handing_frames (stretch a b (frames_of t reel))
-table_queried (floor scratch reel f) t = handing_found (floor_in f (frames_of t reel))
 table_queried (convert scratch copy) t = nothing_handed
 
 unfoldable pub table_work : Operation → Table → TableWork

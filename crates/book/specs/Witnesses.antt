@@ -9,7 +9,7 @@ use Rattle.tree.specs.Lists.{up_to}
 use Rattle.tree.specs.Slots.{empty_slot}
 use Rattle.book.specs.declared.HeadState.TheVariants.{Claimed, Filled}
 use Rattle.book.specs.Heads.{head_count, head_at}
-use Rattle.book.specs.State.{State, Operation, format, recover, open_reel, claim, fill, commit, abandon, remove, retire, tidy, query, has, list, list_range, floor, convert, arguments, memory, shape}
+use Rattle.book.specs.State.{State, Operation, format, recover, open_reel, claim, fill, commit, abandon, remove, retire, tidy, query, has, list, convert, arguments, memory, shape}
 use Rattle.book.specs.Perform.{perform}
 use Rattle.book.specs.Table.{Table, Reel, idle, claimed, filled, empty_table, all_idle}
 use Rattle.book.specs.Agrees.{Agrees}
@@ -315,8 +315,6 @@ NumbersFit (retire map scratch script reel) = reel < 2 ^ 64
 NumbersFit (tidy map scratch script reel) = reel < 2 ^ 64
 NumbersFit (query (has reel f)) = (reel < 2 ^ 64) × (f < 2 ^ 64)
 NumbersFit (query (list scratch room reel)) = reel < 2 ^ 64
-NumbersFit (query (list_range scratch room reel a b)) = (reel < 2 ^ 64) × (a < 2 ^ 64) × (b < 2 ^ 64)
-NumbersFit (query (floor scratch reel f)) = (reel < 2 ^ 64) × (f < 2 ^ 64)
 NumbersFit (query (convert scratch copy)) = Unit {0}
 
 -- ---- all of them but TwoInTree, CutClaim, TidyRoom, TidyOrder and HighNode, which are computed in the crate `starred`

@@ -20,7 +20,7 @@ use Rattle.tree.proofs.Memory.{script_laws, segment_laws}
 use Rattle.tree.proofs.Cases.{test, not-false}
 use Rattle.tree.proofs.Laws.{pool_laws}
 use Rattle.book.specs.Refusals.{refusal}
-use Rattle.book.specs.State.{State, Operation, format, recover, open_reel, claim, fill, commit, abandon, remove, retire, tidy, query, has, list, list_range, floor, convert, Work, scratch_after, copy_after}
+use Rattle.book.specs.State.{State, Operation, format, recover, open_reel, claim, fill, commit, abandon, remove, retire, tidy, query, has, list, convert, Work, scratch_after, copy_after}
 use Rattle.book.specs.Checks.{refusals}
 use Rattle.book.specs.Perform.{granted, leaves, clears, left_by, perform}
 use Rattle.book.specs.Demands.{Leaves, as_before, map_cleared}
@@ -67,8 +67,6 @@ granted_over (abandon script h) s b = (script_laws.take_written _ _, refl, refl)
 granted_over (remove script reel f) s b = (script_laws.take_written _ _, refl, refl)
 granted_over (query (has reel f)) s b = (no_words, refl, refl)
 granted_over (query (list scratch room reel)) s b = (no_words, refl, take-append_seam _ _)
-granted_over (query (list_range scratch room reel a c)) s b = (no_words, refl, take-append_seam _ _)
-granted_over (query (floor scratch reel f)) s b = (no_words, refl, refl)
 granted_over (query (convert scratch copy)) s b = (no_words, refl, refl)
 granted_over (retire words scratch script reel) s b = (script_laws.take_written _ _, refl, refl)
 granted_over (tidy words scratch script reel) s b = (script_laws.take_written _ _, refl, refl)
@@ -96,10 +94,6 @@ module _ (op : Operation) (s : State) (b : Buffers) where
   pub nodes_ends : (ends op s b).path_nodes ≡ (perform op s).work.handed.path_nodes
   unfolding ends found
   nodes_ends = refl
-
-  pub frame_ends : (ends op s b).frame ≡ (perform op s).work.handed.found
-  unfolding ends found
-  frame_ends = refl
 
   script_ends : (ends op s b).buffers.script ≡ written (segmented (perform op s).work.script) b.script
   unfolding ends found
@@ -150,7 +144,6 @@ module _ (op : Operation) (s : State) (b : Buffers) (h : (perform op s).answer �
         count = refused_count s b d.left (ap (λ (w : Work). w.after) (work_refused op s h)) (sym (answer_is op s)) h;
         places_left_lem = d.places_left_lem;
         path_nodes = ap (λ x. x.path_nodes) d.none_handed;
-        frame = ap (λ x. x.found) d.none_handed;
         script = rw d.no_store (segment_laws.none_written b.script);
         list = rw d.none_handed refl;
         copy = rw d.none_handed refl;
@@ -187,7 +180,6 @@ module _ (op : Operation) (s : State) (b : Buffers) where
         listing = o.2;
         places_left_lem = left_ends op s b;
         path_nodes = nodes_ends op s b;
-        frame = frame_ends op s b;
         after = after_ends op s b;
         copied = λ ws e. copy_ends op s b ∙ ap (λ o. copy_after o b.copy) e;
         copy_stays = λ e. copy_ends op s b ∙ ap (λ o. copy_after o b.copy) e;

@@ -14,18 +14,18 @@ use Rattle.tree.proofs.Cases.{test}
 use Rattle.tree.specs.Fingerprint.{is_given}
 use Rattle.book.specs.State.{State, Operation, format, recover, scratch_after}
 use Rattle.book.specs.Checks.{refusals}
-use Rattle.book.specs.Perform.{granted, leaves, clears, perform}
+use Rattle.book.specs.Perform.{leaves, clears, perform}
 use Rattle.book.specs.CarryOut.{carry}
 use Rattle.book.specs.Table.{Table, empty_table, table_work, reply}
 use Rattle.book.specs.Histories.{done, replied, Follows, formatted, started, performed}
 use Rattle.book.proofs.Held.{at_once}
 use Rattle.book.proofs.Demands.{demand1, demand2}
 use Rattle.book.proofs.Done.{done_same}
-use Rattle.book.proofs.Performed.{answer_is, work_granted, work_refused}
+use Rattle.book.proofs.Performed.{answer_is}
 use Rattle.operations.specs.Ends.{Buffers, state, Ends, ended, ends}
 use Rattle.operations.specs.Chain.{counted, next, Fits, OtherBuffer, another_length, to_format, Called, with_its_map, with_another, after_call, GoesOn, Chain}
 use Rattle.operations.proofs.Endings.{refused as ends-refused}
-use Rattle.operations.proofs.CallEnds.{none_carried, nothing_over, answer_ends, frame_ends, tells, answered, refused, scratch_cleared, scratch_left, one_to_three, unread}
+use Rattle.operations.proofs.CallEnds.{none_carried, nothing_over, answer_ends, tells, answered, refused, scratch_cleared, scratch_left, one_to_three, unread}
 use Rattle.operations.proofs.OnModule.{carried_there}
 
 -- ---- the next state
@@ -54,9 +54,7 @@ goes_on op s t b f fit =
     record {
       answer = answer_ends op s b ∙ a.answer;
       value = d.value ∙ a.value;
-      frame = d.frame ∙ a.found;
       listing = rw d.listing a.listing;
-      in_order = λ o. d.listing ∙ a.in_order o;
       follows = rw (steps op s b fit) (performed f op fit.numbers);
     }
 
@@ -137,19 +135,9 @@ sent_back_goes_on {op} {s} {t} {map} {b} {e} f fit x z =
     record {
       answer = x.answer ∙ a.answer;
       value = n.1 ∙ sym (ap (λ x. x.value) d.none_handed) ∙ a.value;
-      frame = ap (λ (y : Ends). y.frame) (x.is z) ∙ sym (ap (λ x. x.found) d.none_handed) ∙ a.found;
       listing = rw n.2 (rw d.none_handed at a.listing);
-      in_order = λ o. n.2 ∙ sym (ap (λ x. x.listing) d.none_handed) ∙ a.in_order o;
       follows = rw (sent_back_next x z) (performed f op fit.numbers);
     }
-
--- a format hands back no frame
-none_found : (words : ℕ) (table : List ℕ) (slots nodes : ℕ) (s : State) → (perform (format words table slots nodes) s).work.handed.found ≡ 0
-unfolding granted
-none_found words table slots nodes s = let op = format words table slots nodes in elim (test (eqb (perform op s).answer 0)) [
-  | inl t ↦ ap (λ w. w.handed.found) (work_granted op s (eqb-true (perform op s).answer 0 t))
-  | inr t ↦ ap (λ w. w.handed.found) (work_refused op s (eqb-false (perform op s).answer 0 t))
-]
 
 -- a format that is answered starts the book anew, with the map that it was lent
 format_goes_on : {on : Module} (words : ℕ) (table : List ℕ) (slots nodes : ℕ) (s : State) (t : Table) (map : List ℕ) (b : Buffers) {e : Ends} → Follows on s t → Fits (format words table slots nodes) s
@@ -166,10 +154,7 @@ format_goes_on words table slots nodes s t map b {e} f fit q h =
     record {
       answer = answer;
       value = own.value;
-      frame = ap (λ (y : Ends). y.frame) q ∙ frame_ends op s' b ∙ none_found words table slots nodes s' ∙ sym (none_found words table slots nodes s)
-          ∙ (demand2.alike s t f op fit.numbers).found;
       listing = own.listing;
-      in_order = λ o. elim o [ ];
       follows = rw (format_table words table slots nodes s t (sym answer ∙ h), q, steps op s' b fit') (started (formatted words table slots nodes s' fit.image h'));
     }
 

@@ -11,7 +11,7 @@ use Rattle.book.specs.Refusals.{refusal}
 use Rattle.book.specs.State.{State, Operation, format, recover, open_reel, claim, fill, commit, abandon, remove, retire, tidy, query, leaving, Outcome, scratch_after, copy_after}
 use Rattle.book.specs.Checks.{refusals}
 use Rattle.book.specs.Perform.{granted, leaves, clears, left_by, perform}
-use Rattle.operations.specs.Ends.{Buffers, all_buffers, ended_with, ended, count_in, found, ends}
+use Rattle.operations.specs.Ends.{Buffers, all_buffers, ended_telling, ended, count_in, found, ends}
 use Rattle.operations.proofs.ScriptWords.{words_of}
 
 -- nothing is handed back where there is no script and no value
@@ -31,11 +31,11 @@ none_handed (query q) s = refl
 -- where there is no script its buffer stays
 pub no_script : (op : Operation) (o : Outcome) (b : Buffers) → o.work.script ≡ []
     → found op o b
-    ≡ ended_with o.answer (count_in op o.work) o.places_left_lem o.work.handed.path_nodes o.work.handed.found o.work.after
+    ≡ ended_telling o.answer (count_in op o.work) o.places_left_lem o.work.handed.path_nodes o.work.after
     (all_buffers (scratch_after o.cleared b.scratch) b.script (listed o.work.handed.listing b.list) (copy_after o.work.handed.copy b.copy))
 unfolding found
 no_script op o b e =
-    ap (λ ws. ended_with o.answer (count_in op o.work) o.places_left_lem o.work.handed.path_nodes o.work.handed.found o.work.after
+    ap (λ ws. ended_telling o.answer (count_in op o.work) o.places_left_lem o.work.handed.path_nodes o.work.after
     (all_buffers (scratch_after o.cleared b.scratch) ws (listed o.work.handed.listing b.list) (copy_after o.work.handed.copy b.copy)))
     (ap (λ (segs : List (List Store)). written (segmented segs) b.script) e ∙ segment_laws.none_written b.script)
 

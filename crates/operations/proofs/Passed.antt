@@ -61,7 +61,6 @@ number_some enum.ListShort = omega arith
 number_some enum.GivenTable = omega arith
 number_some enum.OwnTable = omega arith
 number_some enum.NoGroup = omega arith
-number_some enum.FirstAboveLast = omega arith
 
 -- the checks go by what a test computes
 pub same_checks : (image : List ℕ) (bad bad' : Test) (rest : List Refusal) → holds bad ≡ holds bad'

@@ -1,7 +1,7 @@
 -- The paper's numbers for what an operation answers.
 use Rattle.std.specs.Prelude.{ℕ}
 use Rattle.operations.specs.declared.answer.Refusal.{Refusal}
-use Rattle.operations.specs.declared.answer.Refusal.TheVariants.{Image, Edition, Buffer, Malformed, NoReel, AlreadyOpen, NoSlot, NoRun, FrameHeld, FrameNotHeld, HeadNumber, HeadState, Busy, ListShort, GivenTable, OwnTable, NoGroup, FirstAboveLast}
+use Rattle.operations.specs.declared.answer.Refusal.TheVariants.{Image, Edition, Buffer, Malformed, NoReel, AlreadyOpen, NoSlot, NoRun, FrameHeld, FrameNotHeld, HeadNumber, HeadState, Busy, ListShort, GivenTable, OwnTable, NoGroup}
 use Rattle.operations.specs.declared.answer.Answer.{Answer}
 use Rattle.operations.specs.declared.answer.Answer.TheVariants.{Done, Refused}
 
@@ -24,7 +24,6 @@ number_of ListShort = 14
 number_of GivenTable = 16
 number_of OwnTable = 17
 number_of NoGroup = 18
-number_of FirstAboveLast = 19
 
 -- the answer's number, and the count handed back: 0 on a refusal
 abbrev pub answer_of : Answer → ℕ

@@ -6,14 +6,14 @@ use mathlib.Core.List.{List, [], ◌∷◌, Memᴰ}
 use Rattle.tree.specs.Memory.{reads, segmented, encode, decode, translate, Module, plain, flushing, entries_on, Fit}
 use Rattle.tree.specs.Layout.{map_words, geometry_of}
 use Rattle.tree.specs.Fingerprint.{is_given}
-use Rattle.book.specs.State.{State, Operation, format, recover, open_reel, claim, fill, commit, abandon, remove, retire, tidy, query, Query, has, list, list_range, floor, convert, arguments}
+use Rattle.book.specs.State.{State, Operation, format, recover, open_reel, claim, fill, commit, abandon, remove, retire, tidy, query, Query, has, list, convert, arguments}
 use Rattle.book.specs.Perform.{perform}
 use Rattle.book.specs.CarryOut.{carry, carried}
 use Rattle.book.specs.Due.{First, due}
 use Rattle.book.specs.Table.{Table, empty_table}
 use Rattle.book.specs.Agrees.{EachOnce}
 use Rattle.book.specs.Held.{table_of}
-use Rattle.book.specs.Demands.{BorrowsScratch, Leaves, InOrder}
+use Rattle.book.specs.Demands.{BorrowsScratch, Leaves}
 use Rattle.book.specs.Histories.{done, replied, Follows}
 use Rattle.operations.specs.Ends.{Buffers, state, Ends, ended, ends}
 
@@ -26,8 +26,6 @@ pub data Counted : Type 0 where
 abbrev pub query_counted : Query → Counted
 query_counted (has reel f) = number_alone
 query_counted (list scratch room reel) = frames
-query_counted (list_range scratch room reel a b) = frames
-query_counted (floor scratch reel f) = number_alone
 query_counted (convert scratch copy) = nothing
 
 abbrev pub counted : Operation → Counted
@@ -50,14 +48,14 @@ words_in nothing e = []
 words_in number_alone e = []
 words_in frames e = []
 
--- the frames of List and Range
+-- List's frames
 abbrev pub frames_in : Counted → Ends → List ℕ
 frames_in frames e = take e.count e.buffers.list
 frames_in nothing e = []
 frames_in script_words e = []
 frames_in number_alone e = []
 
--- the yes or no of Has and Floor, and how many frames List and Range have
+-- Has's yes or no, and how many frames List has
 abbrev pub value_in : Counted → Ends → ℕ
 value_in number_alone e = e.count
 value_in frames e = e.count
@@ -95,8 +93,6 @@ pub record Tells (op : Operation) (s : State) (b : Buffers) (e : Ends) : Type 1 
   -- of places left what `PlacesLeft` (book, specs) says, of a frame's path what `PathNodes` does
   pub places_left_lem : e.places_left_lem ≡ (perform op s).places_left_lem
   pub path_nodes : e.path_nodes ≡ (perform op s).work.handed.path_nodes
-  -- of a floor what `Ranges` (book, specs) says
-  pub frame : e.frame ≡ (perform op s).work.handed.found
   -- in the second image the words of which `Conversions` (book, specs) speaks; where there are none it stays
   pub copied : (ws : List ℕ) → (perform op s).work.handed.copy ≡ some ws → e.buffers.copy ≡ ws
   pub copy_stays : (perform op s).work.handed.copy ≡ none → e.buffers.copy ≡ b.copy
@@ -120,7 +116,6 @@ pub record Refused (op : Operation) (s : State) (b : Buffers) (e : Ends) : Type 
   pub count : e.count ≡ 0
   pub places_left_lem : e.places_left_lem ≡ 0
   pub path_nodes : e.path_nodes ≡ 0
-  pub frame : e.frame ≡ 0
   pub script : e.buffers.script ≡ b.script
   pub list : e.buffers.list ≡ b.list
   pub copy : e.buffers.copy ≡ b.copy
@@ -180,9 +175,7 @@ after_call {op} {s} {e = e} (with_another map o q) = state (next op e).image (co
 pub record GoesOn (on : Module) (op : Operation) (s : State) (t : Table) (e : Ends) (s' : State) : Type 0 where
   pub answer : e.answer ≡ (replied op s t).answer
   pub value : value_in (counted op) e ≡ (replied op s t).work.handed.value
-  pub frame : e.frame ≡ (replied op s t).work.handed.found
   pub listing : EachOnce (frames_in (counted op) e) (replied op s t).work.handed.listing
-  pub in_order : InOrder op → frames_in (counted op) e ≡ (replied op s t).work.handed.listing
   pub follows : Follows on s' (replied op s t).work.after
 
 pub record Chain : Type 1 where

@@ -1,5 +1,5 @@
--- What the driver finds when an operation has ended: its answer, the count, the places left, the number of nodes on the path and the
--- frame that are handed back, and every buffer.
+-- What the driver finds when an operation has ended: its answer, the count, the places left and the number of nodes on the path that are
+-- handed back, and every buffer.
 use Rattle.std.specs.Prelude.{List, [], ℕ, ◌*◌, length}
 use Rattle.tree.specs.Memory.{segmented, written}
 use Rattle.tree.specs.Subtree.{listed}
@@ -31,20 +31,12 @@ pub record Ends : Type 0 where
   pub count : ℕ
   pub places_left_lem : ℕ
   pub path_nodes : ℕ
-  pub frame : ℕ
   pub after : State
   pub buffers : Buffers
 
-abbrev pub ended_with : (answer count places_left_lem path_nodes frame : ℕ) → State → Buffers → Ends
-ended_with answer count left nodes f after b =
-    record { answer = answer; count = count; places_left_lem = left; path_nodes = nodes; frame = f; after = after; buffers = b }
-
--- Floor's end, with the frame
-abbrev pub ended_floor : (answer count frame : ℕ) → State → Buffers → Ends
-ended_floor answer count f after b = ended_with answer count 0 0 f after b
-
 abbrev pub ended_telling : (answer count places_left_lem path_nodes : ℕ) → State → Buffers → Ends
-ended_telling answer count left nodes after b = ended_with answer count left nodes 0 after b
+ended_telling answer count left nodes after b =
+    record { answer = answer; count = count; places_left_lem = left; path_nodes = nodes; after = after; buffers = b }
 
 -- Claim's end, with places left
 abbrev pub ended_left : (answer count places_left_lem : ℕ) → State → Buffers → Ends
@@ -58,7 +50,7 @@ ended_path answer count nodes after b = ended_telling answer count 0 nodes after
 abbrev pub ended : (answer count : ℕ) → State → Buffers → Ends
 ended answer count after b = ended_telling answer count 0 0 after b
 
--- the count handed back: the yes or no of Has and Floor, the frames of List and Range, 0 of Convert, else the script's words
+-- the count handed back: Has's yes or no, List's frames, 0 of Convert, else the script's words
 abbrev pub count_in : Operation → Work → ℕ
 count_in (query q) w = w.handed.value
 count_in (format map table slots nodes) w = 0
@@ -75,7 +67,7 @@ count_in (tidy map scratch script reel) w = 2 * length (segmented w.script)
 -- an outcome, as the driver finds it: the script written at its buffer's start, the frames at the list's
 unfoldable pub found : Operation → Outcome → Buffers → Ends
 found op o b =
-    ended_with o.answer (count_in op o.work) o.places_left_lem o.work.handed.path_nodes o.work.handed.found o.work.after
+    ended_telling o.answer (count_in op o.work) o.places_left_lem o.work.handed.path_nodes o.work.after
     (all_buffers (scratch_after o.cleared b.scratch) (written (segmented o.work.script) b.script)
     (listed o.work.handed.listing b.list) (copy_after o.work.handed.copy b.copy))
 

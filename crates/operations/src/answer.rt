@@ -21,10 +21,9 @@ pub enum Refusal {
     GivenTable,
     OwnTable,
     NoGroup,
-    FirstAboveLast,
 }
 
-// Done, with the count that is handed back (the script's words, the yes or no of Has and Floor, the frames of List and Range), or refused.
+// Done, with the count that is handed back (the script's words, Has's yes or no, List's frames), or refused.
 #[derive(Drop)]
 pub enum Answer {
     Done(u64),

@@ -29,7 +29,6 @@ pub fn number(why: Refusal) -> u64
         Refusal::GivenTable => 16,
         Refusal::OwnTable => 17,
         Refusal::NoGroup => 18,
-        Refusal::FirstAboveLast => 19,
     }
 }
 

@@ -8,17 +8,17 @@
 
 ghost use Rattle.std.specs.Prelude.{◌≡◌, List, [], ℕ, length};
 ghost use Rattle.book.specs.State.{format, recover, open_reel, claim, fill, commit, abandon, remove, retire, tidy};
-ghost use Rattle.book.specs.State.{query, has, list as list-reel, list_range, floor as floor-of, convert};
+ghost use Rattle.book.specs.State.{query, has, list as list-reel, convert};
 ghost use Rattle.book.specs.CarryOut.{carry, carried};
 ghost use Rattle.tree.specs.Memory.{translate as translate_words, translation};
-ghost use Rattle.operations.specs.Ends.{all_buffers, buffers, no_buffers, state, ended, ended_left, ended_path, ended_floor, ends};
+ghost use Rattle.operations.specs.Ends.{all_buffers, buffers, no_buffers, state, ended, ended_left, ended_path, ends};
 
 use claims::claim;
 use images::{apply, convert, format, recover, translate};
 use lookups::frames;
 use operations::hand_over::{answer_number, hand_over, hand_over_fresh, hand_over_head};
 use operations::head_words::{read_heads, state_of};
-use reels::{floor, list, open, range, retire, tidy};
+use reels::{list, open, retire, tidy};
 // the length of the heads' words; how many stores a script has, for those who print it
 pub use book::HEAD_WORDS;
 pub use tree::persistent::count_stores;
@@ -211,48 +211,6 @@ pub extern "C" fn reelbook_list(
         (state image.now pool heads) (buffers scratch.old [] list.old) }
 {
     hand_over(list::list(image, scratch, list, reel), count)
-}
-
-// Lists a reel's frames from a first number to a last, both included, rising and each once.
-#[unsafe(no_mangle)]
-pub extern "C" fn reelbook_range(
-    image: &[u64],
-    scratch: &mut [u64],
-    list: &mut [u64],
-    reel: u64,
-    first: u64,
-    last: u64,
-    count: &mut u64,
-) -> u64
-    ensures { (pool heads : List ℕ)
-        → ended result count.new (state image.now pool heads)
-        (buffers scratch.new [] list.new)
-        ≡ ends (query (list_range (length scratch.old) (length list.old) reel first last))
-        (state image.now pool heads) (buffers scratch.old [] list.old) }
-{
-    hand_over(range::range(image, scratch, list, reel, first, last), count)
-}
-
-// The greatest frame of a reel at or below a number: 1 and the frame, or 0 and 0 where there is none.
-#[unsafe(no_mangle)]
-pub extern "C" fn reelbook_floor(
-    image: &[u64],
-    scratch: &mut [u64],
-    reel: u64,
-    frame: u64,
-    yes: &mut u64,
-    floor: &mut u64,
-) -> u64
-    ensures { (pool heads : List ℕ)
-        → ended_floor result yes.new floor.new (state image.now pool heads)
-        (buffers scratch.new [] [])
-        ≡ ends (query (floor-of (length scratch.old) reel frame)) (state image.now pool heads)
-        (buffers scratch.old [] []) }
-{
-    let found = floor::floor(image, scratch, reel, frame);
-    let result = found.answer;
-    *floor = found.frame;
-    hand_over(result, yes)
 }
 
 // Writes the script that takes a reel out, and frees its nodes in the map.

@@ -3,5 +3,3 @@ pub mod Listing
 pub mod Opening
 pub mod Retiring
 pub mod Tidying
-pub mod Ranging
-pub mod Flooring

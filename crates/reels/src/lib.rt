@@ -1,9 +1,7 @@
-// The operations on a whole reel: Open, List, Range, Floor, Retire and Tidy.
+// The operations on a whole reel: Open, List, Retire and Tidy.
 #![tactic(auto)]
 
-pub mod floor;
 pub mod list;
 pub mod open;
-pub mod range;
 pub mod retire;
 pub mod tidy;

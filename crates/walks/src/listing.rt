@@ -16,7 +16,7 @@ use tree::layout::{FRAMES, Geometry, SET, next_of, node_at, root_of, word_of};
 use tree::path::fanout;
 
 // Copies adjacent words of an image to the start of a list.
-pub fn copy_words(image: &[u64], list: &mut [u64], first: usize, count: usize)
+fn copy_words(image: &[u64], list: &mut [u64], first: usize, count: usize)
     requires { (first + count ≤ length image.now) × (count ≤ length list.old) }
     ensures { list.new ≡ listed (words_at image.now first (up_to count)) list.old }
 {

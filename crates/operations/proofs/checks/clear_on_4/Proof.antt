@@ -6,7 +6,7 @@ use lib.Dec.{eqb}
 use types.Run.{OneOf, miss}
 use denote.Enum.Declared.{tag_of}
 use Rattle.operations.specs.declared.answer.Refusal.{Refusal}
-use Rattle.operations.specs.declared.answer.Refusal.TheVariants.{Image, Edition, Buffer, Malformed, NoReel, AlreadyOpen, NoSlot, NoRun, FrameHeld, FrameNotHeld, HeadNumber, HeadState, Busy, ListShort, GivenTable, OwnTable, NoGroup, FirstAboveLast}
+use Rattle.operations.specs.declared.answer.Refusal.TheVariants.{Image, Edition, Buffer, Malformed, NoReel, AlreadyOpen, NoSlot, NoRun, FrameHeld, FrameNotHeld, HeadNumber, HeadState, Busy, ListShort, GivenTable, OwnTable, NoGroup}
 use Rattle.operations.specs.Answers.{number_of}
 use borrow.Author.Rules.{rules}
 use Rattle.operations.specs.contracts.answer.Refusal.{the_type}
@@ -14,7 +14,7 @@ use Rattle.operations.proofs.checks.clear_on_4.Statement.{statement}
 use Rattle.operations.proofs.checks.clear_on_4.Tie as tie
 
 abbrev others : List ℕ
-others = 0 ∷ 1 ∷ 2 ∷ 4 ∷ 5 ∷ 6 ∷ 7 ∷ 8 ∷ 9 ∷ 10 ∷ 11 ∷ 12 ∷ 13 ∷ 14 ∷ 15 ∷ 16 ∷ 17 ∷ []
+others = 0 ∷ 1 ∷ 2 ∷ 4 ∷ 5 ∷ 6 ∷ 7 ∷ 8 ∷ 9 ∷ 10 ∷ 11 ∷ 12 ∷ 13 ∷ 14 ∷ 15 ∷ 16 ∷ []
 
 -- every other variant has another number than 4
 other : (why : Refusal) (xs ys : List ℕ) → OneOf others (tag_of the_type why) → cond (eqb (number_of why) 4) xs ys ≡ ys
@@ -35,7 +35,6 @@ other ListShort xs ys k = refl
 other GivenTable xs ys k = refl
 other OwnTable xs ys k = refl
 other NoGroup xs ys k = refl
-other FirstAboveLast xs ys k = refl
 
 pub clear_on_4_spec : {M : Type 1} → statement M
 clear_on_4_spec =

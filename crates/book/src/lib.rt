@@ -8,7 +8,7 @@ pub const HEADS: usize = 4;
 pub const HEAD_WORDS: usize = 5 * HEADS;
 
 // What a head is about: a place of a node in a slot's tree, for a frame.
-#[derive(Drop)]
+#[derive(Clone, Copy)]
 pub struct Target {
     pub slot: u64,
     pub node: u64,
@@ -17,7 +17,7 @@ pub struct Target {
 }
 
 // A head's state: idle, or a place claimed, or claimed and filled with its frame.
-#[derive(Drop)]
+#[derive(Clone, Copy)]
 pub enum HeadState {
     Idle,
     Claimed(Target),
@@ -25,7 +25,7 @@ pub enum HeadState {
 }
 
 // A head's record.
-#[derive(Drop)]
+#[derive(Clone, Copy)]
 pub struct Head {
     pub state: HeadState,
 }

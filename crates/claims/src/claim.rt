@@ -35,7 +35,7 @@ use tree::layout::{Geometry, LOCATE, word_of};
 use tree::path::{Room, Spot, child, fanout};
 
 // Whether a claim may go on.
-#[derive(Drop)]
+#[derive(Clone, Copy)]
 pub enum Admission {
     Admitted,
     Refused(Refusal),
@@ -192,7 +192,7 @@ fn take_room(
 }
 
 // Claim's answer carries the places left through; a refusal has none to tell of.
-#[derive(Drop)]
+#[derive(Clone, Copy)]
 pub struct ClaimAnswer {
     pub answer: HeadAnswer,
     pub left: u64,

@@ -11,7 +11,7 @@ use memory::apply::is_script;
 use memory::script::{BARRIER, FLUSH, put_barrier, put_store};
 
 // What the translator answers: the words used, or that it is refused.
-#[derive(Drop)]
+#[derive(Clone, Copy)]
 pub enum Translated {
     Done(usize),
     Refused,

@@ -17,7 +17,7 @@ use tree::layout::{Geometry, next_of, root_of};
 use tree::path::fanout;
 
 // What a search comes to.
-#[derive(Drop)]
+#[derive(Clone, Copy)]
 pub enum Search {
     // No node has children that are all empty.
     Nothing,

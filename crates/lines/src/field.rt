@@ -4,26 +4,26 @@ ghost use Rattle.lines.specs.Reading.{digit_at, number, begins, field};
 ghost use Rattle.lines.specs.Found.{Finds, ReadsAs, with_one, with_two, with_three};
 
 // A number, and the place behind it.
-#[derive(Drop)]
+#[derive(Clone, Copy)]
 pub enum Field {
     Number { value: u64, next: usize },
     Missing,
 }
 
 // The number behind one text at a line's end; behind each of two texts, of three.
-#[derive(Drop)]
+#[derive(Clone, Copy)]
 pub enum One {
     Number(u64),
     Missing,
 }
 
-#[derive(Drop)]
+#[derive(Clone, Copy)]
 pub enum Two {
     Numbers(u64, u64),
     Missing,
 }
 
-#[derive(Drop)]
+#[derive(Clone, Copy)]
 pub enum Three {
     Numbers(u64, u64, u64),
     Missing,

@@ -8,7 +8,7 @@ pub const KEPT: usize = 81;
 
 // What a piece had of a line: how many bytes the line has now, the place in the piece behind them,
 // and whether a newline ended the line.
-#[derive(Drop)]
+#[derive(Clone, Copy)]
 pub struct Taken {
     pub count: usize,
     pub next: usize,

@@ -5,7 +5,7 @@ ghost use Rattle.lines.specs.Reading.{kinds, read_first, line_of};
 use crate::field::{One, Three, Two, read_one, read_three, read_two};
 
 // A line, with its numbers; any that is not exactly of one of the nine kinds is `Other`.
-#[derive(Drop)]
+#[derive(Clone, Copy)]
 pub enum Line {
     Open { reel: u64 },
     Claim { head: u64, reel: u64, frame: u64 },

@@ -21,7 +21,7 @@ use tree::path::Spot;
 use tree::persistent::{put_fenced_pair, without_bit};
 
 // Has's answer, whose count is 1 or 0, and the number of nodes on the frame's path; a refusal has none to tell of.
-#[derive(Drop)]
+#[derive(Clone, Copy)]
 pub struct HasAnswer {
     pub answer: Answer,
     pub nodes: u64,

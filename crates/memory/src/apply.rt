@@ -5,7 +5,7 @@ ghost use Rattle.memory.specs.Apply.{is_entry, is_script, made_stores, number_of
 use crate::script::{BARRIER, FLUSH};
 
 // What carrying a script out answers.
-#[derive(Drop)]
+#[derive(Clone, Copy)]
 pub enum Applied {
     Done,
     Refused,

@@ -2,7 +2,7 @@
 use book::HeadState;
 
 // Why an operation is refused; `number_of` of specs/Answers.antt has the paper's number of each.
-#[derive(Drop)]
+#[derive(Clone, Copy)]
 pub enum Refusal {
     Image,
     Edition,
@@ -24,14 +24,14 @@ pub enum Refusal {
 }
 
 // Done, with the count that is handed back (the script's words, Has's yes or no, List's frames), or refused.
-#[derive(Drop)]
+#[derive(Clone, Copy)]
 pub enum Answer {
     Done(u64),
     Refused(Refusal),
 }
 
 // The same, with the state that the head's record is to be written with.
-#[derive(Drop)]
+#[derive(Clone, Copy)]
 pub enum HeadAnswer {
     Done(u64, HeadState),
     Refused(Refusal),

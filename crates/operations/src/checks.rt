@@ -11,7 +11,7 @@ use pool::pool_map::clear_map;
 use tree::layout::{Geometry, bad_edition, bad_image, geometry_in, map_words};
 
 // A buffer that an operation borrows, by its length, or does not borrow.
-#[derive(Drop)]
+#[derive(Clone, Copy)]
 pub enum Buffer {
     Absent,
     Words(usize),
@@ -39,7 +39,7 @@ fn script_bad(b: Buffer) -> bool
 }
 
 // What the checks come to: the geometry of an image that passes, or why it is refused.
-#[derive(Drop)]
+#[derive(Clone, Copy)]
 pub enum Verdict {
     Passed(Geometry),
     Refused(Refusal),

@@ -17,14 +17,14 @@ use tree::layout::{Geometry, SIZE, next_of, root_of, word_of};
 use tree::path::{ClearPlace, Room, Spot, child};
 
 // What a search of a path's nodes has seen.
-#[derive(Drop)]
+#[derive(Clone, Copy)]
 pub enum Seen {
     Nothing,
     At(Spot),
 }
 
 // What the lookup of a frame finds.
-#[derive(Drop)]
+#[derive(Clone, Copy)]
 pub enum Found {
     // A node of the path is malformed.
     Malformed,
@@ -33,7 +33,7 @@ pub enum Found {
 }
 
 // How a walk along a frame's path ends.
-#[derive(Drop)]
+#[derive(Clone, Copy)]
 pub enum Trail {
     // A node of the path is malformed.
     Malformed,
@@ -49,14 +49,14 @@ pub enum Trail {
 }
 
 // Room for a frame, and how many clear places its node has left once the place is taken.
-#[derive(Drop)]
+#[derive(Clone, Copy)]
 pub struct Vacancy {
     pub room: Room,
     pub left: u64,
 }
 
 // What a claim finds on a frame's path.
-#[derive(Drop)]
+#[derive(Clone, Copy)]
 pub enum Placement {
     // A node of the path is malformed.
     Malformed,
@@ -68,7 +68,7 @@ pub enum Placement {
 }
 
 // How a frame's path goes on from a node.
-#[derive(Drop)]
+#[derive(Clone, Copy)]
 pub enum Step {
     // The node has no children.
     End,

@@ -56,7 +56,7 @@ fn absent_below(image: &[u64], g: Geometry, left: u64, n: usize, frame: u64, pri
 
 // A node where the test stands, or the first of a group of children, levels left. The frames on their path have the low bits
 // that the way to the node reads: the suffix, a number below the unit. In a group the unit is the parent's.
-#[derive(Drop)]
+#[derive(Clone, Copy)]
 struct Subtree {
     left: u64,
     node: usize,

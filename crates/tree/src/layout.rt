@@ -6,7 +6,7 @@ ghost use Rattle.tree.specs.Layout.{Sized, image_words, map_words, bad_image, ba
 ghost use Rattle.tree.specs.Layout.{reel_at, root_at, node_at, next_at, frame_at};
 
 // How many reel slots and nodes an image has: the paper's R and N.
-#[derive(Drop)]
+#[derive(Clone, Copy)]
 pub struct Geometry {
     pub slots: usize,
     pub nodes: usize,

@@ -3,14 +3,14 @@ ghost use Rattle.std.specs.Prelude.{◌≡◌, ◌≤◌};
 ghost use Rattle.tree.specs.Path.{fanout, child};
 
 // A place of a node.
-#[derive(Drop)]
+#[derive(Clone, Copy)]
 pub struct Spot {
     pub node: usize,
     pub place: usize,
 }
 
 // What the search for a place finds in a node.
-#[derive(Drop)]
+#[derive(Clone, Copy)]
 pub enum ClearPlace {
     // Every place is taken.
     None,
@@ -19,7 +19,7 @@ pub enum ClearPlace {
 }
 
 // Where there is room for a frame on its path.
-#[derive(Drop)]
+#[derive(Clone, Copy)]
 pub enum Room {
     // The first node of the path with a clear place, and the lowest such place.
     Clear(Spot),

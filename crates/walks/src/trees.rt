@@ -15,7 +15,7 @@ use visits::marked::{count_frames, take_out};
 use visits::visit::check_tree;
 
 // What listing a tree comes to.
-#[derive(Drop)]
+#[derive(Clone, Copy)]
 pub enum Listing {
     // A node is malformed or met twice.
     Malformed,

@@ -5,13 +5,13 @@ use Rattle.tree.specs.Fingerprint.{rule_for}
 use Rattle.fingerprints.proofs.fingerprint.bytes_folded.Statement.{statement}
 use Rattle.fingerprints.proofs.fingerprint.bytes_folded.Tie as tie
 
-returns : tie.Need-returns
+returns : tie.Need-returns-then-edition-eq1
 unfolding rule_for
-returns c = (rw (eq-eqb c.before.args.edition 1 c.if1.true) refl, omega arith, omega arith)
+returns c = (rw (eq-eqb c.before.args.edition 1 c.if-edition-eq1.true) refl, omega arith, omega arith)
 
-returns_2 : tie.Need-returns-2
+returns_2 : tie.Need-returns
 unfolding rule_for
-returns_2 c = (rw (ne_eqb c.before.args.edition 1 c.if1.false) refl, omega arith, omega arith)
+returns_2 c = (rw (ne_eqb c.before.args.edition 1 c.if-edition-eq1.false) refl, omega arith, omega arith)
 
 pub bytes_folded_spec : {M : Type 1} → statement M
 bytes_folded_spec = tie.close (tie.spec returns returns_2)

@@ -10,12 +10,12 @@ fingerprint_spec =
     (tie.spec
     (λ c κs. search rules)
     (λ c κs. search rules)
-    (λ c. by_own _ _ (sym c.before.before.has_own_lem.ensures ∙ c.before.if1.true) c.fold-stored.ensures)
+    (λ c. by_own _ _ (sym c.before.before.has_own.ensures ∙ c.before.if-has_own.true) c.fold_stored.ensures)
     (λ c κs. (search rules, search rules, begun _ _))
     (λ c κs. search rules)
     (λ c κs. search rules)
-    (λ c κs. (search rules, search rules, c.before.before.fold-on-by-rule.ensures))
+    (λ c κs. (search rules, search rules, c.before.before.fold_on_by_rule-low.ensures))
     (λ c.
     let own = c.before.before.before.before in
-    by_rule _ _ (sym own.before.has_own_lem.ensures ∙ own.if1.false) c.before.before.edition.ensures
-    (rw c.before.bytes-folded.ensures.0 at c.fold-on-by-rule2.ensures)))
+    by_rule _ _ (sym own.before.has_own.ensures ∙ own.if-has_own.false) c.before.before.edition.ensures
+    (rw c.before.bytes_folded.ensures.0 at c.fold_on_by_rule.ensures)))

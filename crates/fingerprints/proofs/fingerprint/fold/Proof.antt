@@ -11,4 +11,4 @@ fold_spec =
     (tie.spec
     (λ c κs. search rules)
     (λ c κs. ap length c.before.before.before.requires.1 ∙ table_in_length _)
-    (λ c. by_table _ _ c.before.before.before.before.requires.1 c.before.edition.ensures c.fold-for.ensures))
+    (λ c. by_table _ _ c.before.before.before.before.requires.1 c.before.edition.ensures c.fold_for.ensures))

@@ -10,4 +10,4 @@ fold_for_spec =
     (λ c κs. (search rules, search rules, search rules, begun _ _))
     (λ c κs. search rules)
     (λ c κs. search rules)
-    (λ c. rw c.before.bytes-folded.ensures.0 at c.fold-on2.ensures))
+    (λ c. rw c.before.bytes_folded.ensures.0 at c.fold_on.ensures))

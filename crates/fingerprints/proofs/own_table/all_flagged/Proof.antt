@@ -17,11 +17,11 @@ use Rattle.fingerprints.proofs.own_table.all_flagged.Tie as tie
 abbrev AllOnes : List ℕ → ℕ → Type 0
 AllOnes seen b = (k : ℕ) → k < b → get_or seen k 0 ≡ 1
 
-abbrev invariant-loop : tie.invariant-loop
-invariant-loop seen all₀ b₀ all b = (b ≤ 256) × ((all ≡ true) ↔ AllOnes seen b)
+abbrev invariant-loop-b : tie.invariant-loop-b
+invariant-loop-b seen all₀ b₀ all b = (b ≤ 256) × ((all ≡ true) ↔ AllOnes seen b)
 
-abbrev decreases-loop : tie.decreases-loop
-decreases-loop seen all₀ b₀ all b = 256 - b
+abbrev decreases-loop-b : tie.decreases-loop-b
+decreases-loop-b seen all₀ b₀ all b = 256 - b
 
 one_more : (seen : List ℕ) (all : Bool) (b : ℕ) → (all ≡ true) ↔ AllOnes seen b → (all && eqb (get_or seen b 0) 1 ≡ true) ↔ AllOnes seen (b + 1)
 one_more seen all b h = (
@@ -36,11 +36,11 @@ pub all_flagged_spec : {M : Type 1} → statement M
 all_flagged_spec =
     tie.close
     (tie.spec
-    invariant-loop
-    decreases-loop
+    invariant-loop-b
+    decreases-loop-b
     (λ c. (search rules, (λ e k h. absurd (omega arith), λ a. refl)))
     (λ c. search rules)
     (λ c. search rules)
     (λ c. search rules)
-    (λ c. let l = c.before.before.loop in (search rules, one_more c.before.before.before.args.seen.now l.all l.b l.invariant.1))
-    (λ c. let e : c.before.loop.b ≡ 256 = omega arith in rw e at c.before.loop.invariant.1))
+    (λ c. let l = c.before.before.loop-b in (search rules, one_more c.before.before.before.args.seen.now l.all l.b l.invariant.1))
+    (λ c. let e : c.before.loop-b.b ≡ 256 = omega arith in rw e at c.before.loop-b.invariant.1))

@@ -11,34 +11,34 @@ use Rattle.fingerprints.proofs.Folds.{entry_inside, folded_step, begun}
 use Rattle.fingerprints.proofs.own_table.fold_stored.Statement.{statement}
 use Rattle.fingerprints.proofs.own_table.fold_stored.Tie as tie
 
-abbrev invariant-loop : tie.invariant-loop
-invariant-loop image frame h₀ k₀ h k = (k ≤ 8) × (h ≡ folded (entry_in (stored_table (reads image))) k frame)
+abbrev invariant-loop-k : tie.invariant-loop-k
+invariant-loop-k image frame h₀ k₀ h k = (k ≤ 8) × (h ≡ folded (entry_in (stored_table (reads image))) k frame)
 
-abbrev decreases-loop : tie.decreases-loop
-decreases-loop image frame h₀ k₀ h k = 8 - k
+abbrev decreases-loop-k : tie.decreases-loop-k
+decreases-loop-k image frame h₀ k₀ h k = 8 - k
 
 -- the entry's number is a byte
-small : (c : tie.After-byte-of invariant-loop decreases-loop) → bit_xor c.before.before.loop.h c.byte_of.result < 256
-small c = entry_inside (unpacked_bytes _ table_at) _ _ c.before.before.loop.invariant.1 c.byte_of.ensures
+small : (c : tie.After-byte_of invariant-loop-k decreases-loop-k) → bit_xor c.before.before.loop-k.h c.byte_of.result < 256
+small c = entry_inside (unpacked_bytes _ table_at) _ _ c.before.before.loop-k.invariant.1 c.byte_of.ensures
 
-loop_again : tie.Need-loop-preserved invariant-loop decreases-loop
+loop_again : tie.Need-loop-k-preserved invariant-loop-k decreases-loop-k
 loop_again c =
     let x = c.before.before in
     let m = reads x.before.before.before.before.args.image.now in (
       search rules,
-      folded_step (unpacked_bytes m table_at) _ _ x.before.before.loop.invariant.1 x.byte_of.ensures
-          (c.byte-of2.ensures ∙ sym (unpacked_at m table_at _ (small x))),
+      folded_step (unpacked_bytes m table_at) _ _ x.before.before.loop-k.invariant.1 x.byte_of.ensures
+          (c.byte_of-h.ensures ∙ sym (unpacked_at m table_at _ (small x))),
     )
 
-returns : tie.Need-returns invariant-loop decreases-loop
-returns c = let e : c.before.loop.k ≡ 8 = omega arith in rw e at c.before.loop.invariant.1
+returns : tie.Need-returns invariant-loop-k decreases-loop-k
+returns c = let e : c.before.loop-k.k ≡ 8 = omega arith in rw e at c.before.loop-k.invariant.1
 
 pub fold_stored_spec : {M : Type 1} → statement M
 fold_stored_spec =
     tie.close
     (tie.spec
-    invariant-loop
-    decreases-loop
+    invariant-loop-k
+    decreases-loop-k
     (λ c. (search rules, begun _ _))
     (λ c κs. search rules)
     (λ c. let l = small c in search rules)

@@ -14,7 +14,7 @@ either_way false false = refl
 
 returns : tie.Need-returns
 unfolding has_own
-returns c = rw (← c.edition.ensures, ← c.before.own-word.ensures) (either_way (eqb c.before.own-word.result 1) (eqb c.edition.result 2))
+returns c = rw (← c.edition.ensures, ← c.before.own_word.ensures) (either_way (eqb c.before.own_word.result 1) (eqb c.edition.result 2))
 
 pub has_own_spec : {M : Type 1} → statement M
 has_own_spec = tie.close (tie.spec (λ c κs. search rules) (λ c κs. search rules) returns)

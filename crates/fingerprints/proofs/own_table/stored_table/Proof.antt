@@ -11,22 +11,22 @@ use Rattle.fingerprints.proofs.Folds.{byte_small}
 use Rattle.fingerprints.proofs.own_table.stored_table.Statement.{statement}
 use Rattle.fingerprints.proofs.own_table.stored_table.Tie as tie
 
-abbrev invariant-loop : tie.invariant-loop
-invariant-loop image table₀ i₀ table i = (i ≤ 256) × FilledTo (λ j. byte (reads image (table_at + j / 8)) (j % 8)) 256 table i
+abbrev invariant-loop-i : tie.invariant-loop-i
+invariant-loop-i image table₀ i₀ table i = (i ≤ 256) × FilledTo (λ j. byte (reads image (table_at + j / 8)) (j % 8)) 256 table i
 
-abbrev decreases-loop : tie.decreases-loop
-decreases-loop image table₀ i₀ table i = 256 - i
+abbrev decreases-loop-i : tie.decreases-loop-i
+decreases-loop-i image table₀ i₀ table i = 256 - i
 
-returns : tie.Need-returns invariant-loop decreases-loop
+returns : tie.Need-returns invariant-loop-i decreases-loop-i
 unfolding unpacked
-returns c = let l = c.before.loop in let e : l.i ≡ 256 = omega arith in filled_all (rw e at l.invariant.1)
+returns c = let l = c.before.loop-i in let e : l.i ≡ 256 = omega arith in filled_all (rw e at l.invariant.1)
 
 pub stored_table_spec : {M : Type 1} → statement M
 stored_table_spec =
     tie.close
     (tie.spec
-    invariant-loop
-    decreases-loop
+    invariant-loop-i
+    decreases-loop-i
     (λ c. (search rules, filled_none (search rules)))
     (λ c. search rules)
     (λ c. search rules)
@@ -38,6 +38,6 @@ stored_table_spec =
     (λ c. search rules)
     (λ c. search rules)
     (λ c.
-    let l = c.before.before.before.loop in
+    let l = c.before.before.before.loop-i in
     (search rules, filled_more refl (omega arith) c.byte_of.ensures l.invariant.1))
     returns)

@@ -5,4 +5,4 @@ use Rattle.pool.proofs.pool_map.free_node.Statement.{statement}
 use Rattle.pool.proofs.pool_map.free_node.Tie as tie
 
 pub free_node_spec : {M : Type 1} → statement M
-free_node_spec = tie.close (tie.spec (λ c κs. search rules) (λ c. c.lowest-unmarked.ensures ∙ free_one _ _))
+free_node_spec = tie.close (tie.spec (λ c κs. search rules) (λ c. c.lowest_unmarked.ensures ∙ free_one _ _))

@@ -11,11 +11,11 @@ use Rattle.pool.proofs.PoolLoops.{run_used, word_full, run_found, run_missing}
 use Rattle.pool.proofs.pool_map.free_run.Statement.{statement}
 use Rattle.pool.proofs.pool_map.free_run.Tie as tie
 
-abbrev invariant-loop : tie.invariant-loop
-invariant-loop pool g k s i₀ i = (i ≤ k) × NoneBelow (λ (q : ℕ). marked (reads pool) (s + q)) i
+abbrev invariant-loop-i : tie.invariant-loop-i
+invariant-loop-i pool g k s i₀ i = (i ≤ k) × NoneBelow (λ (q : ℕ). marked (reads pool) (s + q)) i
 
-abbrev decreases-loop : tie.decreases-loop
-decreases-loop pool g k s i₀ i = k - i
+abbrev decreases-loop-i : tie.decreases-loop-i
+decreases-loop-i pool g k s i₀ i = k - i
 
 abbrev invariant-search : tie.invariant-search
 invariant-search pool g k s₀ s = (s ≤ g.nodes + 64) × NoneBelow (is_free_run g (reads pool) k) s
@@ -24,35 +24,35 @@ abbrev decreases-search : tie.decreases-search
 decreases-search pool g k s₀ s = g.nodes + 64 - s
 
 -- past the full word that starts at s
-search_again : tie.Need-search-preserved invariant-loop decreases-loop invariant-search decreases-search
+search_again : tie.Need-search-preserved-then-pool-s invariant-loop-i decreases-loop-i invariant-search decreases-search
 search_again c =
     let o = c.before.before.before.before.before.search in
-    (search rules, word_full _ _ _ o.s (omega arith) c.before.before.if2.true (eqb-true _ _ c.if3.true) o.invariant.1)
+    (search rules, word_full _ _ _ o.s (omega arith) c.before.before.else-s-eq0.true (eqb-true _ _ c.if-pool-s.true-raw) o.invariant.1)
 
-loop_again : tie.Need-loop-preserved invariant-loop decreases-loop invariant-search decreases-search
-loop_again c = (search rules, below_more _ _ c.before.before.before.loop.invariant.1 (sym c.before.is_used.ensures ∙ c.if5.false))
+loop_again : tie.Need-loop-i-preserved invariant-loop-i decreases-loop-i invariant-search decreases-search
+loop_again c = (search rules, below_more _ _ c.before.before.before.loop-i.invariant.1 (sym c.before.is_used.ensures ∙ c.if-is_used.false))
 
 -- past s, from which a run would have a node that is used
-search_again_2 : tie.Need-search-preserved-2 invariant-loop decreases-loop invariant-search decreases-search
+search_again_2 : tie.Need-search-preserved invariant-loop-i decreases-loop-i invariant-search decreases-search
 search_again_2 c =
-    let l = c.before.before.before.loop in
+    let l = c.before.before.before.loop-i in
     let o = c.before.before.before.before.before.before.before.search in
-    (search rules, below_more _ _ o.invariant.1 (run_used _ _ _ o.s l.i (omega arith) (sym c.before.is_used.ensures ∙ c.if5.true)))
+    (search rules, below_more _ _ o.invariant.1 (run_used _ _ _ o.s l.i (omega arith) (sym c.before.is_used.ensures ∙ c.if-is_used.true)))
 
-returns : tie.Need-returns invariant-loop decreases-loop invariant-search decreases-search
+returns : tie.Need-returns-then-s-k invariant-loop-i decreases-loop-i invariant-search decreases-search
 returns c = let o = c.before.before.search in run_missing _ _ _ o.s (omega arith) o.invariant.1
 
-returns_2 : tie.Need-returns-2 invariant-loop decreases-loop invariant-search decreases-search
+returns_2 : tie.Need-returns-then-i-k invariant-loop-i decreases-loop-i invariant-search decreases-search
 returns_2 c =
     let o = c.before.before.before.before.before.search in
-    run_found _ _ _ o.s (omega arith) o.invariant.1 (λ i b. c.before.loop.invariant.1 i (omega arith))
+    run_found _ _ _ o.s (omega arith) o.invariant.1 (λ i b. c.before.loop-i.invariant.1 i (omega arith))
 
 pub free_run_spec : {M : Type 1} → statement M
 free_run_spec =
     tie.close
     (tie.spec
-    invariant-loop
-    decreases-loop
+    invariant-loop-i
+    decreases-loop-i
     invariant-search
     decreases-search
     (λ c. (search rules, below_none _))

@@ -6,7 +6,7 @@ use Rattle.pool.proofs.pool_map.mark.Tie as tie
 
 returns : tie.Need-returns
 unfolding mark
-returns c = rw c.with-bit.ensures refl
+returns c = rw c.with_bit.ensures refl
 
 pub mark_spec : {M : Type 1} → statement M
 mark_spec =

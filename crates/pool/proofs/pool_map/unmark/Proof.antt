@@ -6,7 +6,7 @@ use Rattle.pool.proofs.pool_map.unmark.Tie as tie
 
 returns : tie.Need-returns
 unfolding unmark
-returns c = rw c.without-bit.ensures refl
+returns c = rw c.without_bit.ensures refl
 
 pub unmark_spec : {M : Type 1} → statement M
 unmark_spec =

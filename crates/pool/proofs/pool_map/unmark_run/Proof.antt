@@ -10,22 +10,22 @@ use Rattle.pool.proofs.PoolLoops.{unmarks, run_none, run_more}
 use Rattle.pool.proofs.pool_map.unmark_run.Statement.{statement}
 use Rattle.pool.proofs.pool_map.unmark_run.Tie as tie
 
-abbrev invariant-loop : tie.invariant-loop
-invariant-loop pool₀ start k i₀ pool i = (i ≤ k) × (length pool ≡ length pool₀) × (pool ≡ unmark_all pool₀ (range start i))
+abbrev invariant-loop-i : tie.invariant-loop-i
+invariant-loop-i pool₀ start k i₀ pool i = (i ≤ k) × (length pool ≡ length pool₀) × (pool ≡ unmark_all pool₀ (range start i))
 
-abbrev decreases-loop : tie.decreases-loop
-decreases-loop pool₀ start k i₀ pool i = k - i
+abbrev decreases-loop-i : tie.decreases-loop-i
+decreases-loop-i pool₀ start k i₀ pool i = k - i
 
-loop_again : tie.Need-loop-preserved invariant-loop decreases-loop
+loop_again : tie.Need-loop-i-preserved invariant-loop-i decreases-loop-i
 loop_again c =
     let b = c.before.before in
-    let l = b.before.before.before.loop in
+    let l = b.before.before.before.loop-i in
     let a = b.before.before.before.before.before.args in
     (search rules, b.unmark.auto.0 ∙ l.invariant.1, b.unmark.ensures ∙ ap (λ (p : List ℕ). unmark p (a.start + l.i)) l.invariant.2 ∙ run_more unmarks _ _ _)
 
-returns : tie.Need-returns invariant-loop decreases-loop
+returns : tie.Need-returns invariant-loop-i decreases-loop-i
 returns c =
-    let l = c.before.loop in
+    let l = c.before.loop-i in
     let a = c.before.before.before.args in
     let e : l.i ≡ a.k = omega arith in
     l.invariant.2 ∙ ap (λ (i : ℕ). unmark_all a.pool.now (range a.start i)) e
@@ -34,8 +34,8 @@ pub unmark_run_spec : {M : Type 1} → statement M
 unmark_run_spec =
     tie.close
     (tie.spec
-    invariant-loop
-    decreases-loop
+    invariant-loop-i
+    decreases-loop-i
     (λ c. (search rules, refl, run_none unmarks _ _))
     (λ c. search rules)
     (λ c κs. search rules)

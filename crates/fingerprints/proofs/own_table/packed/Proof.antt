@@ -19,7 +19,7 @@ entry : (c : tie.After-shared_slice_known-in-loop-k-1 invariant-loop-k decreases
     → get_or c.before.before.before.before.args.table.now (8 * c.before.before.before.before.args.j + c.before.before.loop-k.k) 0 < 256
 entry c = (c.shared_slice_known-in-loop-k-1.given _).fits
 
-cast : tie.Need-overflow-cast-with-byte-2 invariant-loop-k decreases-loop-k
+cast : tie.Need-overflow_cast-table invariant-loop-k decreases-loop-k
 cast c = let l = entry c in search rules
 
 loop_holds : tie.Need-loop-k-init invariant-loop-k decreases-loop-k

@@ -3,18 +3,18 @@ use borrow.Author.Rules.{rules}
 use Rattle.nodes.proofs.node.children_inside.Statement.{statement}
 use Rattle.nodes.proofs.node.children_inside.Tie as tie
 
-returns : tie.Need-returns
-returns c = let a = c.before.args in no_children a.nodes a.depth a.next c.if1.true
+returns : tie.Need-returns-then-next-eq0
+returns c = let a = c.before.args in no_children a.nodes a.depth a.next c.if-next-eq0.true
 
-returns_2 : tie.Need-returns-2
+returns_2 : tie.Need-returns-then-nodes-before
 returns_2 c =
     let a = c.before.before.args in
-    children_past a.nodes a.depth a.next c.before.if1.false c.if2.true
+    children_past a.nodes a.depth a.next c.before.if-next-eq0.false c.if-nodes-before.true
 
-returns_3 : tie.Need-returns-3
+returns_3 : tie.Need-returns
 returns_3 c =
     let a = c.before.before.before.args in
-    children_within a.nodes a.depth a.next c.before.before.if1.false c.before.if2.false c.fanout.ensures
+    children_within a.nodes a.depth a.next c.before.before.if-next-eq0.false c.before.if-nodes-before.false c.fanout.ensures
 
 pub children_inside_spec : {M : Type 1} → statement M
 children_inside_spec = tie.close (tie.spec returns (λ c. search rules) returns_2 (λ c κs. search rules) (λ c. search rules) returns_3)

@@ -9,12 +9,12 @@ pub small_root_spec : {M : Type 1} → statement M
 small_root_spec =
     tie.close
     (tie.spec
-    (λ c. rw (ne_eqb c.before.args.depth 0 c.if1.true) refl)
-    (λ c. small_size_lem _ c.if2.true)
-    (λ c. small_size_lem _ c.if2.true)
+    (λ c. rw (ne_eqb c.before.args.depth 0 c.if-depth-ne0.true) refl)
+    (λ c. small_size_lem _ c.if-size.true)
+    (λ c. small_size_lem _ c.if-size.true)
     (λ c.
     let a = c.before.before.args in
     let locates = shifted_out a.locate a.size in
     let sets = shifted_out a.set a.size in
-    rw (eq-eqb a.depth 0 c.before.if1.false, c.if2.true, locates, sets, and_assoc) refl)
-    (λ c. rw (eq-eqb c.before.before.args.depth 0 c.before.if1.false, c.if2.false) refl))
+    rw (eq-eqb a.depth 0 c.before.if-depth-ne0.false, c.if-size.true, locates, sets, and_assoc) refl)
+    (λ c. rw (eq-eqb c.before.before.args.depth 0 c.before.if-depth-ne0.false, c.if-size.false) refl))

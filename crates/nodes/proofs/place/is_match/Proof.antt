@@ -14,5 +14,5 @@ is_match_spec =
     (λ c.
     let start = c.before.before.before in
     let a = start.args in
-    match_held a.g (readsWords a.image.now) a.frame a.n a.p start.requires.3 c.frame-of.ensures start.requires.4
+    match_held a.g (readsWords a.image.now) a.frame a.n a.p start.requires.3 c.frame_of.ensures start.requires.4
     c.before.is_set.ensures))

@@ -11,30 +11,30 @@ use mathlib.Core.Bool.{not}
 use Rattle.nodes.proofs.reels.empty_slot.Statement.{statement}
 use Rattle.nodes.proofs.reels.empty_slot.Tie as tie
 
-abbrev invariant-loop : tie.invariant-loop
-invariant-loop image g s₀ s = NoneBelow (λ (k : ℕ). not (filled (readsWords image) k)) s × (s ≤ g.slots)
+abbrev invariant-loop-s : tie.invariant-loop-s
+invariant-loop-s image g s₀ s = NoneBelow (λ (k : ℕ). not (filled (readsWords image) k)) s × (s ≤ g.slots)
 
-abbrev decreases-loop : tie.decreases-loop
-decreases-loop image g s₀ s = g.slots - s
+abbrev decreases-loop-s : tie.decreases-loop-s
+decreases-loop-s image g s₀ s = g.slots - s
 
-returns : tie.Need-returns invariant-loop decreases-loop
+returns : tie.Need-returns-then-not-is_filled invariant-loop-s decreases-loop-s
 unfolding empty_slot
-returns c = (first_laws _ _).stops _ (search rules) c.before.before.before.before.loop.invariant.0 (λ l. ap not (sym c.before.is-filled.ensures) ∙ c.if2.true)
+returns c = (first_laws _ _).stops _ (search rules) c.before.before.before.before.loop-s.invariant.0 (λ l. ap not (sym c.before.is_filled.ensures) ∙ c.if-not-is_filled.true-raw)
 
-returns_2 : tie.Need-returns-2 invariant-loop decreases-loop
+returns_2 : tie.Need-returns invariant-loop-s decreases-loop-s
 unfolding empty_slot
-returns_2 c = (first_laws _ _).stops _ (search rules) c.before.before.loop.invariant.0 (λ l. absurd (omega arith))
+returns_2 c = (first_laws _ _).stops _ (search rules) c.before.before.loop-s.invariant.0 (λ l. absurd (omega arith))
 
 pub empty_slot_spec : {M : Type 1} → statement M
 empty_slot_spec =
     tie.close
     (tie.spec
-    invariant-loop
-    decreases-loop
+    invariant-loop-s
+    decreases-loop-s
     (λ c. (below_none _, search rules))
     (λ c κs. search rules)
     returns
     (λ c. search rules)
     (λ c. search rules)
-    (λ c. (below_more _ _ c.before.before.before.before.loop.invariant.0 (ap not (sym c.before.is-filled.ensures) ∙ c.if2.false), search rules))
+    (λ c. (below_more _ _ c.before.before.before.before.loop-s.invariant.0 (ap not (sym c.before.is_filled.ensures) ∙ c.if-not-is_filled.false-raw), search rules))
     returns_2)

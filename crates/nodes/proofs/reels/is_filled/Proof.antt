@@ -6,7 +6,7 @@ use Rattle.nodes.proofs.reels.is_filled.Tie as tie
 
 returns : tie.Need-returns
 unfolding filled
-returns c = rw c.root-of.ensures refl
+returns c = rw c.root_of.ensures refl
 
 pub is_filled_spec : {M : Type 1} → statement M
 is_filled_spec = tie.close (tie.spec (λ c κs. search rules) returns)

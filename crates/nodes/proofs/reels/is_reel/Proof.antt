@@ -9,6 +9,6 @@ is_reel_spec =
     tie.close
     (tie.spec
     (λ c κs. search rules)
-    (λ c. rw (← c.before.reel-of.ensures, ne_eqb _ _ c.if1.true, and-false))
+    (λ c. rw (← c.before.reel_of.ensures, ne_eqb _ _ c.if-reel_of-reel.true, and-false))
     (λ c κs. search rules)
-    (λ c. rw (← c.before.before.reel-of.ensures, eq-eqb _ _ c.before.if1.false, and-true) c.is-filled.ensures))
+    (λ c. rw (← c.before.before.reel_of.ensures, eq-eqb _ _ c.before.if-reel_of-reel.false, and-true) c.is_filled.ensures))

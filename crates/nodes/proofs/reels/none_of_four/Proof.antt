@@ -20,5 +20,5 @@ none_of_four_spec =
     let second = third.before in
     let first = second.before in
     let a = first.before.before.args in
-    in_four (readsWords a.image.now) a.s a.reel first.reel-of.ensures second.reel-of2.ensures third.reel-of3.ensures
-    c.reel-of4.ensures))
+    in_four (readsWords a.image.now) a.s a.reel first.reel_of.ensures second.reel_of-2.ensures third.reel_of-3.ensures
+    c.reel_of-4.ensures))

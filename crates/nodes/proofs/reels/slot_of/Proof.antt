@@ -12,31 +12,31 @@ use Rattle.tree.specs.Layout.{reel_at}
 use Rattle.nodes.proofs.reels.slot_of.Statement.{statement}
 use Rattle.nodes.proofs.reels.slot_of.Tie as tie
 
-abbrev invariant-loop : tie.invariant-loop
-invariant-loop image g reel s₀ s = NoneBelow (λ (k : ℕ). holds (is (filled (readsWords image) k) and eq (readsWords image (reel_at k)) reel)) s × (s ≤ g.slots)
+abbrev invariant-loop-s : tie.invariant-loop-s
+invariant-loop-s image g reel s₀ s = NoneBelow (λ (k : ℕ). holds (is (filled (readsWords image) k) and eq (readsWords image (reel_at k)) reel)) s × (s ≤ g.slots)
 
-abbrev decreases-loop : tie.decreases-loop
-decreases-loop image g reel s₀ s = g.slots - s
+abbrev decreases-loop-s : tie.decreases-loop-s
+decreases-loop-s image g reel s₀ s = g.slots - s
 
-returns : tie.Need-returns invariant-loop decreases-loop
+returns : tie.Need-returns-then-is_reel invariant-loop-s decreases-loop-s
 unfolding slot_of
-returns c = (first_laws _ _).stops _ (search rules) c.before.before.before.before.loop.invariant.0 (λ l. sym c.before.is_reel.ensures ∙ c.if2.true)
+returns c = (first_laws _ _).stops _ (search rules) c.before.before.before.before.loop-s.invariant.0 (λ l. sym c.before.is_reel.ensures ∙ c.if-is_reel.true)
 
-returns_2 : tie.Need-returns-2 invariant-loop decreases-loop
+returns_2 : tie.Need-returns invariant-loop-s decreases-loop-s
 unfolding slot_of
-returns_2 c = (first_laws _ _).stops _ (search rules) c.before.before.loop.invariant.0 (λ l. absurd (omega arith))
+returns_2 c = (first_laws _ _).stops _ (search rules) c.before.before.loop-s.invariant.0 (λ l. absurd (omega arith))
 
 pub slot_of_spec : {M : Type 1} → statement M
 slot_of_spec =
     tie.close
     (tie.spec
-    invariant-loop
-    decreases-loop
+    invariant-loop-s
+    decreases-loop-s
     (λ c κs. search rules)
-    (λ c. (c.passed-in-eights.ensures.1, c.passed-in-eights.ensures.0))
+    (λ c. (c.passed_in_eights-s.ensures.1, c.passed_in_eights-s.ensures.0))
     (λ c κs. search rules)
     returns
     (λ c. search rules)
     (λ c. search rules)
-    (λ c. (below_more _ _ c.before.before.before.before.loop.invariant.0 (sym c.before.is_reel.ensures ∙ c.if2.false), search rules))
+    (λ c. (below_more _ _ c.before.before.before.before.loop-s.invariant.0 (sym c.before.is_reel.ensures ∙ c.if-is_reel.false), search rules))
     returns_2)

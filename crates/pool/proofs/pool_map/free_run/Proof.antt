@@ -27,7 +27,7 @@ decreases-search pool g k s₀ s = g.nodes + 64 - s
 search_again : tie.Need-search-preserved-then-pool-s invariant-loop-i decreases-loop-i invariant-search decreases-search
 search_again c =
     let o = c.before.before.before.before.before.search in
-    (search rules, word_full _ _ _ o.s (omega arith) c.before.before.else-s-eq0.true (eqb-true _ _ c.if-pool-s.true-raw) o.invariant.1)
+    (search rules, word_full _ _ _ o.s (omega arith) c.before.before.if-s-eq0.true (eqb-true _ _ c.if-pool-s.true-raw) o.invariant.1)
 
 loop_again : tie.Need-loop-i-preserved invariant-loop-i decreases-loop-i invariant-search decreases-search
 loop_again c = (search rules, below_more _ _ c.before.before.before.loop-i.invariant.1 (sym c.before.is_used.ensures ∙ c.if-is_used.false))

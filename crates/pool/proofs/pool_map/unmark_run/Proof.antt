@@ -21,7 +21,7 @@ loop_again c =
     let b = c.before.before in
     let l = b.before.before.before.loop-i in
     let a = b.before.before.before.before.before.args in
-    (search rules, b.unmark.auto.0 ∙ l.invariant.1, b.unmark.ensures ∙ ap (λ (p : List ℕ). unmark p (a.start + l.i)) l.invariant.2 ∙ run_more unmarks _ _ _)
+    (search rules, b.unmark.auto.pool ∙ l.invariant.1, b.unmark.ensures ∙ ap (λ (p : List ℕ). unmark p (a.start + l.i)) l.invariant.2 ∙ run_more unmarks _ _ _)
 
 returns : tie.Need-returns invariant-loop-i decreases-loop-i
 returns c =

@@ -183,7 +183,7 @@ module _ (steps : Steps) where
 
   -- ---- histories
 
-  pub agreed : {s : State} {t : Table} {on : Module} → Follows on s t → Agrees s t
+  pub agreed : {on : Module} {s : State} {t : Table} → Follows on s t → Agrees s t
   agreed (started (formatted words table slots nodes s fit h)) = format_agrees words table slots nodes s fit h
   agreed (started (found {t = t} v r)) = whole t (seen v) r
   agreed (performed f op fit) = done_agrees (agreed f) op fit

@@ -86,6 +86,7 @@ module _ {g : Geometry} {m m' : Memory} where
 -- a head that is about a target has a claim to it
 pub about_claim : {g : Geometry} {m : Memory} {x : HeadState} {y : TableHead} {t : Target} → HeadAgrees g m x y → About t x
     → (reel : ℕ) × (f : ℕ) × Claims g m t reel f
+about_claim both_idle x = elim x [ ]
 about_claim (both_claimed {reel = r} {f = f} c) by_claim = (r, f, c)
 about_claim (both_filled {reel = r} {f = f} c w) by_fill = (r, f, c)
 

@@ -72,7 +72,7 @@ module _ {i : ℕ} (low : i < 64) where
   segment_avoids : (seg : List Store) → Each Past seg → Avoids i (stores seg)
   segment_avoids seg e v x = let t = each_at Past seg e (segment_laws.stored seg i v x) in omega arith
 
-  falls : {m m' : List ℕ} {segs : List (List Store)} → Each (Each Past) segs → FallsIn m' m segs → reads m' i ≡ reads m i
+  falls : {m' m : List ℕ} {segs : List (List Store)} → Each (Each Past) segs → FallsIn m' m segs → reads m' i ≡ reads m i
   falls e (after_all q) = ap (λ im. reads im i) q
   falls e (here {seg = seg} t) = elim (t.each i) [ inl q ↦ q | inr x ↦ let y = each_at Past seg e.0 x in absurd (omega arith) ]
   falls e (later {m = m} {seg = seg} x) = falls e.1 x ∙ apply_laws.avoided m (stores seg) i (segment_avoids seg e.0)
@@ -91,7 +91,7 @@ cut {op} {s} c i l =
 recovery_unsteady : {words n : ℕ} → Steady (recover words) n → ⊥
 recovery_unsteady u = elim u [ ]
 
-attempted : {m m' : List ℕ} {on : Module} → Attempts on m m' → SameHeader (reads m) (reads m')
+attempted : {on : Module} {m m' : List ℕ} → Attempts on m m' → SameHeader (reads m) (reads m')
 attempted none_yet i l = refl
 attempted (refused words s q z a) i l = ap (λ im. reads im i) (sym q) ∙ kept (recover words) s recovery_unsteady i l ∙ attempted a i l
 attempted (interrupted words s k q c a) i l = ap (λ im. reads im i) (sym q) ∙ cut c i l ∙ attempted a i l

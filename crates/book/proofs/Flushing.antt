@@ -3,7 +3,7 @@ use mathlib.Core.Path.{◌≡◌, sym, ◌∙◌, ap}
 use mathlib.Core.Logic.{inl, inr}
 use mathlib.Core.List.{List}
 use Prim.Native.Nat.{ℕ}
-use Rattle.tree.specs.Memory.{reads, stores, segmented, Module, plain, ours_on}
+use Rattle.tree.specs.Memory.{reads, segmented, Module, plain, ours_on}
 use Rattle.tree.specs.Recovery.{recover_stores}
 use Rattle.tree.proofs.Memory.{crash_laws, translator_laws, own_writes_laws, module_laws}
 use Rattle.book.specs.State.{State, Operation, recover, memory, shape}

@@ -17,7 +17,7 @@ use Rattle.book.specs.Heads.{head_at, is_idle, busy}
 use Rattle.book.specs.State.{State, Operation, claim, remove, retire, tidy, memory, shape}
 use Rattle.book.specs.Checks.{no_run_for, in_conflict}
 use Rattle.book.specs.Table.{Table, TableHead, table_head, frame_of, is_about, is_taken}
-use Rattle.book.specs.Agrees.{About, by_claim, by_fill, HeadAgrees, both_claimed, both_filled, Agrees}
+use Rattle.book.specs.Agrees.{About, by_claim, by_fill, HeadAgrees, both_idle, both_claimed, both_filled, Agrees}
 use Rattle.book.specs.Ways.{SlotHas, UsesOf, HeadNames, InTheWay, same_frame, same_node, of_remove, of_retire, of_tidy}
 use Rattle.book.proofs.Heads.{idle_nothing, names_about, any_table_head_lem}
 use Rattle.book.proofs.Reading.{one_slot, path_there, same_names}
@@ -27,6 +27,7 @@ use Rattle.book.proofs.Conflicts.{busy_by, conflict_by}
 
 -- a head's frame is the table's
 same_frames : {g : Geometry} {m : Memory} {x : HeadState} {y : TableHead} {z : Target} → HeadAgrees g m x y → About z x → z.frame ≡ frame_of y
+same_frames both_idle x = elim x [ ]
 same_frames (both_claimed c) by_claim = c.of_frame
 same_frames (both_filled c w) by_fill = c.of_frame
 

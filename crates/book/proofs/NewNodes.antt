@@ -5,7 +5,7 @@ use mathlib.Core.Logic.{◌⊎◌, inl, inr}
 use mathlib.Core.List.{List, [], ◌∷◌, flat_map, Memᴰ}
 use Prim.Native.Nat.{ℕ, zero, suc, ◌+◌, ◌^◌, ◌≤◌, ◌<◌}
 use native.Mathlib.Omega.{arith}
-use lib.ListN.{get_or, set}
+use lib.ListN.{get_or}
 use Rattle.tree.specs.Memory.{Memory, reads, Store, stores, apply, Torn}
 use Rattle.tree.specs.declared.layout.Geometry.{Geometry}
 use Rattle.tree.specs.Layout.{node_at, next_at, locate_at, set_at, level_at, size_at}
@@ -42,6 +42,7 @@ module _ (g : Geometry) (level size : ℕ) where
       record { number = 3; low = omega arith; index = ap (λ (s : Store). s.0) q; value = ap (λ (s : Store). s.1) q }
   word_of (Memᴰ.tail (Memᴰ.tail (Memᴰ.tail (Memᴰ.tail (Memᴰ.head q))))) =
       record { number = 4; low = omega arith; index = ap (λ (s : Store). s.0) q; value = ap (λ (s : Store). s.1) q }
+  word_of (Memᴰ.tail (Memᴰ.tail (Memᴰ.tail (Memᴰ.tail (Memᴰ.tail x))))) = elim x [ ]
 
   -- no word is stored to with two values
   one_value : {n n' i u v : ℕ} → WordOf n i v → WordOf n' i u → u ≡ v

@@ -76,7 +76,7 @@ recovered_held words r =
 interrupted_held : {on : Module} (words : ℕ) (r : State) (k : ℕ) (m : List ℕ) → Interrupted on (recover words) r k m → Held r.image m
 interrupted_held words r k m c = held_mended (interrupted_mended words r k m c).1
 
-pub attempts_held : {m m' : List ℕ} {on : Module} → Attempts on m m' → Held m m'
+pub attempts_held : {on : Module} {m m' : List ℕ} → Attempts on m m' → Held m m'
 attempts_held none_yet = held_same refl
 attempts_held (refused words s q h a) = held_on (held_same q) (held_on (recovered_held words s) (attempts_held a))
 attempts_held (interrupted words s k q c a) = held_on (held_same q) (held_on (interrupted_held words s k _ c) (attempts_held a))

@@ -4,7 +4,7 @@ use mathlib.Core.Path.{◌≡◌, refl, sym, ◌∙◌, ap, ap₂}
 use mathlib.Core.Bool.{Bool, false, cond}
 use mathlib.Core.Logic.{inl, inr, ◌↔◌}
 use mathlib.Core.List.Memᴰ
-use mathlib.Core.List.{List, [], ◌∷◌, map, Memᴰ}
+use mathlib.Core.List.{List, [], ◌∷◌, Memᴰ}
 use Prim.Native.Nat.{ℕ, ◌<◌}
 use native.Mathlib.Omega.{arith}
 use native.Mathlib.Decide.{ℕ_discrete}
@@ -12,7 +12,7 @@ use lib.ListN.{length}
 use lib.Dec.{eqb}
 use borrow.Author.Tests.{eqb-true, eqb-false, ne_eqb, not-true, not-false}
 use Rattle.tree.specs.Memory.{Memory, reads, Store, stores, apply, Module}
-use Rattle.tree.specs.Test.{is, holds}
+use Rattle.tree.specs.Test.{holds}
 use Rattle.tree.specs.declared.layout.Geometry.{Geometry}
 use Rattle.tree.specs.Layout.{bad_image, in_range, map_words, geometry_of, locate_at, set_at, bad_edition}
 use Rattle.tree.specs.Fingerprint.{Rule, rule_of, bad_own}
@@ -207,7 +207,7 @@ module _ {g : Geometry} {o : Bool} {rs : List Reel} where
       let q = done_granted (recover words) r h ∙ ap carried_out (granted_recover words r) ∙ carried_leaving _ in
       rw (q, v.header.geometry) (agrees_settled (settled_image r.image v))
 
-  pub attempts_view : {m m' : List ℕ} {on : Module} → Attempts on m m' → View g o m rs → View g o m' rs
+  pub attempts_view : {on : Module} {m m' : List ℕ} → Attempts on m m' → View g o m rs → View g o m' rs
   attempts_view none_yet v = v
   attempts_view (refused words s q h a) v =
       attempts_view a (rw (done_image (recover words) s h ∙ q) v)

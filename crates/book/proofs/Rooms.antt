@@ -112,7 +112,7 @@ way_up : {g : Geometry} {m : Memory} {slot n : ℕ} (f d : ℕ) → Reaches g m 
 unfolding way_of
 way_up f d (down {p = p} r k l e) = (p, r, k)
 
-pub way_ends : {g : Geometry} {m : Memory} {slot n n' : ℕ} (f d k : ℕ) → Reaches g m slot (way_of d f) n → m (next_at g n) ≡ 0
+pub way_ends : {g : Geometry} {m : Memory} {slot n : ℕ} (f d k : ℕ) {n' : ℕ} → Reaches g m slot (way_of d f) n → m (next_at g n) ≡ 0
     → Reaches g m slot (way_of k f) n' → k ≤ d
 way_ends f d zero r e r' = omega arith
 way_ends {g} {m} f d (suc k) r e r' =

@@ -70,7 +70,7 @@ recovered_nodes words r =
 pub interrupted_nodes : {on : Module} (words : ℕ) (r : State) (k : ℕ) (m : List ℕ) → Interrupted on (recover words) r k m → SameNodes r.image m
 interrupted_nodes words r k m c = mended_nodes (interrupted_mended words r k m c).1
 
-attempts_nodes : {m m' : List ℕ} {on : Module} → Attempts on m m' → SameNodes m m'
+attempts_nodes : {on : Module} {m m' : List ℕ} → Attempts on m m' → SameNodes m m'
 attempts_nodes {m} none_yet = nodes_itself m
 attempts_nodes (refused words s q h a) = nodes_on (nodes_equal q) (nodes_on (recovered_nodes words s) (attempts_nodes a))
 attempts_nodes (interrupted words s k q c a) = nodes_on (nodes_equal q) (nodes_on (interrupted_nodes words s k _ c) (attempts_nodes a))

@@ -2,7 +2,7 @@
 use mathlib.Core.Path.{◌≡◌, refl, ap}
 use mathlib.Core.Logic.{inl, inr}
 use mathlib.Core.List.Memᴰ
-use mathlib.Core.List.{[], ◌∷◌, map, flat_map, Memᴰ}
+use mathlib.Core.List.{[], ◌∷◌, flat_map, Memᴰ}
 use Prim.Native.Nat.{ℕ, ◌+◌, ◌^◌, ◌<◌}
 use native.Mathlib.Omega.{arith}
 use Rattle.tree.specs.Memory.{Store, Fit}

@@ -8,39 +8,39 @@ use Rattle.conversion.proofs.Words.{all_written}
 use Rattle.conversion.proofs.conversion.convert_image.Statement.{statement}
 use Rattle.conversion.proofs.conversion.convert_image.Tie as tie
 
-abbrev invariant-loop : tie.invariant-loop
-invariant-loop image marks copy₀ g other table n₀ copy n = (n ≤ g.nodes) × WrittenTo other g image copy (node_at g n)
+abbrev invariant-loop-n : tie.invariant-loop-n
+invariant-loop-n image marks copy₀ g other table n₀ copy n = (n ≤ g.nodes) × WrittenTo other g image copy (node_at g n)
 
-abbrev decreases-loop : tie.decreases-loop
-decreases-loop image marks copy₀ g other table n₀ copy n = g.nodes - n
+abbrev decreases-loop-n : tie.decreases-loop-n
+decreases-loop-n image marks copy₀ g other table n₀ copy n = g.nodes - n
 
-loop_holds : tie.Need-loop-init invariant-loop decreases-loop
+loop_holds : tie.Need-loop-n-init invariant-loop-n decreases-loop-n
 loop_holds c =
     let slots = c.before.before in
     let header = slots.before.before.before.before in
-    (search rules, slots.put-slots.ensures _ (header.put-header.ensures _))
+    (search rules, slots.put_slots.ensures _ (header.put_header.ensures _))
 
-put_node_requires : tie.Need-put-node-requires invariant-loop decreases-loop
+put_node_requires : tie.Need-put_node-requires invariant-loop-n decreases-loop-n
 put_node_requires c κs =
     let l = c.before.before.before.before in
     let table = l.before.before.before.before.before.before.before.before.before in
     let start = table.before.before.before.before.before.before in
-    (start.requires.0, start.requires.3, table.table.ensures, c.before.before.if1.true, l.loop.invariant.1)
+    (start.requires.0, start.requires.3, table.table-table.ensures, c.before.before.loop-n-test.true, l.loop-n.invariant.1)
 
-returns : tie.Need-returns invariant-loop decreases-loop
+returns : tie.Need-returns invariant-loop-n decreases-loop-n
 returns c =
     let l = c.before.before in
     let other = l.before.before.before.before.before.before.before.before.before.before in
     let start = other.before.before.before.before.before in
-    all_written _ _ start.requires.1 other.other_edition_lem.ensures other.before.edition.ensures
-    (filled_to (omega arith) l.loop.invariant.1)
+    all_written _ _ start.requires.1 other.other_edition-other.ensures other.before.edition.ensures
+    (filled_to (omega arith) l.loop-n.invariant.1)
 
 pub convert_image_spec : {M : Type 1} → statement M
 convert_image_spec =
     tie.close
     (tie.spec
-    invariant-loop
-    decreases-loop
+    invariant-loop-n
+    decreases-loop-n
     (λ c κs. search rules)
     (λ c κs. search rules)
     (λ c κs. search rules)
@@ -51,6 +51,6 @@ convert_image_spec =
     put_node_requires
     (λ c. search rules)
     (λ c. search rules)
-    (λ c. (search rules, filled_to (omega arith) c.before.before.put-node.ensures))
+    (λ c. (search rules, filled_to (omega arith) c.before.before.put_node.ensures))
     (λ c. search rules)
     returns)

@@ -17,5 +17,5 @@ new_print_spec =
     (λ c κs. search rules)
     (λ c.
     let pre = c.before.before.before.before.before.before.requires in
-    print_made pre.1 _ c.before.is_set.ensures _ pre.2 c.before.before.before.frame-of.ensures
-    c.before.before.fold-for.ensures c.or-zero.ensures))
+    print_made pre.1 _ c.before.is_set.ensures _ pre.2 c.before.before.before.frame_of.ensures
+    c.before.before.fold_for-print.ensures c.or_zero.ensures))

@@ -14,11 +14,11 @@ returns c e w =
     let sized = c.before.before.before.before in
     let levelled = sized.before in
     let linked = levelled.before in
-    let at = linked.before.Node-at.ensures in
+    let at = linked.before.node_at-at.ensures in
     let r = linked.before.before.before.before.requires.1 in
     filled_to (omega arith)
-    (c.before.before.put-zeros.ensures _ _ (zeros_within (omega arith) (omega arith) (spare_words e _ _ r _ at))
-    (filled_more (omega arith) (omega arith) (reached_word e _ _ r 4 _ (omega arith) (omega arith) sized.word-of2.ensures)
+    (c.before.before.put_zeros.ensures _ _ (zeros_within (omega arith) (omega arith) (spare_words e _ _ r _ at))
+    (filled_more (omega arith) (omega arith) (reached_word e _ _ r 4 _ (omega arith) (omega arith) sized.word_of-2.ensures)
     (filled_more (omega arith) (omega arith) (reached_word e _ _ r 3 _ (omega arith) (omega arith) levelled.word_of.ensures)
     (filled_more (omega arith) (omega arith) (reached_word e _ _ r 2 _ (omega arith) (omega arith) r.set_word)
     (filled_more (omega arith) (omega arith) (reached_word e _ _ r 1 _ (omega arith) (omega arith) r.set_word)
@@ -50,5 +50,5 @@ put_head_spec =
     (λ c. search rules)
     (λ c. search rules)
     (λ c κs. (search rules, simp length-set (search rules)))
-    (λ c. c.before.before.put-zeros.auto.0 ∙ simp length-set)
+    (λ c. c.before.before.put_zeros.auto.copy ∙ simp length-set)
     returns)

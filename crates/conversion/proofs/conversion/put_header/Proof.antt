@@ -12,7 +12,7 @@ returns : tie.Need-returns
 unfolding new_header
 returns c g =
     let start = c.before.before.before.before.before.before.before.before in
-    c.before.before.put-zeros.ensures _ _ (zeros_within (omega arith) (omega arith) (header_rest _ g _))
+    c.before.before.put_zeros.ensures _ _ (zeros_within (omega arith) (omega arith) (header_rest _ g _))
     (filled_more (omega arith) (omega arith) (header_word _ g _ 2 (omega arith) refl)
     (filled_more refl (omega arith) (header_word _ g _ 1 (omega arith) refl)
     (filled_more {xs = start.args.copy.now} refl (omega arith) (header_word _ g _ 0 (omega arith) refl)
@@ -28,5 +28,5 @@ put_header_spec =
     (λ c. search rules)
     (λ c. simp length-set (omega arith))
     (λ c κs. (search rules, simp length-set (omega arith)))
-    (λ c. c.before.before.put-zeros.auto.0 ∙ simp length-set)
+    (λ c. c.before.before.put_zeros.auto.copy ∙ simp length-set)
     returns)

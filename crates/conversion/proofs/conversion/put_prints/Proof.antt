@@ -7,27 +7,27 @@ use Rattle.conversion.proofs.Words.{prints_word}
 use Rattle.conversion.proofs.conversion.put_prints.Statement.{statement}
 use Rattle.conversion.proofs.conversion.put_prints.Tie as tie
 
-abbrev invariant-loop : tie.invariant-loop
-invariant-loop image table copy₀ g edition n set at j₀ copy j = (j ≤ 8) × WrittenTo edition g image copy (at + j)
+abbrev invariant-loop-j : tie.invariant-loop-j
+invariant-loop-j image table copy₀ g edition n set at j₀ copy j = (j ≤ 8) × WrittenTo edition g image copy (at + j)
 
-abbrev decreases-loop : tie.decreases-loop
-decreases-loop image table copy₀ g edition n set at j₀ copy j = 8 - j
+abbrev decreases-loop-j : tie.decreases-loop-j
+decreases-loop-j image table copy₀ g edition n set at j₀ copy j = 8 - j
 
-loop_again : tie.Need-loop-preserved invariant-loop decreases-loop
+loop_again : tie.Need-loop-j-preserved invariant-loop-j decreases-loop-j
 loop_again c =
-    let l = c.before.before.loop in
+    let l = c.before.before.loop-j in
     let pre = c.before.before.before.before.before.before.before.requires in (
       search rules,
       filled_more (omega arith) (search rules)
-          (prints_word _ _ _ pre.1 _ l.j c.before.loop-test.true (omega arith) c.new_prints.ensures) l.invariant.1,
+          (prints_word _ _ _ pre.1 _ l.j c.before.loop-j-test.true (omega arith) c.new_prints.ensures) l.invariant.1,
     )
 
 pub put_prints_spec : {M : Type 1} → statement M
 put_prints_spec =
     tie.close
     (tie.spec
-    invariant-loop
-    decreases-loop
+    invariant-loop-j
+    decreases-loop-j
     (λ c κs. search rules)
     (λ c. search rules)
     (λ c. (search rules, filled_to (omega arith) c.before.before.before.before.requires.3))
@@ -39,4 +39,4 @@ put_prints_spec =
     (λ c. search rules)
     loop_again
     (λ c. search rules)
-    (λ c. filled_to (omega arith) c.before.loop.invariant.1))
+    (λ c. filled_to (omega arith) c.before.loop-j.invariant.1))

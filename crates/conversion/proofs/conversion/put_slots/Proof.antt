@@ -10,37 +10,37 @@ use Rattle.conversion.proofs.Words.{slot_reel, slot_root}
 use Rattle.conversion.proofs.conversion.put_slots.Statement.{statement}
 use Rattle.conversion.proofs.conversion.put_slots.Tie as tie
 
-abbrev invariant-loop : tie.invariant-loop
-invariant-loop image copy₀ g s₀ copy s =
+abbrev invariant-loop-s : tie.invariant-loop-s
+invariant-loop-s image copy₀ g s₀ copy s =
     (s ≤ g.slots)
     × (length copy ≡ length image)
     × ((e : ℕ) → WrittenTo e g image copy₀ 64 → WrittenTo e g image copy (reel_at s))
 
-abbrev decreases-loop : tie.decreases-loop
-decreases-loop image copy₀ g s₀ copy s = g.slots - s
+abbrev decreases-loop-s : tie.decreases-loop-s
+decreases-loop-s image copy₀ g s₀ copy s = g.slots - s
 
-loop_again : tie.Need-loop-preserved invariant-loop decreases-loop
+loop_again : tie.Need-loop-s-preserved invariant-loop-s decreases-loop-s
 loop_again c =
     let reel = c.before in
     let root = reel.before.before.before in
-    let l = root.before.before.before.loop in
-    let low = root.before.if1.true in (
+    let l = root.before.before.before.loop-s in
+    let low = root.before.loop-s-test.true in (
       search rules,
       simp length-set l.invariant.1,
       λ e w.
-          filled_more (omega arith) (omega arith) (slot_root e _ _ l.s low root.root-of.ensures _ c.root-at.ensures)
+          filled_more (omega arith) (omega arith) (slot_root e _ _ l.s low root.root_of-root.ensures _ c.root_at.ensures)
           (filled_more (omega arith) (omega arith)
-          (slot_reel e _ _ l.s low root.root-of.ensures _ reel.reel-at.ensures reel.before.before.reel-of.ensures
-          reel.before.or-zero.ensures)
-          (filled_to reel.reel-at.ensures (l.invariant.2 e w))),
+          (slot_reel e _ _ l.s low root.root_of-root.ensures _ reel.reel_at.ensures reel.before.before.reel_of.ensures
+          reel.before.or_zero.ensures)
+          (filled_to reel.reel_at.ensures (l.invariant.2 e w))),
     )
 
 pub put_slots_spec : {M : Type 1} → statement M
 put_slots_spec =
     tie.close
     (tie.spec
-    invariant-loop
-    decreases-loop
+    invariant-loop-s
+    decreases-loop-s
     (λ c. (search rules, search rules, λ e w. filled_to (omega arith) w))
     (λ c κs. search rules)
     (λ c κs. search rules)
@@ -55,4 +55,4 @@ put_slots_spec =
     (λ c. search rules)
     loop_again
     (λ c. search rules)
-    (λ c e w. filled_to (omega arith) (c.before.before.loop.invariant.2 e w)))
+    (λ c e w. filled_to (omega arith) (c.before.before.loop-s.invariant.2 e w)))

@@ -9,28 +9,28 @@ use Rattle.conversion.specs.Written.{Zeros}
 use Rattle.conversion.proofs.conversion.put_zeros.Statement.{statement}
 use Rattle.conversion.proofs.conversion.put_zeros.Tie as tie
 
-abbrev invariant-loop : tie.invariant-loop
-invariant-loop copy₀ from to i₀ copy i =
+abbrev invariant-loop-i : tie.invariant-loop-i
+invariant-loop-i copy₀ from to i₀ copy i =
     (from ≤ i)
     × (i ≤ to)
     × (length copy ≡ length copy₀)
     × ((f : ℕ → ℕ) (n : ℕ) → Zeros f from to → FilledTo f n copy₀ from → FilledTo f n copy i)
 
-abbrev decreases-loop : tie.decreases-loop
-decreases-loop copy₀ from to i₀ copy i = to - i
+abbrev decreases-loop-i : tie.decreases-loop-i
+decreases-loop-i copy₀ from to i₀ copy i = to - i
 
 pub put_zeros_spec : {M : Type 1} → statement M
 put_zeros_spec =
     tie.close
     (tie.spec
-    invariant-loop
-    decreases-loop
+    invariant-loop-i
+    decreases-loop-i
     (λ c. (search rules, search rules, refl, λ f n z w. w))
     (λ c. search rules)
     (λ c. search rules)
     (λ c. search rules)
     (λ c. search rules)
-    (λ c. let l = c.before.loop in (
+    (λ c. let l = c.before.loop-i in (
       search rules,
       search rules,
       length-set l.copy l.i 0 ∙ l.invariant.2,
@@ -39,4 +39,4 @@ put_zeros_spec =
           filled_more refl (omega (arith, so_far.long)) (z.zero l.i (omega arith) (omega arith)) so_far,
     ))
     (λ c. search rules)
-    (λ c f n z w. filled_to (omega arith) (c.before.loop.invariant.3 f n z w)))
+    (λ c f n z w. filled_to (omega arith) (c.before.loop-i.invariant.3 f n z w)))

@@ -13,4 +13,4 @@ at_level_31_spec =
     (λ c. search rules)
     (λ c. search rules)
     (λ c. search rules)
-    (λ c. sym (ap at_level31 c.before.room.given.1)))
+    (λ c. sym (ap at_level31 c.in-BranchOut.is)))

@@ -7,12 +7,10 @@ use Rattle.paths.proofs.descent.find.Statement.{statement}
 use Rattle.paths.proofs.descent.find.Tie as tie
 
 -- the walk has come to the path's end
-ended : (c : tie.After-known-told) →
-    let a = c.before.before.before.before.before.args in
-    let t = c.before.level.given.0 in
-    let t' = t.1.1 in
-    EndsAt a.g (reads a.image.now) false a.slot a.frame t.0 t.1.0 t'.0 t'.1.0 t'.1.1.0
-ended c = trail_says _ _ _ _ _ c.before.before.before.walk_from.ensures c.before.level.given.1
+ended : (c : tie.In-Ended) →
+    let a = c.args in
+    EndsAt a.g (reads a.image.now) false a.slot a.frame c.in-Ended.node c.in-Ended.level c.in-Ended.found c.in-Ended.clear c.in-Ended.left
+ended c = trail_says _ _ _ _ _ c.walk_from.ensures c.in-Ended.is
 
 pub find_spec : {M : Type 1} → statement M
 find_spec =
@@ -22,5 +20,5 @@ find_spec =
     (λ c. search rules)
     (λ c. search rules)
     (λ c. let e = ended c in omega (arith, e.level, e.on_path_lem.few))
-    (λ c. found_malformed _ _ _ _ (trail_says _ _ _ _ _ c.before.before.walk_from.ensures c.enum_told.given.1))
+    (λ c. found_malformed _ _ _ _ (trail_says _ _ _ _ _ c.walk_from.ensures c.in-Malformed.is))
     (λ c. found_end _ _ _ _ (ended c)))

@@ -13,5 +13,5 @@ placement_as_spec =
     (λ c. search rules)
     (λ c. search rules)
     (λ c.
-    let l = c.before.before.before in
-    placement_free l.before.args.vacancy l.at-level-31.ensures c.before.before.if1.false c.enum-told2.given.1))
+    let l = c.before.before in
+    placement_free l.args.vacancy l.at_level_31.ensures c.if-at_level_31.false c.in_default.is))

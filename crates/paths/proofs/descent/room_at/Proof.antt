@@ -8,9 +8,9 @@ room_at_spec =
     tie.close
     (tie.spec
     (λ c. search rules)
-    (λ c. room_clear _ _ _ _ _ c.before.clear.given.1)
+    (λ c. room_clear _ _ _ _ _ c.in-At.is)
     (λ c. search rules)
     (λ c κs. search rules)
-    (λ c. let k = c.before.before.before.before.before.requires.2 in let w = c.before.word_of.ensures in search rules)
-    (λ c. room_small _ _ _ _ _ c.before.before.enum_told.given.1 c.before.word_of.ensures c.if1.true)
-    (λ c. room_large _ _ _ _ _ c.before.before.enum_told.given.1 c.before.word_of.ensures c.if1.false))
+    (λ c. let k = c.requires.2 in let w = c.word_of-size.ensures in search rules)
+    (λ c. room_small _ _ _ _ _ c.in_default.is c.word_of-size.ensures c.if-size-lt64.true)
+    (λ c. room_large _ _ _ _ _ c.in_default.is c.word_of-size.ensures c.if-size-lt64.false))

@@ -8,11 +8,10 @@ use Rattle.paths.proofs.descent.room_for.Statement.{statement}
 use Rattle.paths.proofs.descent.room_for.Tie as tie
 
 -- the walk has come to the path's end
-ended : (c : tie.After-node) →
-    let a = c.before.before.before.before.args in
-    let t = c.node.given.0 in
-    EndsAt a.g (reads a.image.now) true a.slot a.frame t.0 t.1.0 t.1.1.0 t.1.1.1.0 t.1.1.1.1.0
-ended c = trail_says _ _ _ _ _ c.before.before.walk_from.ensures c.node.given.1
+ended : (c : tie.In-Ended) →
+    let a = c.args in
+    EndsAt a.g (reads a.image.now) true a.slot a.frame c.in-Ended.node c.in-Ended.level c.in-Ended.found c.in-Ended.clear c.in-Ended.left
+ended c = trail_says _ _ _ _ _ c.walk_from.ensures c.in-Ended.is
 
 pub room_for_spec : {M : Type 1} → statement M
 room_for_spec =
@@ -21,7 +20,7 @@ room_for_spec =
     (λ c κs. search rules)
     (λ c. search rules)
     (λ c. search rules)
-    (λ c κs. let e = (ended c.before).formed in (c.before.before.before.before.before.requires.0, e.is.inside, some_size e.is))
+    (λ c κs. let e = (ended c).formed in (c.requires.0, e.is.inside, some_size e.is))
     (λ c κs. search rules)
-    (λ c. placement_malformed _ _ _ _ (trail_says _ _ _ _ _ c.before.before.walk_from.ensures c.enum_told.given.1))
-    (λ c. placement_end _ _ _ _ (ended c.before.before.before) c.before.room_at.ensures c.placement-as.ensures))
+    (λ c. placement_malformed _ _ _ _ (trail_says _ _ _ _ _ c.walk_from.ensures c.in-Malformed.is))
+    (λ c. placement_end _ _ _ _ (ended c.before.before) c.room_at.ensures c.placement_as.ensures))

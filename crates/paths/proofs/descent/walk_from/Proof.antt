@@ -14,4 +14,4 @@ walk_from_spec =
     (λ c. search rules)
     (λ c κs. search rules)
     (λ c. let a = c.before.before.before.args in
-    c.walk.ensures ∙ ap (λ (r : ℕ). trail_from a.g (reads a.image.now) a.seek 0 (r - 1) a.frame) c.before.root-of.ensures))
+    c.walk.ensures ∙ ap (λ (r : ℕ). trail_from a.g (reads a.image.now) a.seek 0 (r - 1) a.frame) c.before.root_of-root.ensures))

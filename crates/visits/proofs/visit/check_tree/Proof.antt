@@ -8,12 +8,16 @@ use Rattle.visits.proofs.visit.check_tree.Tie as tie
 
 returns : tie.Need-returns
 returns c =
-    let walk = c.before.before.visit-slot in
+    let walk = c.visit_slot in
     let start = c.before.before.before.before.before.before.before.before.before.before in
     let a = start.args in
     whole_tree a.g a.image.now a.slot _
-    (cleared (length a.scratch.now) (map_words a.g) _ c.before.before.before.before.before.before.clear-map.ensures start.requires.2)
+    (cleared (length a.scratch.now) (map_words a.g) _ c.clear_map.ensures start.requires.2)
     walk.result _ walk.ensures
 
 pub check_tree_spec : {M : Type 1} → statement M
-check_tree_spec = tie.close (tie.spec (λ c κs. search rules) (λ c κs. search rules) (λ c. search rules) returns)
+check_tree_spec = tie.close (tie.spec
+    (λ c κs. search rules)
+    (λ c κs. search rules)
+    (λ c. search rules)
+    returns)

@@ -9,11 +9,15 @@ use Rattle.visits.proofs.visit.sound_tree.Tie as tie
 
 returns : tie.Need-returns
 returns c =
-    let check = c.before.before.before.before.before.before.check-tree in
-    let a = c.before.before.before.before.before.before.before.before.before.before.args in (
+    let check = c.check_tree-sound in
+    let a = c.args in (
       same_answer a.g (readsWords a.image.now) a.slot check.result _ check.ensures,
-      cleared (length check.new.1.0) (map_words a.g) _ c.before.before.clear-map.ensures (search rules),
+      cleared (length check.new.scratch) (map_words a.g) _ c.clear_map.ensures (search rules),
     )
 
 pub sound_tree_spec : {M : Type 1} → statement M
-sound_tree_spec = tie.close (tie.spec (λ c κs. search rules) (λ c κs. search rules) (λ c. search rules) returns)
+sound_tree_spec = tie.close (tie.spec
+    (λ c κs. search rules)
+    (λ c κs. search rules)
+    (λ c. search rules)
+    returns)

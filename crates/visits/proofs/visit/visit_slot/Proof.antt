@@ -5,7 +5,7 @@ use Rattle.visits.proofs.visit.visit_slot.Tie as tie
 
 returns : tie.Need-returns
 unfolding walked_slot
-returns c = let v = c.before.before in rw (← v.before.before.root-of.ensures) v.visit-node.ensures
+returns c = let v = c.before.before in rw (← v.root_of-root.ensures) v.visit_node.ensures
 
 pub visit_slot_spec : {M : Type 1} → statement M
 visit_slot_spec =

@@ -9,9 +9,9 @@ use Rattle.groups.proofs.group.free_group.Tie as tie
 returns : tie.Need-returns
 returns c =
     let freed = c.before.before in
-    let a = freed.before.before.before.before.before.before.args in
-    freed.unmark-run.ensures
-    ∙ ap₂ (λ next k. unmark_all a.pool.now (range (next - 1) k)) freed.before.before.before.next_of.ensures freed.before.fanout.ensures
+    let a = freed.args in
+    freed.unmark_run.ensures
+    ∙ ap₂ (λ next k. unmark_all a.pool.now (range (next - 1) k)) freed.next_of-next.ensures freed.fanout.ensures
 
 pub free_group_spec : {M : Type 1} → statement M
 free_group_spec =

@@ -10,14 +10,14 @@ absent_below_spec =
     tie.close
     (tie.spec
     (λ c. search rules)
-    (λ c κs. (c.before.requires.0, known_formed _ _ c.before.requires.1))
+    (λ c κs. (c.requires.0, known_formed _ _ c.requires.1))
     (λ c. search rules)
     (λ c. search rules)
     (λ c. search rules)
-    (λ c κs. let pre = c.before.before.before.before.before.requires in
-    (pre.0, (told_below _ _ _ pre.1 c.before.before.before.step_from.ensures c.before.below.given.1).0, pre.2))
+    (λ c κs. let pre = c.requires in
+    (pre.0, (told_below _ _ _ pre.1 c.step_from.ensures c.in-Down.is).0, pre.2))
     (λ c κs. search rules)
-    (λ c. told_below _ _ _ c.before.before.before.before.requires.1 c.before.before.step_from.ensures c.enum_told.given.1)
-    (λ c. c.is-absent.ensures ∙ ap is_absent c.before.walk.ensures
-    ∙ (told_below _ _ _ c.before.before.before.before.before.before.before.requires.1
-    c.before.before.before.before.before.step_from.ensures c.before.before.before.below.given.1).1))
+    (λ c. told_below _ _ _ c.requires.1 c.step_from.ensures c.in-End.is)
+    (λ c. c.is_absent.ensures ∙ ap is_absent c.walk.ensures
+    ∙ (told_below _ _ _ c.requires.1
+    c.step_from.ensures c.in-Down.is).1))

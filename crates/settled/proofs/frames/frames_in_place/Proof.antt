@@ -15,8 +15,8 @@ frames_in_place_spec =
     (λ c κs. search rules)
     (λ c. search rules)
     (λ c. search rules)
-    (λ c κs. let pre = c.before.before.before.before.requires in
-    rw c.before.before.root-of.ensures
+    (λ c κs. let pre = c.requires in
+    rw c.root_of-root.ensures
     (pre.0, record { formed = record { some_left = omega arith; all_left = omega arith; is = sound_stops _ _ _ pre.2 }; unit = refl }, omega arith, search rules))
     (λ c. let start = c.before.before.before.before.before in
-    rw (← settled_tree_lem start.args.g (reads start.args.image.now) start.args.slot start.requires.1 start.requires.2, ← c.before.before.before.root-of.ensures) c.settled_tree_lem.ensures))
+    rw (← settled_tree_lem start.args.g (reads start.args.image.now) start.args.slot start.requires.1 start.requires.2, ← c.root_of-root.ensures) c.settled_tree.ensures))

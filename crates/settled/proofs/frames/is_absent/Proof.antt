@@ -12,5 +12,5 @@ is_absent_spec =
     (λ c. search rules)
     (λ c. search rules)
     (λ c. search rules)
-    (λ c. rw (c.before.before.before.trail.given.1, c.enum-told2.given.1) refl)
-    (λ c. rw (c.before.before.before.trail.given.1, c.enum-told3.given.1) refl))
+    (λ c. rw (c.in-Ended.is, c.in-Nothing.is) refl)
+    (λ c. rw (c.in-Ended.is, c.in-At.is) refl))

@@ -8,32 +8,30 @@ use borrow.Author.Rules.{rules}
 use Rattle.walks.proofs.trees.list_tree.Statement.{statement}
 use Rattle.walks.proofs.trees.list_tree.Tie as tie
 
-returns : tie.Need-returns
+returns : tie.Need-returns-then-not-check_tree
 returns c =
     let tested = c.before.before.before.before in
-    let check = tested.before.before.before.check-tree in
-    let a = tested.before.before.before.before.before.before.before.before.args in
-    let none = none_listed a.g (readsWords a.image.now) a.slot check.result _ check.ensures tested.if1.true a.list.now in
-    (none.0, none.1, cleared (length check.new.1.0) (map_words a.g) _ c.before.before.clear-map.ensures (search rules))
+    let check = tested.check_tree in
+    let a = tested.args in
+    let none = none_listed a.g (readsWords a.image.now) a.slot check.result _ check.ensures tested.if-not-check_tree.true-raw a.list.now in
+    (none.0, none.1, cleared (length check.new.scratch) (map_words a.g) _ c.clear_map.ensures (search rules))
 
-list_checked_requires : tie.Need-list-checked-requires
+list_checked_requires : tie.Need-list_checked-answer-requires
 list_checked_requires c κs =
-    let tested = c.before.before in
-    let check = tested.before.before.before.check-tree in
-    let start = tested.before.before.before.before.before.before.before.before in
-    let a = start.args in (
-      start.requires.0,
-      start.requires.1,
-      sound a.g (readsWords a.image.now) a.slot check.result _ check.ensures tested.if1.false,
-      marks_tree a.g (readsWords a.image.now) a.slot check.result _ check.ensures tested.if1.false,
+    let check = c.check_tree in
+    let a = c.args in (
+      c.requires.0,
+      c.requires.1,
+      sound a.g (readsWords a.image.now) a.slot check.result _ check.ensures c.if-not-check_tree.false-raw,
+      marks_tree a.g (readsWords a.image.now) a.slot check.result _ check.ensures c.if-not-check_tree.false-raw,
     )
 
-returns_2 : tie.Need-returns-2
+returns_2 : tie.Need-returns
 returns_2 c =
-    let listed = c.before.before.before.before.before.before.list-checked in
-    let check = c.before.before.before.before.before.before.before.before.before.before.before.before.check-tree in
-    let a = c.before.before.before.before.before.before.before.before.before.before.before.before.before.before.before.before.before.args in
-    (listed.ensures.0, listed.ensures.1, cleared (length check.new.1.0) (map_words a.g) _ c.before.before.clear-map2.ensures (search rules))
+    let listed = c.list_checked-answer in
+    let check = c.check_tree in
+    let a = c.args in
+    (listed.ensures.0, listed.ensures.1, cleared (length check.new.scratch) (map_words a.g) _ c.clear_map-2.ensures (search rules))
 
 pub list_tree_spec : {M : Type 1} → statement M
 list_tree_spec =

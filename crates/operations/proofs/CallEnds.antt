@@ -269,6 +269,7 @@ pub one_to_three : {n : ℕ} → Memᴰ n (1 ∷ 2 ∷ 3 ∷ []) → (n ≢ 0) �
 one_to_three (Memᴰ.head q) = omega arith
 one_to_three (Memᴰ.tail (Memᴰ.head q)) = omega arith
 one_to_three (Memᴰ.tail (Memᴰ.tail (Memᴰ.head q))) = omega arith
+one_to_three (Memᴰ.tail (Memᴰ.tail (Memᴰ.tail x))) = elim x [ ]
 
 pub unread : (op : Operation) (image pool heads : List ℕ) (b : Buffers) → OtherMap image op → Unread op image heads b (ends op (state image pool heads) b)
 unread op image pool heads b o =

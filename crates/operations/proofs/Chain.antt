@@ -78,6 +78,7 @@ no_format_4 : {n : ℕ} → Memᴰ n (1 ∷ 3 ∷ 16 ∷ []) → n ≢ 4
 no_format_4 (Memᴰ.head q) = omega arith
 no_format_4 (Memᴰ.tail (Memᴰ.head q)) = omega arith
 no_format_4 (Memᴰ.tail (Memᴰ.tail (Memᴰ.head q))) = omega arith
+no_format_4 (Memᴰ.tail (Memᴰ.tail (Memᴰ.tail x))) = elim x [ ]
 
 -- the number is the same with the book's map, and a refusal leaves everything
 pub record SentBack (op : Operation) (s : State) (map : List ℕ) (b : Buffers) (e : Ends) : Type 0 where

@@ -125,15 +125,15 @@ module _ (words : ℕ) (s : State) (b : Buffers) where
   recover_after : (ends (recover words) s b).after ≡ done (recover words) s
   recover_after = after_ends (recover words) s b ∙ sym (nothing_left (perform (recover words) s).work (recover_writes words s).script)
 
-retries_attempts : {m m' : List ℕ} {on : Module} → Retries on m m' → Attempts on m m'
+retries_attempts : {on : Module} {m m' : List ℕ} → Retries on m m' → Attempts on m m'
 retries_attempts none_yet = no-attempt
-retries_attempts {m} {m'} (refused map heads e q z r) =
+retries_attempts {m = m} {m' = m'} (refused map heads e q z r) =
     let s = state m map heads in
     let words = length map in
     let same : e.after.image ≡ (done (recover words) s).image =
     ap (λ (x : Ends). x.after.image) q ∙ ap (λ (x : State). x.image) (recover_after words s no_buffers) in
     refused-attempt words s refl (λ h. z (ap (λ (x : Ends). x.answer) q ∙ answer_ends (recover words) s no_buffers ∙ h)) (rw same at (retries_attempts r))
-retries_attempts {m} (cut_short map heads e q k c r) =
+retries_attempts {m = m} (cut_short map heads e q k c r) =
     let s = state m map heads in
     let words = length map in
     interrupted-attempt words s k refl (cut_interrupted (rw q (recover_performs words s no_buffers)) c).0 (retries_attempts r)
@@ -177,7 +177,7 @@ module _ {on : Module} {op : Operation} {s : State} {t : Table} {b : Buffers} {e
         ];
       }
 
-follows : {s : State} {t : Table} {on : Module} {lines : Flushed} → Driven on lines s t → Follows on s t
+follows : {on : Module} {lines : Flushed} {s : State} {t : Table} → Driven on lines s t → Follows on s t
 follows (formats words table slots nodes s b e fit q h w) = chain.starts words table slots nodes s b e fit q h
 follows (finds v r) = started (found v (recovers_recovered r))
 follows (calls {s} {t} d op b e fit c w) = (chain.goes_on op s t b e (follows d) fit c).follows
@@ -238,7 +238,7 @@ whole_small {op} {k = k} f fit call c reel r (as_after a) small x =
     (after f op fit.numbers k (cut f fit call c).0 (recovers_recovered r) a, (small.0, small.1, x))
 
 -- so the history that it follows is one in which the reel was opened and has stayed small
-small_history : {s : State} {t : Table} {on : Module} {lines : Flushed} (d : Driven on lines s t) (reel : ℕ) → KeptSmall reel d → (h : Follows on s t) × Small reel h
+small_history : {on : Module} {lines : Flushed} {s : State} {t : Table} (d : Driven on lines s t) (reel : ℕ) → KeptSmall reel d → (h : Follows on s t) × Small reel h
 small_history (formats words table slots nodes s b e fit q h w) reel p = absurd p
 small_history (finds v r) reel p = absurd p
 small_history {on = on} (calls {s} {t} d op b e fit c w) reel p =
@@ -316,7 +316,7 @@ module _ (words : ℕ) (s : State) where
   lent_contract : RecoverEnds s.image (clear_map words) s.heads (ends (recover words) lent no_buffers)
   lent_contract = rw length_lent refl
 
-attempts_retries : {m m' : List ℕ} {on : Module} → Attempts on m m' → Retries on m m'
+attempts_retries : {on : Module} {m m' : List ℕ} → Attempts on m m' → Retries on m m'
 attempts_retries no-attempt = none_yet
 attempts_retries (refused-attempt words s q z a) =
     let e = ends (recover words) (lent words s) no_buffers in

@@ -1,6 +1,6 @@
 -- The checks that come first, passed or not: 1, 2, 3 and 4 for the table, as every operation but Format makes them.
-use mathlib.Core.Path.{◌≡◌, refl, sym, ◌∙◌, ap}
-use mathlib.Core.Bool.{true, false}
+use mathlib.Core.Path.{◌≡◌, refl, sym, ◌∙◌, ap, subst}
+use mathlib.Core.Bool.{Bool, true, false}
 use mathlib.Core.Logic.{inl, inr, ◌≢◌}
 use mathlib.Core.Option.{Option, none, some}
 use mathlib.Core.List.{List, ◌∷◌}
@@ -190,22 +190,32 @@ module _ (image : List ℕ) (map scratch script : Buffer) (g : Geometry) (is : g
   unfolding first_checks
   edition_bad a b = rw (← is, a, b) refl
 
+  buffers_at : {v : Bool} → holds (map_bad g map or map_bad g scratch or script_bad script) ≡ v
+      → holds (map_bad (geometry_of (reads image)) map or map_bad (geometry_of (reads image)) scratch or script_bad script) ≡ v
+  buffers_at {v} = subst (λ (x : Geometry). holds (map_bad x map or map_bad x scratch or script_bad script) ≡ v) is
+
   pub buffer_bad : holds (bad_image (length image) g) ≡ false → holds (bad_edition (reads image)) ≡ false
       → holds (map_bad g map or map_bad g scratch or script_bad script) ≡ true → Refused enum.Buffer ≡ first_checks image map scratch script
   unfolding first_checks
-  buffer_bad a b c = rw (← is, a, b, c) refl
+  buffer_bad a b c =
+      let c' = buffers_at c in
+      rw (← is, a, b, c') refl
 
   pub table_bad : holds (bad_image (length image) g) ≡ false → holds (bad_edition (reads image)) ≡ false
       → holds (map_bad g map or map_bad g scratch or script_bad script) ≡ false → holds (bad_own (reads image)) ≡ true
       → Refused enum.Malformed ≡ first_checks image map scratch script
   unfolding first_checks
-  table_bad a b c d = rw (← is, a, b, c, d) refl
+  table_bad a b c d =
+      let c' = buffers_at c in
+      rw (← is, a, b, c', d) refl
 
   pub none_bad : holds (bad_image (length image) g) ≡ false → holds (bad_edition (reads image)) ≡ false
       → holds (map_bad g map or map_bad g scratch or script_bad script) ≡ false → holds (bad_own (reads image)) ≡ false
       → Passed g ≡ first_checks image map scratch script
   unfolding first_checks
-  none_bad a b c d = rw (← is, a, b, c, d) refl
+  none_bad a b c d =
+      let c' = buffers_at c in
+      rw (← is, a, b, c', d) refl
 
 -- ---- an operation that ends with one of the four
 

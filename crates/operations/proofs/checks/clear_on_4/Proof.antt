@@ -43,5 +43,5 @@ clear_on_4_spec =
     (λ c. search rules)
     (λ c κs. search rules)
     (λ c. search rules)
-    (λ c. rw c.before.before.before.before.enum_told.given.1 c.before.before.clear-map.ensures)
-    (λ c. sym (other c.before.before.args.why _ _ c.match.keys2)))
+    (λ c. rw c.in-Malformed.is c.clear_map.ensures)
+    (λ c. sym (other c.args.why _ _ c.in_default.in_default-own.keys2)))

@@ -11,4 +11,4 @@ map_bad_spec =
     (λ c. search rules)
     (λ c κs. search rules)
     (λ c. search rules)
-    (λ c. rw (c.before.before.b.given.1, c.map_words_lem.ensures) refl))
+    (λ c. rw (c.in-Words.is, c.map_words.ensures) refl))

@@ -8,8 +8,8 @@ hand_over_head_spec =
     tie.close
     (tie.spec
     (λ c. search rules)
-    (λ c κs. rw c.before.before.answer.given.1 at c.before.before.before.before.requires)
+    (λ c κs. rw c.in-Done.is at c.requires)
     (λ c. search rules)
     (λ c κs. search rules)
-    (λ c. rw c.before.before.before.answer.given.1 (refl, refl, c.write-head.ensures))
-    (λ c. rw c.before.before.answer2.given.1 (c.number.ensures, refl, refl)))
+    (λ c. rw c.in-Done.is (refl, refl, c.write_head.ensures))
+    (λ c. rw c.in-Refused.is (c.number.ensures, refl, refl)))

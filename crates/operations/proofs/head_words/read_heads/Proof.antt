@@ -11,25 +11,25 @@ use Rattle.operations.proofs.head_words.read_heads.Statement.{statement}
 use Rattle.operations.proofs.head_words.read_heads.Tie as tie
 
 -- the records below h are read
-abbrev invariant-loop : tie.invariant-loop
-invariant-loop words heads₀ h₀ heads h = (h ≤ head_count) × (length heads ≡ head_count) × ((k : ℕ) → k < h → get_or heads k (head_of Idle) ≡ head_of (head_at words k))
+abbrev invariant-loop-h : tie.invariant-loop-h
+invariant-loop-h words heads₀ h₀ heads h = (h ≤ head_count) × (length heads ≡ head_count) × ((k : ℕ) → k < h → get_or heads k (head_of Idle) ≡ head_of (head_at words k))
 
-abbrev decreases-loop : tie.decreases-loop
-decreases-loop words heads₀ h₀ heads h = head_count - h
+abbrev decreases-loop-h : tie.decreases-loop-h
+decreases-loop-h words heads₀ h₀ heads h = head_count - h
 
 pub read_heads_spec : {M : Type 1} → statement M
 read_heads_spec =
     tie.close
     (tie.spec
-    invariant-loop
-    decreases-loop
+    invariant-loop-h
+    decreases-loop-h
     (λ c. (search rules, refl, λ k l. absurd (omega arith)))
     (λ c κs. search rules)
     (λ c. search rules)
     (λ c. search rules)
     (λ c. search rules)
     (λ c. search rules)
-    (λ c. let l = c.before.before.loop in
-    (search rules, simp length-set l.invariant.1, one_more c.before.before.before.args.words.now l.heads l.h _ (search rules) c.read_head.ensures l.invariant.2))
-    (λ c. let l = c.before.loop in
-    all_read c.before.before.args.words.now l.heads l.invariant.1 (λ k b. l.invariant.2 k (omega arith))))
+    (λ c. let l = c.loop-h in
+    (search rules, simp length-set l.invariant.1, one_more c.args.words.now l.heads l.h _ (search rules) c.read_head.ensures l.invariant.2))
+    (λ c. let l = c.loop-h in
+    all_read c.args.words.now l.heads l.invariant.1 (λ k b. l.invariant.2 k (omega arith))))

@@ -8,6 +8,6 @@ pub state_of_spec : {M : Type 1} → statement M
 state_of_spec =
     tie.close
     (tie.spec
-    (λ c. no_head c.before.args.words.now _ c.if1.true)
+    (λ c. no_head c.args.words.now _ c.if-head.true)
     (λ c κs. search rules)
-    (λ c. c.read_head.ensures ∙ sym (state_read c.before.before.args.words.now _ _ refl c.before.if1.false)))
+    (λ c. c.read_head.ensures ∙ sym (state_read c.args.words.now _ _ refl c.if-head.false)))

@@ -3,17 +3,17 @@ use Rattle.book.specs.Heads.{words_of, with_head}
 use Rattle.operations.proofs.head_words.write_head.Statement.{statement}
 use Rattle.operations.proofs.head_words.write_head.Tie as tie
 
-returns : tie.Need-returns
+returns : tie.Need-returns-in-Idle
 unfolding with_head words_of
-returns c = rw c.before.before.enum_told.given.1 c.write-words.ensures
+returns c = rw c.in-Idle.is c.write_words.ensures
 
-returns_2 : tie.Need-returns-2
+returns_2 : tie.Need-returns-in-Claimed
 unfolding with_head words_of
-returns_2 c = rw c.before.before.before.state.given.1 c.write-words2.ensures
+returns_2 c = rw c.in-Claimed.is c.write_words-in-Claimed.ensures
 
-returns_3 : tie.Need-returns-3
+returns_3 : tie.Need-returns-in-Filled
 unfolding with_head words_of
-returns_3 c = rw c.before.before.before.state2.given.1 c.write-words3.ensures
+returns_3 c = rw c.in-Filled.is c.write_words-in-Filled.ensures
 
 pub write_head_spec : {M : Type 1} → statement M
 write_head_spec =

@@ -10,42 +10,38 @@ use borrow.Author.Rules.{rules}
 use Rattle.operations.proofs.heads.is_busy.Statement.{statement}
 use Rattle.operations.proofs.heads.is_busy.Tie as tie
 
-abbrev invariant-loop : tie.invariant-loop
-invariant-loop heads slot h₀ h = (h ≤ head_count) × NoneBelow (λ (k : ℕ). names slot (state_in heads k)) h
+abbrev invariant-loop-h : tie.invariant-loop-h
+invariant-loop-h heads slot h₀ h = (h ≤ head_count) × NoneBelow (λ (k : ℕ). names slot (state_in heads k)) h
 
-abbrev decreases-loop : tie.decreases-loop
-decreases-loop heads slot h₀ h = head_count - h
+abbrev decreases-loop-h : tie.decreases-loop-h
+decreases-loop-h heads slot h₀ h = head_count - h
 
 -- the test of the head that the loop stands at
-tested : (c : tie.After-names invariant-loop decreases-loop)
-    → let in-loop = c.before.before.before in
-    c.names.result ≡ names in-loop.before.args.slot (state_in in-loop.before.args.heads in-loop.loop.h)
-tested c = c.names.ensures ∙ ap (names _) c.before.state-in.ensures
+tested : (c : tie.After-names invariant-loop-h decreases-loop-h)
+    → c.names.result ≡ names c.args.slot (state_in c.args.heads c.loop-h.h)
+tested c = c.names.ensures ∙ ap (names _) c.state_in.ensures
 
-returns_2 : tie.Need-returns-2 invariant-loop decreases-loop
+returns_2 : tie.Need-returns invariant-loop-h decreases-loop-h
 returns_2 c =
-    let l = c.before.loop in
-    let a = c.before.before.args in
-    let all : l.h ≡ head_count = omega (arith, l.invariant.0, c.loop-test.false) in
+    let l = c.loop-h in
+    let a = c.args in
+    let all : l.h ≡ head_count = omega (arith, l.invariant.0, c.loop-h-test.false) in
     any_nowhere (names a.slot) a.heads (subst (NoneBelow (λ (k : ℕ). names a.slot (state_in a.heads k))) all l.invariant.1)
 
 pub is_busy_spec : {M : Type 1} → statement M
 is_busy_spec =
     tie.close
     (tie.spec
-    invariant-loop
-    decreases-loop
+    invariant-loop-h
+    decreases-loop-h
     (λ c. (search rules, below_none _))
     (λ c κs. search rules)
     (λ c κs. search rules)
-    (λ c. let in-loop = c.before.before.before in
-    any_at (names _) _ in-loop.before.loop.h in-loop.loop-test.true
-    (sym (tested c.before) ∙ c.if1.true))
+    (λ c. any_at (names _) _ c.loop-h.h c.loop-h-test.true (sym (tested c.before) ∙ c.if-names.true))
     (λ c. search rules)
     (λ c. search rules)
-    (λ c. let in-loop = c.before.before.before in (
+    (λ c. (
       search rules,
-      below_more _ _ in-loop.before.loop.invariant.1
-          (sym (tested c.before) ∙ c.if1.false),
+      below_more _ _ c.loop-h.invariant.1 (sym (tested c.before) ∙ c.if-names.false),
     ))
     returns_2)

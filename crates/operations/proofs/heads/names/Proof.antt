@@ -11,5 +11,5 @@ names_spec =
     (λ c. search rules)
     (λ c. search rules)
     (λ c. search rules)
-    (λ c. rw c.before.before.state.given.1 refl)
-    (λ c. rw c.before.before.state2.given.1 refl))
+    (λ c. rw c.in-Claimed.is refl)
+    (λ c. rw c.in-Filled.is refl))

@@ -9,4 +9,7 @@ unfolding state_in
 returns c = refl
 
 pub state_in_spec : {M : Type 1} → statement M
-state_in_spec = tie.close (tie.spec (λ c. search rules) (λ c. search rules) returns)
+state_in_spec = tie.close (tie.spec
+    (λ c. search rules)
+    (λ c. search rules)
+    returns)

@@ -11,10 +11,10 @@ use Rattle.operations.proofs.node_script.put_node.Tie as tie
 
 returns : tie.Need-returns
 returns c =
-    let a = c.before.before.args in
+    let a = c.args in
     let made = new_node a.g a.n a.level a.size in
-    rw c.Node-at.ensures
-    (sets-eq (store_words made) a.script.now 0 c.before.before.requires.0 ∙ sym (segment_laws.stores_written made a.script.now))
+    rw c.node_at-at.ensures
+    (sets-eq (store_words made) a.script.now 0 c.requires.0 ∙ sym (segment_laws.stores_written made a.script.now))
 
 pub put_node_spec : {M : Type 1} → statement M
 put_node_spec =

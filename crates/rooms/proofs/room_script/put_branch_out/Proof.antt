@@ -13,10 +13,10 @@ returns c =
     let place = nodes.before.before in
     let start = place.before.before in
     let a = start.args in
-    rw (← start.requires.1, ← add-one a.depth, ← place.Node-at.ensures)
-    (branched_written a.g (a.depth + 1) a.start a.count place.Node-at.result (a.start + 1)
-    a.script.now nodes.put-nodes.new.0 fence.put-barrier.new.0 link.put-fenced.new.0
-    nodes.put-nodes.ensures fence.put-barrier.ensures link.put-fenced.ensures)
+    rw (← start.requires.1, ← add-one a.depth, ← place.node_at-at.ensures)
+    (branched_written a.g (a.depth + 1) a.start a.count place.node_at-at.result (a.start + 1)
+    a.script.now nodes.put_nodes.new.script fence.put_barrier.new.script link.put_fenced.new.script
+    nodes.put_nodes.ensures fence.put_barrier.ensures link.put_fenced.ensures)
 
 pub put_branch_out_spec : {M : Type 1} → statement M
 put_branch_out_spec =

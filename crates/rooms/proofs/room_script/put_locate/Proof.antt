@@ -7,7 +7,7 @@ returns : tie.Need-returns
 returns c =
     let put = c.before.before in
     let bits = put.before in
-    rw (← bits.with-bit.ensures, ← bits.before.before.before.Node-at.ensures) (fenced_written _ _ _ put.put-fenced.ensures)
+    rw (← bits.with_bit.ensures, ← bits.node_at.ensures) (fenced_written _ _ _ put.put_fenced.ensures)
 
 pub put_locate_spec : {M : Type 1} → statement M
 put_locate_spec =

@@ -6,9 +6,15 @@ use Rattle.rooms.proofs.room_script.put_scale_up.Tie as tie
 returns : tie.Need-returns
 returns c =
     let put = c.before.before in
-    rw (← put.before.before.Node-at.ensures) (fenced_written _ _ _ put.put-fenced.ensures)
+    rw (← put.node_at.ensures) (fenced_written _ _ _ put.put_fenced.ensures)
 
 pub put_scale_up_spec : {M : Type 1} → statement M
 put_scale_up_spec =
     tie.close
-    (tie.spec (λ c κs. search rules) (λ c. search rules) (λ c. search rules) (λ c κs. search rules) (λ c. search rules) returns)
+    (tie.spec
+    (λ c κs. search rules)
+    (λ c. search rules)
+    (λ c. search rules)
+    (λ c κs. search rules)
+    (λ c. search rules)
+    returns)

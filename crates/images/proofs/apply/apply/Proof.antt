@@ -24,26 +24,26 @@ module _ (image script : List ℕ) (g : Geometry) (is : g ≡ geometry_of (reads
   unfolding carry
   passed_on x r image' h e o = rw (← is, h, ← o, e) refl
 
-fine : (c : tie.Else1) → holds (bad_image (length c.before.before.before.before.before.before.args.image.now) c.before.before.geometry-in.result) ≡ false
-fine c = sym c.before.bad-image.ensures ∙ c.if1.false
+fine : (c : tie.Else-bad_image) → holds (bad_image (length c.args.image.now) c.geometry_in-g.result) ≡ false
+fine c = sym c.bad_image.ensures ∙ c.if-bad_image.false
 
-returns_2 : tie.Need-returns-2
+returns_2 : tie.Need-returns-then-not-carry_out
 returns_2 c =
     let call = c.before.before.before in
     let past = call.before.before in
     let read = past.before.before in
-    let a = read.before.before.before.before.args in
-    passed_on a.image.now a.script.now read.geometry-in.result read.geometry-in.ensures call.carry-out.result false call.carry-out.new.0
-    (fine past) (not-true call.carry-out.result c.if2.true) call.carry-out.ensures
+    let a = read.args in
+    passed_on a.image.now a.script.now read.geometry_in-g.result read.geometry_in-g.ensures call.carry_out.result false call.carry_out.new.image
+    (fine past) (not-true call.carry_out.result c.if-not-carry_out.true-raw) call.carry_out.ensures
 
-returns_3 : tie.Need-returns-3
+returns_3 : tie.Need-returns
 returns_3 c =
     let call = c.before.before.before in
     let past = call.before.before in
     let read = past.before.before in
-    let a = read.before.before.before.before.args in
-    passed_on a.image.now a.script.now read.geometry-in.result read.geometry-in.ensures call.carry-out.result true call.carry-out.new.0
-    (fine past) (not-false call.carry-out.result c.if2.false) call.carry-out.ensures
+    let a = read.args in
+    passed_on a.image.now a.script.now read.geometry_in-g.result read.geometry_in-g.ensures call.carry_out.result true call.carry_out.new.image
+    (fine past) (not-false call.carry_out.result c.if-not-carry_out.false-raw) call.carry_out.ensures
 
 pub apply_spec : {M : Type 1} → statement M
 apply_spec =
@@ -53,9 +53,9 @@ apply_spec =
     (λ c κs. search rules)
     (λ c. search rules)
     (λ c. let read = c.before.before in
-    let a = read.before.before.before.before.args in
-    refused_1 a.image.now a.script.now read.geometry-in.result read.geometry-in.ensures
-    (sym c.before.bad-image.ensures ∙ c.if1.true))
+    let a = read.args in
+    refused_1 a.image.now a.script.now read.geometry_in-g.result read.geometry_in-g.ensures
+    (sym c.bad_image.ensures ∙ c.if-bad_image.true))
     (λ c κs. search rules)
     (λ c. search rules)
     returns_2

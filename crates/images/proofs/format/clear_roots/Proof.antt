@@ -10,17 +10,17 @@ use Rattle.images.proofs.Formatting.{zeros, put_none, put_more}
 use Rattle.images.proofs.format.clear_roots.Statement.{statement}
 use Rattle.images.proofs.format.clear_roots.Tie as tie
 
-abbrev invariant-loop : tie.invariant-loop
-invariant-loop image₀ g s₀ image s = (s ≤ g.slots) × (length image ≡ length image₀) × (image ≡ apply image₀ (stores (zeros root_at (range 0 s))))
+abbrev invariant-loop-s : tie.invariant-loop-s
+invariant-loop-s image₀ g s₀ image s = (s ≤ g.slots) × (length image ≡ length image₀) × (image ≡ apply image₀ (stores (zeros root_at (range 0 s))))
 
-abbrev decreases-loop : tie.decreases-loop
-decreases-loop image₀ g s₀ image s = g.slots - s
+abbrev decreases-loop-s : tie.decreases-loop-s
+decreases-loop-s image₀ g s₀ image s = g.slots - s
 
-returns : tie.Need-returns invariant-loop decreases-loop
+returns : tie.Need-returns invariant-loop-s decreases-loop-s
 unfolding up_to
 returns c =
-    let l = c.before.before.loop in
-    let a = c.before.before.before.before.args in
+    let l = c.loop-s in
+    let a = c.args in
     let e : l.s ≡ a.g.slots = omega arith in
     l.invariant.2 ∙ ap (λ (n : ℕ). apply a.image.now (stores (zeros root_at (range 0 n)))) e
 
@@ -28,15 +28,15 @@ pub clear_roots_spec : {M : Type 1} → statement M
 clear_roots_spec =
     tie.close
     (tie.spec
-    invariant-loop
-    decreases-loop
+    invariant-loop-s
+    decreases-loop-s
     (λ c. (search rules, refl, put_none root_at (λ i. 0) _ 0))
     (λ c κs. search rules)
     (λ c. search rules)
     (λ c. search rules)
     (λ c. search rules)
     (λ c. search rules)
-    (λ c. let l = c.before.before.before.loop in
-    (search rules, length-set l.image _ 0 ∙ l.invariant.1, put_more root_at (λ i. 0) _ l.image 0 l.s _ _ 0 l.invariant.2 refl (omega (arith, c.root-at.ensures)) refl))
+    (λ c. let l = c.loop-s in
+    (search rules, length-set l.image _ 0 ∙ l.invariant.1, put_more root_at (λ i. 0) _ l.image 0 l.s _ _ 0 l.invariant.2 refl (omega (arith, c.root_at.ensures)) refl))
     (λ c. search rules)
     returns)

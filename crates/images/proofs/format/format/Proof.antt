@@ -17,57 +17,57 @@ use Rattle.images.proofs.format.format.Statement.{statement}
 use Rattle.images.proofs.format.format.Tie as tie
 
 -- 1 was tested, and does not hold
-fine : (c : tie.Else1)
-    → let a = c.before.before.before.before.before.args in holds (bad_image (length a.image.now) (sizes a.slots a.nodes)) ≡ false
-fine c = sym c.before.bad-image.ensures ∙ c.if1.false
+fine : (c : tie.Else-bad_image)
+    → let a = c.args in holds (bad_image (length a.image.now) (sizes a.slots a.nodes)) ≡ false
+fine c = sym c.bad_image.ensures ∙ c.if-bad_image.false
 
-fits : (c : tie.Else1) → let a = c.before.before.before.before.before.args in Sized a.image.now (sizes a.slots a.nodes)
-fits c = let a = c.before.before.before.before.before.args in sized_image a.image.now (sizes a.slots a.nodes) (fine c)
+fits : (c : tie.Else-bad_image) → let a = c.args in Sized a.image.now (sizes a.slots a.nodes)
+fits c = let a = c.args in sized_image a.image.now (sizes a.slots a.nodes) (fine c)
 
 -- and so were 3 and 16
-map_fine : (c : tie.Else2)
-    → let a = c.before.before.before.before.before.before.before.args in length a.pool.now ≡ map_words (sizes a.slots a.nodes)
-map_fine c = c.if2.false ∙ c.before.map_words_lem.ensures
+map_fine : (c : tie.Else-pool-map_words)
+    → let a = c.args in length a.pool.now ≡ map_words (sizes a.slots a.nodes)
+map_fine c = c.if-pool-map_words.false ∙ c.map_words.ensures
 
-table_fine : (c : tie.Else3)
-    → let a = c.before.before.before.before.before.before.before.before.before.args in holds (bad_given a.table.now) ≡ false
-table_fine c = sym c.before.bad-given.ensures ∙ c.if3.false
+table_fine : (c : tie.Else-bad_given)
+    → let a = c.args in holds (bad_given a.table.now) ≡ false
+table_fine c = sym c.bad_given.ensures ∙ c.if-bad_given.false
 
-returns_3 : tie.Need-returns-3
+returns_3 : tie.Need-returns-then-bad_given
 returns_3 c heads =
     let else2 = c.before.before in
-    table_refused _ _ _ heads _ _ (fine else2.before.before) (map_fine else2) (sym c.before.bad-given.ensures ∙ c.if3.true)
+    table_refused _ _ _ heads _ _ (fine else2.before.before) (map_fine else2) (sym c.bad_given.ensures ∙ c.if-bad_given.true)
 
 -- the image keeps its length
-still : (c : tie.After-put-table-arg)
-    → Sized c.before.before.before.clear-roots.new.0 (let a = c.before.before.before.before.before.before.before.before.before.before.before.before.before.before.before.before.before.before.args in sizes a.slots a.nodes)
-still c = sized_still {im = c.before.before.before.before.before.before.before.put-header.new.0} c.before.before.before.clear-roots.auto.0 (sized_still c.before.before.before.before.before.before.before.put-header.auto.0 (fits c.before.before.before.before.before.before.before.before.before.before.before.before.before))
+still : (c : tie.After-put_table-arg-1)
+    → Sized c.clear_roots.new.image (let a = c.args in sizes a.slots a.nodes)
+still c = sized_still {im = c.put_header.new.image} c.clear_roots.auto.image (sized_still c.put_header.auto.image (fits c.before.before.before.before.before.before.before.before.before.before.before.before.before))
 
-returns_4 : tie.Need-returns-4
+returns_4 : tie.Need-returns
 returns_4 c heads =
-    let table = c.before.before.before.before.before.before.put-table in
-    let roots = c.before.before.before.before.before.before.before.before.before.before.clear-roots in
-    let header = c.before.before.before.before.before.before.before.before.before.before.before.before.before.before.put-header in
+    let table = c.put_table in
+    let roots = c.clear_roots in
+    let header = c.put_header in
     let else3 = c.before.before.before.before.before.before.before.before.before.before.before.before.before.before.before.before in
-    let a = else3.before.before.before.before.before.before.before.before.before.args in
-    formatted a.image.now a.pool.now a.table.now heads a.slots a.nodes (fine else3.before.before.before.before) (map_fine else3.before.before) table.new.0 _
+    let a = else3.args in
+    formatted a.image.now a.pool.now a.table.now heads a.slots a.nodes (fine else3.before.before.before.before) (map_fine else3.before.before) table.new.image _
     (table_fine else3)
     (table.ensures ∙ ap (λ (im : List ℕ). apply im (stores (given_stores a.table.now)))
     (roots.ensures ∙ ap (λ (im : List ℕ). apply im (stores (zeros root_at (up_to a.slots)))) header.ensures))
-    c.before.before.clear-map.ensures
+    c.clear_map.ensures
 
 pub format_spec : {M : Type 1} → statement M
 format_spec =
     tie.close
     (tie.spec
     (λ c κs. search rules)
-    (λ c heads. image_refused _ _ _ heads _ _ (sym c.before.bad-image.ensures ∙ c.if1.true))
+    (λ c heads. image_refused _ _ _ heads _ _ (sym c.bad_image.ensures ∙ c.if-bad_image.true))
     (λ c κs. (fits c).nodes_limit)
-    (λ c heads. map_refused _ _ _ heads _ _ (fine c.before.before) (λ q. c.if2.true (q ∙ sym c.before.map_words_lem.ensures)))
+    (λ c heads. map_refused _ _ _ heads _ _ (fine c.before.before) (λ q. c.if-pool-map_words.true (q ∙ sym c.map_words.ensures)))
     (λ c κs. search rules)
     returns_3
     (λ c κs. fits c.before.before.before.before.before)
-    (λ c κs. sized_still c.before.before.before.put-header.auto.0 (fits c.before.before.before.before.before.before.before.before.before))
+    (λ c κs. sized_still c.put_header.auto.image (fits c.before.before.before.before.before.before.before.before.before))
     (λ c κs. (omega (arith, (still c).words), table_fine c.before.before.before.before.before.before.before.before.before))
     (λ c κs. search rules)
     (λ c. search rules)

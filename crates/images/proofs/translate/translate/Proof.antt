@@ -20,7 +20,7 @@ translate_spec =
     (λ c κs. search rules)
     (λ c. search rules)
     (λ c. let call = c.before.before.before in
-    answered call.translate-script.result false _ _ _ (not-true call.translate-script.result c.if1.true) call.translate-script.ensures)
+    answered call.translate_script.result false _ _ _ (not-true call.translate_script.result c.if-not-translate_script.true-raw) call.translate_script.ensures)
     (λ c. search rules)
     (λ c. let call = c.before.before.before in
-    answered call.translate-script.result true _ _ _ (not-false call.translate-script.result c.if1.false) call.translate-script.ensures))
+    answered call.translate_script.result true _ _ _ (not-false call.translate_script.result c.if-not-translate_script.false-raw) call.translate_script.ensures))

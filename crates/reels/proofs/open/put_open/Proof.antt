@@ -25,14 +25,14 @@ returns : tie.Need-returns
 returns c =
     let slot = c.before.before.before.before in
     let made = slot.before.before.before.before in
-    let a = made.before.before.before.args in
-    let one = made.put-node in
-    let two = c.before.before.put-fenced-pair in
+    let a = made.args in
+    let one = made.put_node in
+    let two = c.put_fenced_pair in
     let node = stores (new_node a.g a.n 0 16) in
     let rest = store (reel_at a.slot) a.reel ∷ barrier ∷ store (root_at a.slot) (a.n + 1) ∷ barrier ∷ [] in
     let ten = ap (λ k. 2 * k) (segment_laws.length_stores (new_node a.g a.n 0 16)) in
-    written_rest node rest 10 a.script.now one.new.0 two.new.0 ten one.ensures
-    (rw (slot.root-at.ensures, slot.before.reel-at.ensures) at two.ensures)
+    written_rest node rest 10 a.script.now one.new.script two.new.script ten one.ensures
+    (rw (slot.root_at-root.ensures, slot.reel_at-number.ensures) at two.ensures)
     ∙ ap (λ (es : List Entry). written es a.script.now) (in_two a.g a.slot a.n a.reel)
 
 pub put_open_spec : {M : Type 1} → statement M

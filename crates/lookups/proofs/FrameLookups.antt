@@ -23,7 +23,7 @@ use Rattle.paths.proofs.Trails.{spot_in, find_spot}
 use Rattle.book.specs.Heads.{busy}
 use Rattle.book.specs.Refusals.{Refusal, refusal, ◌gives◌}
 use Rattle.book.specs.State.{State, Operation, remove, query, has, scratch_after}
-use Rattle.book.specs.Checks.{checked, no_path, refusals}
+use Rattle.book.specs.Checks.{no_path, refusals}
 use Rattle.book.specs.Perform.{remove_script, found_spot, one_if, nodes_on, granted, leaves, clears}
 use Rattle.book.proofs.Refusals.{passed_all, refused_here, refused_later}
 use Rattle.book.proofs.Inside.{find_inside}

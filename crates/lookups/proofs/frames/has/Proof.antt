@@ -9,59 +9,59 @@ use Rattle.lookups.proofs.frames.has.Statement.{statement}
 use Rattle.lookups.proofs.frames.has.Tie as tie
 
 -- the checks are passed
-fine : (c : tie.After-known-told) → Checked c.before.before.before.before.before.args.image.now none none none c.before.g.given.0.0
+fine : (c : tie.In-Passed) → Checked c.args.image.now none none none c.in-Passed.g
 fine c =
-    let told = c.before.before.before in
-    all_checked told.before.before.args.image.now none none none told.checks.ensures c.before.g.given.1
+    let told = c.before in
+    all_checked told.args.image.now none none none told.checks.ensures c.in-Passed.is
 
 -- and the slot is read
-slot_read : (c : tie.After-slot-of)
-    → let a = c.before.before.before.before.before.before.args in
-    SlotRead a.image.now none none none a.reel c.before.before.g.given.0.0 c.slot_of_lem.result
-slot_read c = record { checked = fine c.before; slot_is = c.slot_of_lem.ensures }
+slot_read : (c : tie.After-slot_of-slot)
+    → let a = c.args in
+    SlotRead a.image.now none none none a.reel c.in-Passed.g c.slot_of-slot.result
+slot_read c = record { checked = fine c.before; slot_is = c.slot_of-slot.ensures }
 
 -- and the frame is looked up
 looked : (c : tie.After-find)
     → let seen = c.before.before.before.before in
-    let a = seen.before.before.before.before.before.before.args in
-    Looked a.image.now none a.reel a.frame seen.before.before.g.given.0.0 seen.slot_of_lem.result c.find.result
+    let a = seen.args in
+    Looked a.image.now none a.reel a.frame seen.in-Passed.g seen.slot_of-slot.result c.find.result
 looked c =
     let told = c.before.before in
-    record { slot_read = slot_read told.before.before; present = told.if1.false; answer = c.find.ensures }
+    record { slot_read = slot_read told.before.before; present = told.if-g-slot.false; answer = c.find.ensures }
 
-returns : tie.Need-returns
+returns : tie.Need-returns-in-Refused
 returns c pool ws =
     let told = c.before in
-    let a = told.before.before.before.before.before.args in
+    let a = told.args in
     rw c.refused.ensures
     (check_bad (on_has (state a.image.now pool ws) a.reel a.frame).tested no_buffers
-    told.before.before.before.checks.ensures told.before.why.given.1)
+    told.checks.ensures told.in-Refused.is)
 
-returns_2 : tie.Need-returns-2
+returns_2 : tie.Need-returns-then-g-slot
 returns_2 c pool ws =
     let seen = c.before.before.before in
-    let a = seen.before.before.before.before.before.before.args in
-    rw c.refused2.ensures
-    (no_reel (on_has (state a.image.now pool ws) a.reel a.frame) no_buffers (slot_read seen) c.before.if1.true)
+    let a = seen.args in
+    rw c.refused-then-g-slot.ensures
+    (no_reel (on_has (state a.image.now pool ws) a.reel a.frame) no_buffers (slot_read seen) c.if-g-slot.true)
 
-returns_3 : tie.Need-returns-3
+returns_3 : tie.Need-returns-in-Malformed
 returns_3 c pool ws =
-    rw c.refused3.ensures
-    (has_malformed (state _ pool ws) _ _ (looked c.before.before.before) c.before.enum_told.given.1)
+    rw c.refused-in-Malformed.ensures
+    (has_malformed (state _ pool ws) _ _ (looked c.before.before) c.in-Malformed.is)
 
-returns_4 : tie.Need-returns-4
+returns_4 : tie.Need-returns-in-Nothing
 returns_4 c pool ws =
-    let end = c.before.before.before.before in
+    let end = c.before.before in
     rw c.said.ensures
-    (has_said (state _ pool ws) _ _ (looked end.before.before)
-    (ended_with end.found.given.1 c.before.enum-told2.given.1))
+    (has_said (state _ pool ws) _ _ (looked end.before)
+    (ended_with end.in-Ended.is c.in-Nothing.is))
 
-returns_5 : tie.Need-returns-5
+returns_5 : tie.Need-returns-in-At
 returns_5 c pool ws =
-    let end = c.before.before.before.before in
-    rw c.said2.ensures
-    (has_said (state _ pool ws) _ _ (looked end.before.before)
-    (ended_with end.found.given.1 c.before.enum-told3.given.1))
+    let end = c.before.before in
+    rw c.said-in-At.ensures
+    (has_said (state _ pool ws) _ _ (looked end.before)
+    (ended_with end.in-Ended.is c.in-At.is))
 
 pub has_spec : {M : Type 1} → statement M
 has_spec =
@@ -78,7 +78,7 @@ has_spec =
     (λ c κs. omega (arith, (slot_read c.before.before).checked.sized.words))
     (λ c κs. let told = c.before in
     let p = slot_read told.before.before in
-    (p.checked.sized, filled_slot p told.if1.false, c.fingerprint.ensures))
+    (p.checked.sized, filled_slot p told.if-g-slot.false, c.fingerprint.ensures))
     (λ c. search rules)
     (λ c κs. search rules)
     (λ c. search rules)

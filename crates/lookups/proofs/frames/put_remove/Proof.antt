@@ -12,12 +12,12 @@ returns c =
     let set = locate.before.before in
     rw (
       ← set.word_of.ensures,
-      ← locate.word-of2.ensures,
-      ← locate.before.without-bit.ensures,
-      ← put.before.without-bit2.ensures,
-      ← set.before.before.before.Node-at.ensures,
+      ← locate.word_of-2.ensures,
+      ← locate.without_bit.ensures,
+      ← put.without_bit-2.ensures,
+      ← set.node_at-at.ensures,
     )
-    (pair_written _ _ _ _ put.put-fenced-pair.ensures)
+    (pair_written _ _ _ _ put.put_fenced_pair.ensures)
 
 pub put_remove_spec : {M : Type 1} → statement M
 put_remove_spec =

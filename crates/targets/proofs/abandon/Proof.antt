@@ -16,61 +16,61 @@ use Rattle.targets.proofs.abandon.Statement.{statement}
 use Rattle.targets.proofs.abandon.Tie as tie
 
 -- the checks are passed
-fine : (c : tie.After-known-told)
-    → let a = c.before.before.before.before.before.before.args in
-    Checked a.image.now none none (some a.script.now) c.before.g.given.0.0
+fine : (c : tie.In-Passed)
+    → let a = c.args in
+    Checked a.image.now none none (some a.script.now) c.in-Passed.g
 fine c =
-    let told = c.before.before.before in
-    let a = told.before.before.before.args in
-    all_checked a.image.now none none (some a.script.now) told.checks.ensures c.before.g.given.1
+    let told = c.before in
+    let a = told.args in
+    all_checked a.image.now none none (some a.script.now) told.checks.ensures c.in-Passed.is
 
-returns : tie.Need-returns
+returns : tie.Need-returns-in-Refused
 returns c pool ws e =
-    let told = c.before.before.before in
-    let a = told.before.before.before.args in
+    let told = c.before in
+    let a = told.args in
     check_bad (on_abandon (state a.image.now pool ws) a.script.now a.head _ refl).tested (buffers [] a.script.now [])
-    told.checks.ensures c.before.why.given.1
+    told.checks.ensures c.in-Refused.is
 
-returns_2 : tie.Need-returns-2
-returns_2 c pool ws e = number_bad (on_abandon (state _ pool ws) _ _ _ refl) (fine c.before) c.if1.true
+returns_2 : tie.Need-returns-then-head
+returns_2 c pool ws e = number_bad (on_abandon (state _ pool ws) _ _ _ refl) (fine c.before) c.if-head.true
 
-returns_3 : tie.Need-returns-3
+returns_3 : tie.Need-returns-in-Idle
 returns_3 c pool ws e =
-    let numbered = c.before.before in
-    let l = numbered.if1.false in
-    state_bad (on_abandon (state _ pool ws) _ _ _ (given_state ws _ e l ∙ c.enum_told.given.1)) (fine numbered.before) l
+    let numbered = c.before in
+    let l = numbered.if-head.false in
+    state_bad (on_abandon (state _ pool ws) _ _ _ (given_state ws _ e l ∙ c.in-Idle.is)) (fine numbered.before) l
     refl
 
 -- claimed or filled, the head is not idle, and the target is its own
-aimed : (c : tie.At-match2-branch)
-    → let y = c.before.before.before.before.before.before.before.before.args.state in
-    (is_idle y ≡ false) × (c.match2.t ≡ target_of y)
-aimed c = ⊎_elim (λ w. rw w.1.given.1 (refl, w.3)) (λ w. rw w.1.given.1 (refl, w.3)) c.match2.branch
+aimed : (c : tie.Joined-state)
+    → let y = c.args.state in
+    (is_idle y ≡ false) × (c.match-state.t ≡ target_of y)
+aimed c = ⊎_elim (λ w. rw w.in-Claimed.is (refl, w.t-is)) (λ w. rw w.in-Filled.is (refl, w.t-is)) c.match-state.branch-raw
 
-returns_4 : tie.Need-returns-4
+returns_4 : tie.Need-returns-then-is_outside
 returns_4 c pool ws e =
     let met = c.before.before in
-    let l = met.before.if1.false in
+    let l = met.if-head.false in
     target_bad (on_abandon (state _ pool ws) _ _ _ (given_state ws _ e l)) (fine met.before.before) l (aimed met).0
-    (rw (← (aimed met).1) (sym c.before.is-outside.ensures ∙ c.if2.true))
+    (rw (← (aimed met).1) (sym c.is_outside.ensures ∙ c.if-is_outside.true))
 
-put_abandon_requires : tie.Need-put-abandon-requires
+put_abandon_requires : tie.Need-put_abandon-requires
 put_abandon_requires c κs =
     let met = c.before.before.before in
     let checked = met.before.before in
     let p = fine checked in
-    let d = denies (outside checked.before.g.given.0.0 met.match2.t) (sym c.before.before.is-outside.ensures ∙ c.before.if2.false) in
+    let d = denies (outside checked.in-Passed.g met.match-state.t) (sym c.is_outside.ensures ∙ c.if-is_outside.false) in
     (p.sized, d.0, d.1, omega arith)
 
-returns_5 : tie.Need-returns-5
+returns_5 : tie.Need-returns
 returns_5 c pool ws e =
     let inside = c.before.before.before.before in
     let met = inside.before.before in
-    let l = met.before.if1.false in
+    let l = met.if-head.false in
     all_done (on_abandon (state _ pool ws) _ _ _ (given_state ws _ e l))
-    (fine met.before.before) l 4 c.before.before.put-abandon.new.1.1.0 (aimed met).0
-    (rw (← (aimed met).1) (sym inside.before.is-outside.ensures ∙ inside.if2.false)) (bit_words _)
-    (rw (← (aimed met).1) c.before.before.put-abandon.ensures)
+    (fine met.before.before) l 4 c.put_abandon.new.script (aimed met).0
+    (rw (← (aimed met).1) (sym inside.is_outside.ensures ∙ inside.if-is_outside.false)) (bit_words _)
+    (rw (← (aimed met).1) c.put_abandon.ensures)
 
 pub abandon_spec : {M : Type 1} → statement M
 abandon_spec =

@@ -13,57 +13,57 @@ use Rattle.targets.proofs.commit.Statement.{statement}
 use Rattle.targets.proofs.commit.Tie as tie
 
 -- the checks are passed
-fine : (c : tie.After-known-told)
-    → let a = c.before.before.before.before.before.before.args in
-    Checked a.image.now none none (some a.script.now) c.before.g.given.0.0
+fine : (c : tie.In-Passed)
+    → let a = c.args in
+    Checked a.image.now none none (some a.script.now) c.in-Passed.g
 fine c =
-    let told = c.before.before.before in
-    let a = told.before.before.before.args in
-    all_checked a.image.now none none (some a.script.now) told.checks.ensures c.before.g.given.1
+    let told = c.before in
+    let a = told.args in
+    all_checked a.image.now none none (some a.script.now) told.checks.ensures c.in-Passed.is
 
-returns : tie.Need-returns
+returns : tie.Need-returns-in-Refused
 returns c pool ws e =
-    let told = c.before.before.before in
-    let a = told.before.before.before.args in
+    let told = c.before in
+    let a = told.args in
     check_bad (on_commit (state a.image.now pool ws) a.script.now a.head _ refl).tested (buffers [] a.script.now [])
-    told.checks.ensures c.before.why.given.1
+    told.checks.ensures c.in-Refused.is
 
-returns_2 : tie.Need-returns-2
-returns_2 c pool ws e = number_bad (on_commit (state _ pool ws) _ _ _ refl) (fine c.before) c.if1.true
+returns_2 : tie.Need-returns-then-head
+returns_2 c pool ws e = number_bad (on_commit (state _ pool ws) _ _ _ refl) (fine c.before) c.if-head.true
 
-returns_3 : tie.Need-returns-3
+returns_3 : tie.Need-returns-in_default
 returns_3 c pool ws e =
-    let a = c.before.before.before.before.before.before.before.before.args in
-    let l = c.before.if1.false in
+    let a = c.args in
+    let l = c.if-head.false in
     state_bad (on_commit (state _ pool ws) _ _ _ (given_state ws _ e l)) (fine c.before.before) l
-    (not_filled a.state c.match2.keys2)
+    (not_filled a.state c.in_default.in_default-own.keys2)
 
-returns_4 : tie.Need-returns-4
+returns_4 : tie.Need-returns-then-is_outside
 returns_4 c pool ws e =
-    let taken = c.before.before.before in
-    let numbered = taken.before.before in
-    let l = numbered.if1.false in
-    target_bad (on_commit (state _ pool ws) _ _ _ (given_state ws _ e l ∙ taken.state.given.1)) (fine numbered.before) l
-    refl (sym c.before.is-outside.ensures ∙ c.if2.true)
+    let taken = c.before.before in
+    let numbered = taken.before in
+    let l = numbered.if-head.false in
+    target_bad (on_commit (state _ pool ws) _ _ _ (given_state ws _ e l ∙ taken.in-Filled.is)) (fine numbered.before) l
+    refl (sym c.is_outside.ensures ∙ c.if-is_outside.true)
 
-put_commit_requires : tie.Need-put-commit-requires
+put_commit_requires : tie.Need-put_commit-requires
 put_commit_requires c κs =
-    let taken = c.before.before.before.before in
-    let checked = taken.before.before.before in
+    let taken = c.before.before.before in
+    let checked = taken.before.before in
     let p = fine checked in
-    let within = sym c.before.before.is-outside.ensures ∙ c.before.if2.false in
-    let d = denies (outside checked.before.g.given.0.0 taken.state.given.0.0) within in
+    let within = sym c.is_outside.ensures ∙ c.if-is_outside.false in
+    let d = denies (outside checked.in-Passed.g taken.in-Filled.t) within in
     (p.sized, d.0, d.1, omega arith)
 
-returns_5 : tie.Need-returns-5
+returns_5 : tie.Need-returns
 returns_5 c pool ws e =
     let inside = c.before.before.before.before in
-    let taken = inside.before.before.before in
-    let numbered = taken.before.before in
-    let l = numbered.if1.false in
-    all_done (on_commit (state _ pool ws) _ _ _ (given_state ws _ e l ∙ taken.state.given.1))
-    (fine numbered.before) l 4 c.before.before.put-commit.new.1.1.0 refl
-    (sym inside.before.is-outside.ensures ∙ inside.if2.false) (bit_words _) c.before.before.put-commit.ensures
+    let taken = inside.before.before in
+    let numbered = taken.before in
+    let l = numbered.if-head.false in
+    all_done (on_commit (state _ pool ws) _ _ _ (given_state ws _ e l ∙ taken.in-Filled.is))
+    (fine numbered.before) l 4 c.put_commit.new.script refl
+    (sym inside.is_outside.ensures ∙ inside.if-is_outside.false) (bit_words _) c.put_commit.ensures
 
 pub commit_spec : {M : Type 1} → statement M
 commit_spec =

@@ -8,8 +8,8 @@ returns c =
     let put = c.before.before in
     let bits = put.before.before in
     let read = bits.before.before in
-    rw (← read.word_of.ensures, ← bits.with-bit.ensures, ← read.before.Node-at.ensures)
-    (fenced_written _ _ _ put.put-fenced.ensures)
+    rw (← read.word_of.ensures, ← bits.with_bit-bits.ensures, ← read.node_at.ensures)
+    (fenced_written _ _ _ put.put_fenced.ensures)
 
 pub put_commit_spec : {M : Type 1} → statement M
 put_commit_spec =

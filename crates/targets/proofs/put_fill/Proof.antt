@@ -9,8 +9,8 @@ unfolding fill_script
 returns c =
     let put = c.before.before in
     let read = put.before.before in
-    rw (← read.fingerprints-of.ensures, ← put.before.fingerprint-word.ensures, ← read.before.before.Node-at.ensures)
-    (pair_written _ _ _ _ put.put-fenced-pair.ensures)
+    rw (← read.fingerprints_of.ensures, ← put.fingerprint_word.ensures, ← read.node_at-at.ensures)
+    (pair_written _ _ _ _ put.put_fenced_pair.ensures)
 
 pub put_fill_spec : {M : Type 1} → statement M
 put_fill_spec =

@@ -18,130 +18,127 @@ use Rattle.claims.proofs.claim.claim.Statement.{statement}
 use Rattle.claims.proofs.claim.claim.Tie as tie
 
 -- the checks are passed
-fine : (c : tie.After-known-told)
-    → let a = c.before.before.before.before.before.before.before.args in
-    OpenChecked a.image.now a.pool.now a.script.now c.before.g.given.0.0
+fine : (c : tie.In-Passed)
+    → let a = c.args in
+    OpenChecked a.image.now a.pool.now a.script.now c.in-Passed.g
 fine c =
-    let told = c.before.before.before in
-    let a = told.before.before.before.before.args in
-    open_checked a.image.now a.pool.now a.script.now told.checks.ensures c.before.g.given.1
+    let told = c.before in
+    let a = told.args in
+    open_checked a.image.now a.pool.now a.script.now told.checks.ensures c.in-Passed.is
 
 -- so are the tests of the head and of the slot
-past : (c : tie.After-enum-told) (ws : List ℕ)
-    → let read = c.before.before.before.before in
-    let a = read.before.before.before.before.before.before.before.args in
+past : (c : tie.In_default) (ws : List ℕ)
+    → let read = c.before.before.before in
+    let a = read.args in
     heads_in ws ≡ a.heads
-    → HeadPassed a.image.now a.pool.now a.script.now ws a.head a.reel a.frame read.before.g.given.0.0 c.before.before.before.slot_of_lem.result
+    → HeadPassed a.image.now a.pool.now a.script.now ws a.head a.reel a.frame read.in-Passed.g c.slot_of-slot.result
 past c ws e =
-    let tests = c.before.before in
+    let tests = c.before in
     let read = tests.before.before in
-    let a = read.before.before.before.before.before.before.before.args in
-    head_passed a.image.now a.pool.now a.script.now ws a.head a.reel a.frame a.heads e _ (fine read) _ tests.before.slot_of_lem.ensures
-    (admission_number tests.admit.result) tests.admit.ensures (ap admission_number c.enum_told.given.1)
+    let a = read.args in
+    head_passed a.image.now a.pool.now a.script.now ws a.head a.reel a.frame a.heads e _ (fine read) _ tests.slot_of-slot.ensures
+    (admission_number tests.admit.result) tests.admit.ensures (ap admission_number c.in_default.is)
 
 -- and the slot is filled
-filled : (c : tie.After-enum-told)
-    → let read = c.before.before.before.before in
-    let a = read.before.before.before.before.before.before.before.args in
-    Filled read.before.g.given.0.0 (readsWords a.image.now) c.before.before.before.slot_of_lem.result
+filled : (c : tie.In_default)
+    → let read = c.before.before.before in
+    let a = read.args in
+    Filled read.in-Passed.g (readsWords a.image.now) c.slot_of-slot.result
 filled c =
-    let tests = c.before.before in
-    let slot = tests.before.slot_of_lem in
+    let tests = c.before in
+    let slot = tests.slot_of-slot in
     let read = tests.before.before in
-    let a = read.before.before.before.before.before.before.before.args in
-    let l : slot.result < read.before.g.given.0.0.slots =
-    slot_below a.heads a.head read.before.g.given.0.0 slot.result (sym (ap admission_number c.enum_told.given.1) ∙ tests.admit.ensures) in
-    rw slot.ensures ((slot_laws read.before.g.given.0.0 (readsWords a.image.now)).reel a.reel (rw (← slot.ensures) l)).0
+    let a = read.args in
+    let l : slot.result < read.in-Passed.g.slots =
+    slot_below a.heads a.head read.in-Passed.g slot.result (sym (ap admission_number c.in_default.is) ∙ tests.admit.ensures) in
+    rw slot.ensures ((slot_laws read.in-Passed.g (readsWords a.image.now)).reel a.reel (rw (← slot.ensures) l)).0
 
-returns : tie.Need-returns
+returns : tie.Need-returns-in-Refused
 returns c ws e =
-    let why = c.before.before in
-    let told = why.before.before in
-    let a = told.before.before.before.before.args in
+    let why = c.before in
+    let told = why.before in
+    let a = told.args in
     rw c.refused.ensures
-    (claim_early a.image.now a.pool.now a.script.now ws a.head a.reel a.frame told.checks.ensures why.why.given.1)
+    (claim_early a.image.now a.pool.now a.script.now ws a.head a.reel a.frame told.checks.ensures why.in-Refused.is)
 
-returns_2 : tie.Need-returns-2
+returns_2 : tie.Need-returns-in-Refused-admit
 returns_2 c ws e =
-    let why = c.before.before in
-    let tests = why.before.before in
+    let why = c.before in
+    let tests = why.before in
     let read = tests.before.before in
-    let a = read.before.before.before.before.before.before.before.args in
-    rw c.refused2.ensures
-    (head_refused a.image.now a.pool.now a.script.now ws a.head a.reel a.frame a.heads e _ (fine read) _ tests.before.slot_of_lem.ensures
-    (number_of why.why2.given.0.0) (sym (ap admission_number why.why2.given.1) ∙ tests.admit.ensures)
-    (number_some why.why2.given.0.0))
+    let a = read.args in
+    rw c.refused-in-Refused-admit.ensures
+    (head_refused a.image.now a.pool.now a.script.now ws a.head a.reel a.frame a.heads e _ (fine read) _ tests.slot_of-slot.ensures
+    (number_of why.in-Refused-admit.why) (sym (ap admission_number why.in-Refused-admit.is) ∙ tests.admit.ensures)
+    (number_some why.in-Refused-admit.why))
 
-returns_3 : tie.Need-returns-3
+returns_3 : tie.Need-returns-in-Malformed
 returns_3 c ws e =
-    let walked = c.before.before.before in
-    rw c.refused3.ensures (path_malformed _ _ _ _ _ _ _ (past walked.before.before ws e) walked.room_for.ensures c.before.enum-told2.given.1)
+    let walked = c.before.before in
+    rw c.refused-in-Malformed.ensures (path_malformed _ _ _ _ _ _ _ (past walked.before.before ws e) walked.room_for.ensures c.in-Malformed.is)
 
-returns_4 : tie.Need-returns-4
+returns_4 : tie.Need-returns-in-Full
 returns_4 c ws e =
-    let walked = c.before.before.before in
-    rw c.refused4.ensures (path_full _ _ _ _ _ _ _ (past walked.before.before ws e) walked.room_for.ensures c.before.enum-told3.given.1)
+    let walked = c.before.before in
+    rw c.refused-in-Full.ensures (path_full _ _ _ _ _ _ _ (past walked.before.before ws e) walked.room_for.ensures c.in-Full.is)
 
-returns_5 : tie.Need-returns-5
+returns_5 : tie.Need-returns-in-Held
 returns_5 c ws e =
-    let walked = c.before.before.before in
-    rw c.refused5.ensures (frame_held _ _ _ _ _ _ _ (past walked.before.before ws e) walked.room_for.ensures c.before.enum-told4.given.1)
+    let walked = c.before.before in
+    rw c.refused-in-Held.ensures (frame_held _ _ _ _ _ _ _ (past walked.before.before ws e) walked.room_for.ensures c.in-Held.is)
 
-run_for_requires : tie.Need-run-for-requires
-run_for_requires c κs = let p = fine c.before.before.before.before.before.before.before.before.before.before in search rules
+run_for_requires : tie.Need-run_for-start-requires
+run_for_requires c κs = let p = fine c.before.before.before.before.before.before in search rules
 
 -- the room was found on the frame's path
-free : (c : tie.After-run-for)
-    → let known = c.before.before.before in
-    let walked = known.before.before in
-    let read = walked.before.before.before.before.before.before in
-    let a = read.before.before.before.before.before.before.before.args in
-    Free known.vacancy.given.0.0 ≡ placement_from read.before.g.given.0.0 (readsWords a.image.now) walked.before.before.before.before.before.slot_of_lem.result a.frame
-free c = let known = c.before.before.before in sym known.vacancy.given.1 ∙ known.before.before.room_for.ensures
+free : (c : tie.After-run_for-start)
+    → let a = c.args in
+    Free c.in-Free.vacancy ≡ placement_from c.in-Passed.g (readsWords a.image.now) c.slot_of-slot.result a.frame
+free c = sym c.in-Free.is ∙ c.room_for.ensures
 
-target_in_requires : tie.Need-target-in-requires
+target_in_requires : tie.Need-target_in-target-requires
 target_in_requires c κs =
-    let known = c.before.before.before in
-    let read = known.before.before.before.before.before.before.before.before in
-    let a = read.before.before.before.before.before.before.before.args in
+    let known = c.before in
+    let read = known.before.before.before.before.before.before in
+    let a = read.args in
     let p = fine read in
-    let l = start_within read.before.g.given.0.0 a.pool.now known.vacancy.given.0.0.room _ c.run-for.ensures in
+    let l = start_within read.in-Passed.g a.pool.now known.in-Free.vacancy.room _ c.run_for-start.ensures in
     let d = deep_room _ _ _ _ (free c) in
     search rules
 
-returns_6 : tie.Need-returns-6
+returns_6 : tie.Need-returns-then-has_conflict
 returns_6 c ws e =
     let met = c.before.before in
     let run = met.before.before.before in
-    let known = run.before.before.before in
+    let known = run.before in
     let walked = known.before.before in
-    rw c.refused6.ensures
-    (has_conflict _ _ _ _ _ _ _ (past walked.before.before ws e) walked.room_for.ensures _ known.vacancy.given.1 _ run.run-for.ensures
-    _ e _ met.before.before.target-in.ensures _ met.has_conflict.ensures c.before.if1.true)
+    rw c.refused-then-has_conflict.ensures
+    (has_conflict _ _ _ _ _ _ _ (past walked.before ws e) known.room_for.ensures _ known.in-Free.is _ run.run_for-start.ensures
+    _ e _ met.target_in-target.ensures _ met.has_conflict.ensures c.if-has_conflict.true)
 
-returns_7 : tie.Need-returns-7
+returns_7 : tie.Need-returns-then-g-start
 returns_7 c ws e =
     let met = c.before.before.before.before in
     let run = met.before.before.before in
-    let known = run.before.before.before in
+    let known = run.before in
     let walked = known.before.before in
-    rw c.refused7.ensures
-    (no_run_lem _ _ _ _ _ _ _ (past walked.before.before ws e) walked.room_for.ensures _ known.vacancy.given.1 _ run.run-for.ensures
-    _ e _ met.before.before.target-in.ensures _ met.has_conflict.ensures c.before.before.before.if1.false c.before.if2.true)
+    rw c.refused-then-g-start.ensures
+    (no_run_lem _ _ _ _ _ _ _ (past walked.before ws e) known.room_for.ensures _ known.in-Free.is _ run.run_for-start.ensures
+    _ e _ met.target_in-target.ensures _ met.has_conflict.ensures c.if-has_conflict.false c.if-g-start.true)
 
-take_room_requires : tie.Need-take-room-requires
+take_room_requires : tie.Need-take_room-words-requires
 take_room_requires c κs =
     let left = c.before.before in
     let met = left.before.before.before in
     let run = met.before.before.before in
-    let known = run.before.before.before in
-    let read = known.before.before.before.before.before.before.before.before in
-    let a = read.before.before.before.before.before.before.before.args in
+    let known = run.before in
+    let read = known.before.before.before.before.before.before in
+    let a = read.args in
     let p = fine read in
     let s = p.sized in
-    let fits = run_fits read.before.g.given.0.0 a.pool.now known.vacancy.given.0.0.room _ run.run-for.ensures left.if2.false in
+    let fits = run_fits read.in-Passed.g a.pool.now known.in-Free.vacancy.room _ run.run_for-start.ensures left.if-g-start.false in
     let place = place_fits _ _ _ _ (free run) _ fits in
-    let target = met.before.before.target-in.ensures in (
+    let target = met.target_in-target.ensures in (
       s,
       (search rules, search rules, in_pool _ _ _ _ (free run) _ fits),
       rw target place.0,
@@ -150,17 +147,17 @@ take_room_requires c κs =
       p.script_words,
     )
 
-returns_8 : tie.Need-returns-8
+returns_8 : tie.Need-returns
 returns_8 c ws e =
     let took = c.before.before.before.before in
     let left = took.before.before.before in
     let met = left.before.before.before in
     let run = met.before.before.before in
-    let known = run.before.before.before in
+    let known = run.before in
     let walked = known.before.before in
-    claimed _ _ _ _ _ _ _ (past walked.before.before ws e) walked.room_for.ensures _ known.vacancy.given.1 _ run.run-for.ensures
-    _ e _ met.before.before.target-in.ensures _ met.has_conflict.ensures left.before.before.if1.false left.if2.false
-    took.take-room.new.1.0 took.take-room.new.1.1.0 took.take-room.result took.take-room.ensures
+    claimed _ _ _ _ _ _ _ (past walked.before ws e) known.room_for.ensures _ known.in-Free.is _ run.run_for-start.ensures
+    _ e _ met.target_in-target.ensures _ met.has_conflict.ensures left.if-has_conflict.false left.if-g-start.false
+    took.take_room-words.new.pool took.take_room-words.new.script took.take_room-words.result took.take_room-words.ensures
 
 pub claim_spec : {M : Type 1} → statement M
 claim_spec =
@@ -177,9 +174,9 @@ claim_spec =
     (λ c κs. search rules)
     returns_2
     (λ c. search rules)
-    (λ c κs. omega (arith, (fine c.before.before.before.before).sized.words))
+    (λ c κs. omega (arith, (fine c.before.before.before).sized.words))
     (λ c κs. let told = c.before in
-    ((fine told.before.before.before.before).sized, filled told, c.fingerprint.ensures))
+    ((fine told.before.before.before).sized, filled told, c.fingerprint.ensures))
     (λ c. search rules)
     (λ c κs. search rules)
     returns_3

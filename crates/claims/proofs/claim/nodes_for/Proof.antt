@@ -1,5 +1,5 @@
 use mathlib.Core.Path.{sym, ◌∙◌, ap}
-use Rattle.tree.specs.Room.{rules as nodesFor}
+use Rattle.tree.specs.Room.{needs as nodesFor}
 use borrow.Author.Rules.{rules}
 use Rattle.claims.proofs.claim.nodes_for.Statement.{statement}
 use Rattle.claims.proofs.claim.nodes_for.Tie as tie
@@ -14,4 +14,4 @@ nodes_for_spec =
     (λ c κs. search rules)
     (λ c. search rules)
     (λ c. search rules)
-    (λ c. c.fanout.ensures ∙ sym (ap nodesFor c.before.before.room.given.1)))
+    (λ c. c.fanout.ensures ∙ sym (ap nodesFor c.in-BranchOut.is)))

@@ -9,14 +9,14 @@ use Rattle.claims.proofs.claim.target_in.Statement.{statement}
 use Rattle.claims.proofs.claim.target_in.Tie as tie
 
 -- a branch-out's level, and its frame's child
-low : (c : tie.After-known-told3) → c.before.room3.given.0.1.0 < 31
-low c = omega (arith, ap depth_of c.before.room3.given.1, c.before.before.before.requires.1)
+low : (c : tie.In-BranchOut) → c.in-BranchOut.depth < 31
+low c = omega (arith, ap depth_of c.in-BranchOut.is, c.requires.1)
 
 few : (c : tie.After-child) → c.child.result ≤ 3
 few c =
-    let d = c.before.before.room3.given.0.1.0 in
+    let d = c.in-BranchOut.depth in
     let l = low c.before in
-    omega (arith, c.child.ensures, child_laws.below d c.before.before.before.before.args.frame l, (fanout_few d l).1)
+    omega (arith, c.child.ensures, child_laws.below d c.args.frame l, (fanout_few d l).1)
 
 pub target_in_spec : {M : Type 1} → statement M
 target_in_spec =
@@ -26,7 +26,7 @@ target_in_spec =
     (λ c. search rules)
     (λ c. search rules)
     (λ c κs. let l = low c in search rules)
-    (λ c. let l = few c in let s = c.before.before.before.before.requires.0 in search rules)
-    (λ c. rw c.before.room.given.1 refl)
-    (λ c. rw c.before.room2.given.1 refl)
-    (λ c. rw (c.before.before.room3.given.1, c.child.ensures) refl))
+    (λ c. let l = few c in let s = c.requires.0 in search rules)
+    (λ c. rw c.in-Clear.is refl)
+    (λ c. rw c.in-ScaleUp.is refl)
+    (λ c. rw (c.in-BranchOut.is, c.child.ensures) refl))

@@ -12,5 +12,5 @@ conflicts_spec =
     (λ c. search rules)
     (λ c κs. search rules)
     (λ c. search rules)
-    (λ c. rw c.before.before.state.given.1 c.meets.ensures)
-    (λ c. rw c.before.before.state2.given.1 c.meets2.ensures))
+    (λ c. rw c.in-Claimed.is c.meets.ensures)
+    (λ c. rw c.in-Filled.is c.meets-in-Filled.ensures))

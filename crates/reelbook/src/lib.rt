@@ -1,4 +1,5 @@
-// The C interface: thin wrappers, in which numbers and the driver's words meet the proved operations.
+// The C interface: thin wrappers, in which numbers and the driver's words meet the proved operations. The crate reelbook_c exports
+// them to C.
 //
 // A script's first `used` words are to be carried out, each barrier passed where it stands, before the next call; the map
 // and the head records have changed when the call returns. The driver passes a barrier after Format and after Recover.
@@ -8,7 +9,7 @@
 
 ghost use Rattle.std.specs.Prelude.{◌≡◌, List, [], ℕ, length};
 ghost use Rattle.book.specs.State.{format, recover, open_reel, claim, fill, commit, abandon, remove, retire, tidy};
-ghost use Rattle.book.specs.State.{query, has, list as list-reel, convert};
+ghost use Rattle.book.specs.State.{query, has, list as list_reel, convert};
 ghost use Rattle.book.specs.CarryOut.{carry, carried};
 ghost use Rattle.tree.specs.Memory.{translate as translate_words, translation};
 ghost use Rattle.operations.specs.Ends.{all_buffers, buffers, no_buffers, state, ended, ended_left, ended_path, ends};
@@ -25,8 +26,7 @@ pub use tree::persistent::count_stores;
 
 // Makes the image anew, with so many reel slots and nodes, and with a table of its own where one is given: 256 bytes, each
 // once. One of length 0 is none.
-#[unsafe(no_mangle)]
-pub extern "C" fn reelbook_format(
+pub fn reelbook_format(
     image: &mut [u64],
     map: &mut [u64],
     heads: &mut [u64; HEAD_WORDS],
@@ -42,12 +42,7 @@ pub extern "C" fn reelbook_format(
 }
 
 // After power-up: checks the image, sets its locate words, builds the map, makes the heads idle.
-#[unsafe(no_mangle)]
-pub extern "C" fn reelbook_recover(
-    image: &mut [u64],
-    map: &mut [u64],
-    heads: &mut [u64; HEAD_WORDS],
-) -> u64
+pub fn reelbook_recover(image: &mut [u64], map: &mut [u64], heads: &mut [u64; HEAD_WORDS]) -> u64
     ensures { ended result 0 (state image.new map.new heads.new) no_buffers
         ≡ ends (recover (length map.old))
         (state image.old map.old heads.old) no_buffers }
@@ -56,8 +51,7 @@ pub extern "C" fn reelbook_recover(
 }
 
 // Takes a slot and a node for a reel, and writes the script that opens it.
-#[unsafe(no_mangle)]
-pub extern "C" fn reelbook_open(
+pub fn reelbook_open(
     image: &[u64],
     map: &mut [u64],
     script: &mut [u64],
@@ -74,8 +68,7 @@ pub extern "C" fn reelbook_open(
 }
 
 // Takes a place for a frame, writes the script that claims it, and tells how many clear places its node has left then.
-#[unsafe(no_mangle)]
-pub extern "C" fn reelbook_claim(
+pub fn reelbook_claim(
     image: &[u64],
     map: &mut [u64],
     heads: &mut [u64; HEAD_WORDS],
@@ -98,8 +91,7 @@ pub extern "C" fn reelbook_claim(
 }
 
 // Writes the script that puts the frame and its fingerprint in the claimed place.
-#[unsafe(no_mangle)]
-pub extern "C" fn reelbook_fill(
+pub fn reelbook_fill(
     image: &[u64],
     heads: &mut [u64; HEAD_WORDS],
     script: &mut [u64],
@@ -117,8 +109,7 @@ pub extern "C" fn reelbook_fill(
 }
 
 // Writes the script that makes the frame a member of its reel.
-#[unsafe(no_mangle)]
-pub extern "C" fn reelbook_commit(
+pub fn reelbook_commit(
     image: &[u64],
     heads: &mut [u64; HEAD_WORDS],
     script: &mut [u64],
@@ -136,8 +127,7 @@ pub extern "C" fn reelbook_commit(
 }
 
 // Writes the script that gives the claimed place back.
-#[unsafe(no_mangle)]
-pub extern "C" fn reelbook_abandon(
+pub fn reelbook_abandon(
     image: &[u64],
     heads: &mut [u64; HEAD_WORDS],
     script: &mut [u64],
@@ -155,8 +145,7 @@ pub extern "C" fn reelbook_abandon(
 }
 
 // Writes the script that takes a frame out of its reel.
-#[unsafe(no_mangle)]
-pub extern "C" fn reelbook_remove(
+pub fn reelbook_remove(
     image: &[u64],
     heads: &[u64; HEAD_WORDS],
     script: &mut [u64],
@@ -177,14 +166,7 @@ pub extern "C" fn reelbook_remove(
 }
 
 // Does a reel hold a frame? 1 or 0. Tells how many nodes are on the frame's path, wherever on it the frame is, or if it is not.
-#[unsafe(no_mangle)]
-pub extern "C" fn reelbook_has(
-    image: &[u64],
-    reel: u64,
-    frame: u64,
-    yes: &mut u64,
-    nodes: &mut u64,
-) -> u64
+pub fn reelbook_has(image: &[u64], reel: u64, frame: u64, yes: &mut u64, nodes: &mut u64) -> u64
     ensures { (pool heads : List ℕ)
         → ended_path result yes.new nodes.new (state image.now pool heads) no_buffers
         ≡ ends (query (has reel frame)) (state image.now pool heads) no_buffers }
@@ -196,8 +178,7 @@ pub extern "C" fn reelbook_has(
 }
 
 // Lists a reel's frames.
-#[unsafe(no_mangle)]
-pub extern "C" fn reelbook_list(
+pub fn reelbook_list(
     image: &[u64],
     scratch: &mut [u64],
     list: &mut [u64],
@@ -207,15 +188,14 @@ pub extern "C" fn reelbook_list(
     ensures { (pool heads : List ℕ)
         → ended result count.new (state image.now pool heads)
         (buffers scratch.new [] list.new)
-        ≡ ends (query (list-reel (length scratch.old) (length list.old) reel))
+        ≡ ends (query (list_reel (length scratch.old) (length list.old) reel))
         (state image.now pool heads) (buffers scratch.old [] list.old) }
 {
     hand_over(list::list(image, scratch, list, reel), count)
 }
 
 // Writes the script that takes a reel out, and frees its nodes in the map.
-#[unsafe(no_mangle)]
-pub extern "C" fn reelbook_retire(
+pub fn reelbook_retire(
     image: &[u64],
     map: &mut [u64],
     heads: &[u64; HEAD_WORDS],
@@ -238,8 +218,7 @@ pub extern "C" fn reelbook_retire(
 }
 
 // Writes the script that takes the first group of empty children from a reel's tree, and frees them in the map.
-#[unsafe(no_mangle)]
-pub extern "C" fn reelbook_tidy(
+pub fn reelbook_tidy(
     image: &[u64],
     map: &mut [u64],
     heads: &[u64; HEAD_WORDS],
@@ -262,8 +241,7 @@ pub extern "C" fn reelbook_tidy(
 }
 
 // Writes the image of the other edition to a second image of the same length. The image is only read.
-#[unsafe(no_mangle)]
-pub extern "C" fn reelbook_convert(image: &[u64], copy: &mut [u64], scratch: &mut [u64]) -> u64
+pub fn reelbook_convert(image: &[u64], copy: &mut [u64], scratch: &mut [u64]) -> u64
     ensures { (pool heads : List ℕ)
         → ended result 0 (state image.now pool heads) (all_buffers scratch.new [] [] copy.new)
         ≡ ends (query (convert (length scratch.old) (length copy.old)))
@@ -273,21 +251,14 @@ pub extern "C" fn reelbook_convert(image: &[u64], copy: &mut [u64], scratch: &mu
 }
 
 // Carries a script out on the image, barriers and flushes skipped.
-#[unsafe(no_mangle)]
-pub extern "C" fn reelbook_apply(image: &mut [u64], script: &[u64]) -> u64
+pub fn reelbook_apply(image: &mut [u64], script: &[u64]) -> u64
     ensures { carried result image.new ≡ carry image.old script.now }
 {
     answer_number(apply::apply(image, script))
 }
 
 // Translates a script for a memory module with line flushes, and for an image of so many words.
-#[unsafe(no_mangle)]
-pub extern "C" fn reelbook_translate(
-    script: &[u64],
-    flushed: &mut [u64],
-    words: u64,
-    used: &mut u64,
-) -> u64
+pub fn reelbook_translate(script: &[u64], flushed: &mut [u64], words: u64, used: &mut u64) -> u64
     ensures { translation result used.new flushed.new
         ≡ translate_words words script.now flushed.old }
 {

@@ -8,19 +8,19 @@ use borrow.Author.Rules.{rules}
 use Rattle.reelbook.proofs.reelbook_abandon.Statement.{statement}
 use Rattle.reelbook.proofs.reelbook_abandon.Tie as tie
 
-hand_over_head_requires : tie.Need-hand-over-head-requires
+hand_over_head_requires : tie.Need-hand_over_head-requires
 hand_over_head_requires c κs =
     let done = c.before.before.before.before in
-    let a = done.before.before.before.before.before.before.args in
-    head_inside (OfHead.abandons {script = length a.script.now}) (state a.image.now [] a.heads.now) (buffers [] a.script.now []) done.abandon.result
-    (done.abandon.ensures [] a.heads.now (sym done.before.before.state-of.ensures))
+    let a = done.args in
+    head_inside (OfHead.abandons {script = length a.script.now}) (state a.image.now [] a.heads.now) (buffers [] a.script.now []) done.abandon-answer.result
+    (done.abandon-answer.ensures [] a.heads.now (sym done.state_of.ensures))
 
 returns : tie.Need-returns
 returns c pool =
     let done = c.before.before.before.before.before in
-    let over = c.hand-over-head.ensures in
-    let heads = done.before.before.before.before.before.before.args.heads in
-    rw (over.0, over.1, over.2) (done.abandon.ensures pool heads.now (sym done.before.before.state-of.ensures))
+    let over = c.hand_over_head.ensures in
+    let heads = done.args.heads in
+    rw (over.0, over.1, over.2) (done.abandon-answer.ensures pool heads.now (sym done.state_of.ensures))
 
 pub reelbook_abandon_spec : {M : Type 1} → statement M
 reelbook_abandon_spec =

@@ -3,7 +3,7 @@ use Rattle.reelbook.proofs.reelbook_apply.Statement.{statement}
 use Rattle.reelbook.proofs.reelbook_apply.Tie as tie
 
 returns : tie.Need-returns
-returns c = rw c.answer-number.ensures c.before.before.before.apply.ensures
+returns c = rw c.answer_number.ensures c.apply.ensures
 
 pub reelbook_apply_spec : {M : Type 1} → statement M
 reelbook_apply_spec =

@@ -9,21 +9,21 @@ use borrow.Author.Rules.{rules}
 use Rattle.reelbook.proofs.reelbook_claim.Statement.{statement}
 use Rattle.reelbook.proofs.reelbook_claim.Tie as tie
 
-hand_over_head_requires : tie.Need-hand-over-head-requires
+hand_over_head_requires : tie.Need-hand_over_head-requires
 hand_over_head_requires c κs =
     let done = c.before.before.before.before.before.before in
-    let a = done.before.before.before.before.before.before.before.before.args in
+    let a = done.args in
     head_inside (OfHead.claims {map = length a.map.now} {script = length a.script.now} {reel = a.reel} {f = a.frame})
-    (state a.image.now a.map.now a.heads.now) (buffers [] a.script.now []) done.claim.result.answer
-    {s' = state a.image.now done.claim.new.1.0 (heads_after a.heads.now a.head done.claim.result.answer)}
-    (done.claim.ensures a.heads.now (sym done.before.before.read-heads.ensures))
+    (state a.image.now a.map.now a.heads.now) (buffers [] a.script.now []) done.claim-claimed.result.answer
+    {s' = state a.image.now done.claim-claimed.new.pool (heads_after a.heads.now a.head done.claim-claimed.result.answer)}
+    (done.claim-claimed.ensures a.heads.now (sym done.read_heads.ensures))
 
 returns : tie.Need-returns
 returns c =
     let done = c.before.before.before.before.before.before.before in
-    let over = c.hand-over-head.ensures in
-    let heads = done.before.before.before.before.before.before.before.before.args.heads in
-    rw (over.0, over.1, over.2) (done.claim.ensures heads.now (sym done.before.before.read-heads.ensures))
+    let over = c.hand_over_head.ensures in
+    let heads = done.args.heads in
+    rw (over.0, over.1, over.2) (done.claim-claimed.ensures heads.now (sym done.read_heads.ensures))
 
 pub reelbook_claim_spec : {M : Type 1} → statement M
 reelbook_claim_spec =

@@ -3,7 +3,7 @@ use Rattle.reelbook.proofs.reelbook_convert.Statement.{statement}
 use Rattle.reelbook.proofs.reelbook_convert.Tie as tie
 
 returns : tie.Need-returns
-returns c pool heads = rw c.answer-number.ensures (c.before.before.before.before.before.convert.ensures pool heads)
+returns c pool heads = rw c.answer_number.ensures (c.convert.ensures pool heads)
 
 pub reelbook_convert_spec : {M : Type 1} → statement M
 reelbook_convert_spec =

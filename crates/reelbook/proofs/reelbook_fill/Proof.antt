@@ -8,19 +8,19 @@ use borrow.Author.Rules.{rules}
 use Rattle.reelbook.proofs.reelbook_fill.Statement.{statement}
 use Rattle.reelbook.proofs.reelbook_fill.Tie as tie
 
-hand_over_head_requires : tie.Need-hand-over-head-requires
+hand_over_head_requires : tie.Need-hand_over_head-requires
 hand_over_head_requires c κs =
     let done = c.before.before.before.before in
-    let a = done.before.before.before.before.before.before.args in
-    head_inside (OfHead.fills {script = length a.script.now}) (state a.image.now [] a.heads.now) (buffers [] a.script.now []) done.fill.result
-    (done.fill.ensures [] a.heads.now (sym done.before.before.state-of.ensures))
+    let a = done.args in
+    head_inside (OfHead.fills {script = length a.script.now}) (state a.image.now [] a.heads.now) (buffers [] a.script.now []) done.fill-answer.result
+    (done.fill-answer.ensures [] a.heads.now (sym done.state_of.ensures))
 
 returns : tie.Need-returns
 returns c pool =
     let done = c.before.before.before.before.before in
-    let over = c.hand-over-head.ensures in
-    let heads = done.before.before.before.before.before.before.args.heads in
-    rw (over.0, over.1, over.2) (done.fill.ensures pool heads.now (sym done.before.before.state-of.ensures))
+    let over = c.hand_over_head.ensures in
+    let heads = done.args.heads in
+    rw (over.0, over.1, over.2) (done.fill-answer.ensures pool heads.now (sym done.state_of.ensures))
 
 pub reelbook_fill_spec : {M : Type 1} → statement M
 reelbook_fill_spec =

@@ -3,7 +3,7 @@ use Rattle.reelbook.proofs.reelbook_has.Statement.{statement}
 use Rattle.reelbook.proofs.reelbook_has.Tie as tie
 
 returns : tie.Need-returns
-returns c pool heads = rw (c.hand-over.ensures.0, c.hand-over.ensures.1) (c.before.before.has.ensures pool heads)
+returns c pool heads = rw (c.hand_over.ensures.0, c.hand_over.ensures.1) (c.has-had.ensures pool heads)
 
 pub reelbook_has_spec : {M : Type 1} → statement M
 reelbook_has_spec =

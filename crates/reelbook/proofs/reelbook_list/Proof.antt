@@ -3,7 +3,7 @@ use Rattle.reelbook.proofs.reelbook_list.Statement.{statement}
 use Rattle.reelbook.proofs.reelbook_list.Tie as tie
 
 returns : tie.Need-returns
-returns c pool heads = rw (c.hand-over.ensures.0, c.hand-over.ensures.1) (c.before.before.before.before.before.before.list.ensures pool heads)
+returns c pool heads = rw (c.hand_over.ensures.0, c.hand_over.ensures.1) (c.list.ensures pool heads)
 
 pub reelbook_list_spec : {M : Type 1} → statement M
 reelbook_list_spec =

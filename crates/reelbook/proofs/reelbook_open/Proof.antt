@@ -3,7 +3,7 @@ use Rattle.reelbook.proofs.reelbook_open.Statement.{statement}
 use Rattle.reelbook.proofs.reelbook_open.Tie as tie
 
 returns : tie.Need-returns
-returns c heads = rw (c.hand-over.ensures.0, c.hand-over.ensures.1) (c.before.before.before.before.before.before.«open».ensures heads)
+returns c heads = rw (c.hand_over.ensures.0, c.hand_over.ensures.1) (c.before.before.before.before.before.before.«open».ensures heads)
 
 pub reelbook_open_spec : {M : Type 1} → statement M
 reelbook_open_spec =

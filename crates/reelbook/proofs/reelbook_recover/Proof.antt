@@ -8,8 +8,8 @@ use Rattle.reelbook.proofs.reelbook_recover.Tie as tie
 returns : tie.Need-returns
 returns c =
     let done = c.before.before.before.before.before.before in
-    let a = done.before.before.before.before.before.args in
-    let over = c.hand-over-fresh.ensures in
+    let a = done.args in
+    let over = c.hand_over_fresh.ensures in
     rw (over.0, over.1)
     (recover_counts (state a.image.now a.map.now a.heads.now) no_buffers _ _ _ _ (length a.map.now) (done.recover.ensures a.heads.now))
 

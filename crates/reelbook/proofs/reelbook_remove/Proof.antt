@@ -6,8 +6,8 @@ use Rattle.reelbook.proofs.reelbook_remove.Tie as tie
 returns : tie.Need-returns
 returns c pool =
     let done = c.before.before.before.before in
-    rw (c.hand-over.ensures.0, c.hand-over.ensures.1)
-    (done.remove.ensures pool done.before.before.before.before.before.args.heads.now (sym done.before.before.read-heads.ensures))
+    rw (c.hand_over.ensures.0, c.hand_over.ensures.1)
+    (done.remove.ensures pool done.args.heads.now (sym done.read_heads.ensures))
 
 pub reelbook_remove_spec : {M : Type 1} → statement M
 reelbook_remove_spec =

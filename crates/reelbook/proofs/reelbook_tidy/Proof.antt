@@ -6,8 +6,8 @@ use Rattle.reelbook.proofs.reelbook_tidy.Tie as tie
 returns : tie.Need-returns
 returns c =
     let done = c.before.before.before.before.before.before.before.before in
-    rw (c.hand-over.ensures.0, c.hand-over.ensures.1)
-    (done.tidy.ensures done.before.before.before.before.before.before.before.before.before.args.heads.now (sym done.before.before.before.read-heads.ensures))
+    rw (c.hand_over.ensures.0, c.hand_over.ensures.1)
+    (done.tidy.ensures done.args.heads.now (sym done.read_heads.ensures))
 
 pub reelbook_tidy_spec : {M : Type 1} → statement M
 reelbook_tidy_spec =

@@ -1,5 +1,4 @@
 use Rattle.std.proofs.Common.{rules, refl}
-use Rattle.std.proofs.Common.{◌<◌}
 use Rattle.fingerprints.proofs.Folds.{entry_inside, folded_step}
 use Rattle.fingerprints.proofs.fingerprint.fold_on.Goals as goal
 

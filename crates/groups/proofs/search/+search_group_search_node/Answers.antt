@@ -1,7 +1,5 @@
-use Rattle.std.proofs.Common.{rules, arith, ◌-◌}
+use Rattle.std.proofs.Common.{rules, arith}
 use Rattle.memory.specs.Words.{reads}
-use Rattle.tree.specs.Path.{levels}
-use Rattle.tree.specs.Laws.{WellFormed}
 use Rattle.visits.proofs.StopFacts.{Linked, node_facts, linked_facts}
 use Rattle.groups.proofs.Searches.{searched_none, searched_all, child_formed, found_here, not_here}
 use Rattle.groups.proofs.Searches.{leaf_nothing, node_found, node_below}
@@ -31,7 +29,7 @@ search_node-returns-then-next-eq0 t c = leaf_nothing _ _ _ _ c.requires.1 c.requ
 pub search_node-all_empty-requires : goal.search_node-all_empty-requires
 search_node-all_empty-requires t c =
     let below : Linked c.args.g (reads c.args.image.now) c.args.left c.next_of-next.result =
-        linked_facts _ _ _ _ c.requires.1 c.requires.2 c.next_of-next.ensures c.if-next-eq0.false c.requires.3 in
+    linked_facts _ _ _ _ c.requires.1 c.requires.2 c.next_of-next.ensures c.if-next-eq0.false c.requires.3 in
     rw c.fanout-count.ensures (c.requires.0, below.inside)
 
 pub search_node-returns-then-all_empty : goal.search_node-returns-then-all_empty
@@ -42,7 +40,7 @@ search_node-returns-then-all_empty t c =
 pub search_node-search_group-requires : goal.search_node-search_group-requires
 search_node-search_group-requires t c =
     let below : Linked c.args.g (reads c.args.image.now) c.args.left c.next_of-next.result =
-        linked_facts _ _ _ _ c.requires.1 c.requires.2 c.next_of-next.ensures c.if-next-eq0.false c.requires.3 in
+    linked_facts _ _ _ _ c.requires.1 c.requires.2 c.next_of-next.ensures c.if-next-eq0.false c.requires.3 in
     rw c.fanout-count.ensures
     (search (rules, below.above), (c.requires.0, omega (arith, below.above), omega (arith, c.requires.2), omega (arith, below.inside, c.requires.0.nodes_limit), below.formed))
 

@@ -25,7 +25,6 @@ loop_again : tie.Need-loop-n-preserved invariant-loop-n decreases-loop-n
 loop_again c =
     let t = pool_laws.next_tells _ _ _ _ c.next_used-n-in-loop-n.ensures (search rules) in
     let locate = c.before.before in
-    let held = locate.before.before in
     let l = c.loop-n in (
       t.within,
       t.is_used,

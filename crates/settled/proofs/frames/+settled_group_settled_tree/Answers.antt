@@ -14,14 +14,14 @@ pub settled_group-overflow_mul-child : goal.settled_group-overflow_mul-child
 settled_group-overflow_mul-child t c =
     let a = c.args in
     let units : (c.loop-c.c * a.t.unit + a.t.unit ≤ a.count * a.t.unit) × (a.count * a.t.unit ≤ 2 ^ 61) =
-        unit_fits a.t.left _ _ _ c.loop-c-test.true c.requires.1.unit in
+    unit_fits a.t.left _ _ _ c.loop-c-test.true c.requires.1.unit in
     search (rules, units.1)
 
 pub settled_group-settled_tree-requires : goal.settled_group-settled_tree-requires
 settled_group-settled_tree-requires t c =
     let a = c.args in
     let units : (c.loop-c.c * a.t.unit + a.t.unit ≤ a.count * a.t.unit) × (a.count * a.t.unit ≤ 2 ^ 61) =
-        unit_fits a.t.left _ _ _ c.loop-c-test.true c.requires.1.unit in
+    unit_fits a.t.left _ _ _ c.loop-c-test.true c.requires.1.unit in
     let pre = c.requires in
     let taken = c.loop-c-test.true in
     (search rules, (pre.0, record { formed = pre.1.formed _ taken; unit = pre.1.unit }, omega (arith, units, pre.2, c.loop-c.invariant.suffix), pre.3))
@@ -33,7 +33,7 @@ pub settled_group-overflow_add-own : goal.settled_group-overflow_add-own
 settled_group-overflow_add-own t c =
     let a = c.args in
     let units : (c.loop-c.c * a.t.unit + a.t.unit ≤ a.count * a.t.unit) × (a.count * a.t.unit ≤ 2 ^ 61) =
-        unit_fits a.t.left _ _ _ c.loop-c-test.true c.requires.1.unit in
+    unit_fits a.t.left _ _ _ c.loop-c-test.true c.requires.1.unit in
     search (rules, units, c.requires.2, c.loop-c.invariant.suffix)
 
 pub settled_group-loop-c-preserved : goal.settled_group-loop-c-preserved

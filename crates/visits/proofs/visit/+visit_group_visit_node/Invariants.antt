@@ -16,7 +16,7 @@ invariant-visit_group-loop-c l =
     (l.c ≤ l.count)
     × (length l.pool ≡ length l.fn.pool)
     × (walked (formed_at l.g (reads l.image)) (group_stops l.g (reads l.image) l.left (levels - l.left) l.start l.count) l.fn.pool
-        ≡ walked (formed_at l.g (reads l.image)) (group_stops l.g (reads l.image) l.left (levels - l.left) (l.start + l.c) (l.count - l.c)) l.pool)
+    ≡ walked (formed_at l.g (reads l.image)) (group_stops l.g (reads l.image) l.left (levels - l.left) (l.start + l.c) (l.count - l.c)) l.pool)
 
 abbrev pub decreases-visit_group-loop-c : goal.decreases-visit_group-loop-c
 decreases-visit_group-loop-c l = l.count - l.c

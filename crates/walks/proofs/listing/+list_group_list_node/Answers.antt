@@ -32,14 +32,14 @@ list_group-returns t c = group_ends _ _ _ _ _ _ c.loop-c-test.false c.loop-c.inv
 pub list_node-list_places-own-requires : goal.list_node-list_places-own-requires
 list_node-list_places-own-requires t c =
     let facts : WellFormed c.args.g (reads c.args.image.now) (levels - c.args.left) c.args.n =
-        node_facts _ _ _ _ c.requires.1 c.requires.2 c.requires.3 in
+    node_facts _ _ _ _ c.requires.1 c.requires.2 c.requires.3 in
     let room = own_room c.args.g (reads c.args.image.now) c.args.left c.args.n c.requires.1 c.requires.2 in
     (c.requires.0, facts.inside, omega (arith, room, c.requires.4))
 
 pub list_node-next_of-next-requires : goal.list_node-next_of-next-requires
 list_node-next_of-next-requires t c =
     let facts : WellFormed c.args.g (reads c.args.image.now) (levels - c.args.left) c.args.n =
-        node_facts _ _ _ _ c.requires.1 c.requires.2 c.requires.3 in
+    node_facts _ _ _ _ c.requires.1 c.requires.2 c.requires.3 in
     search (rules, facts.inside)
 
 pub list_node-returns-then-next-eq0 : goal.list_node-returns-then-next-eq0
@@ -51,7 +51,7 @@ list_node-offset_bounds-list-own t c =
     let a = c.args in
     let call = c.list_places-own in
     let written : Writing (of_node a.g (reads a.image.now) a.left a.n) a.list.now call.result (below a.g (reads a.image.now) a.left c.next_of-next.result) call.new.list =
-        own_written _ _ _ _ _ _ _ _ c.requires.1 c.requires.2 c.next_of-next.ensures c.if-next-eq0.false c.requires.4 call.ensures.0 call.ensures.1 in
+    own_written _ _ _ _ _ _ _ _ c.requires.1 c.requires.2 c.next_of-next.ensures c.if-next-eq0.false c.requires.4 call.ensures.0 call.ensures.1 in
     search (rules, written)
 
 pub list_node-slice_bounds-list_group-count : goal.list_node-slice_bounds-list_group-count
@@ -59,7 +59,7 @@ list_node-slice_bounds-list_group-count t c =
     let a = c.args in
     let call = c.list_places-own in
     let written : Writing (of_node a.g (reads a.image.now) a.left a.n) a.list.now call.result (below a.g (reads a.image.now) a.left c.next_of-next.result) call.new.list =
-        own_written _ _ _ _ _ _ _ _ c.requires.1 c.requires.2 c.next_of-next.ensures c.if-next-eq0.false c.requires.4 call.ensures.0 call.ensures.1 in
+    own_written _ _ _ _ _ _ _ _ c.requires.1 c.requires.2 c.next_of-next.ensures c.if-next-eq0.false c.requires.4 call.ensures.0 call.ensures.1 in
     search (rules, written)
 
 pub list_node-slice_bounds-list_group-start : goal.list_node-slice_bounds-list_group-start
@@ -67,7 +67,7 @@ list_node-slice_bounds-list_group-start t c =
     let a = c.args in
     let call = c.list_places-own in
     let written : Writing (of_node a.g (reads a.image.now) a.left a.n) a.list.now call.result (below a.g (reads a.image.now) a.left c.next_of-next.result) call.new.list =
-        own_written _ _ _ _ _ _ _ _ c.requires.1 c.requires.2 c.next_of-next.ensures c.if-next-eq0.false c.requires.4 call.ensures.0 call.ensures.1 in
+    own_written _ _ _ _ _ _ _ _ c.requires.1 c.requires.2 c.next_of-next.ensures c.if-next-eq0.false c.requires.4 call.ensures.0 call.ensures.1 in
     search (rules, written)
 
 pub list_node-list_group-requires : goal.list_node-list_group-requires
@@ -75,7 +75,7 @@ list_node-list_group-requires t c =
     let a = c.args in
     let call = c.list_places-own in
     let written : Writing (of_node a.g (reads a.image.now) a.left a.n) a.list.now call.result (below a.g (reads a.image.now) a.left c.next_of-next.result) call.new.list =
-        own_written _ _ _ _ _ _ _ _ c.requires.1 c.requires.2 c.next_of-next.ensures c.if-next-eq0.false c.requires.4 call.ensures.0 call.ensures.1 in
+    own_written _ _ _ _ _ _ _ _ c.requires.1 c.requires.2 c.next_of-next.ensures c.if-next-eq0.false c.requires.4 call.ensures.0 call.ensures.1 in
     let pre = c.requires in
     let link = linked_facts _ _ a.left a.n pre.1 pre.2 c.next_of-next.ensures c.if-next-eq0.false pre.3 in
     let room = rest_fits pre.4 written in
@@ -87,7 +87,7 @@ list_node-overflow_add-result t c =
     let a = c.args in
     let call = c.list_places-own in
     let written : Writing (of_node a.g (reads a.image.now) a.left a.n) a.list.now call.result (below a.g (reads a.image.now) a.left c.next_of-next.result) call.new.list =
-        own_written _ _ _ _ _ _ _ _ c.requires.1 c.requires.2 c.next_of-next.ensures c.if-next-eq0.false c.requires.4 call.ensures.0 call.ensures.1 in
+    own_written _ _ _ _ _ _ _ _ c.requires.1 c.requires.2 c.next_of-next.ensures c.if-next-eq0.false c.requires.4 call.ensures.0 call.ensures.1 in
     let room = rest_fits c.requires.4 written in
     search (rules, room.0, rw c.fanout.ensures at c.list_group.ensures.0)
 
@@ -96,6 +96,6 @@ list_node-returns t c =
     let a = c.args in
     let call = c.list_places-own in
     let written : Writing (of_node a.g (reads a.image.now) a.left a.n) a.list.now call.result (below a.g (reads a.image.now) a.left c.next_of-next.result) call.new.list =
-        own_written _ _ _ _ _ _ _ _ c.requires.1 c.requires.2 c.next_of-next.ensures c.if-next-eq0.false c.requires.4 call.ensures.0 call.ensures.1 in
+    own_written _ _ _ _ _ _ _ _ c.requires.1 c.requires.2 c.next_of-next.ensures c.if-next-eq0.false c.requires.4 call.ensures.0 call.ensures.1 in
     let e = rw c.fanout.ensures at c.list_group.ensures in
     rest_written _ _ c.requires.4 written e.0 e.1

@@ -8,6 +8,7 @@ use native.Mathlib.Decide.{dec_le, ℕ_discrete}
 use lib.ListN.{length, take, drop, length-drop}
 use lib.Seq.{append_snoc}
 use borrow.Author.Tests.{eq-eqb, ne_eqb}
+use Rattle.std.specs.Prelude.{cond, eqb}
 use Rattle.lines.specs.Reading.{longest, line_of}
 use Rattle.lines.specs.Input.{newline, in_front, lines_of, cut, Collected, nothing_yet, line_ended, with_bytes, taken, taken_all, last_line, all_lines, up_to_newline, has_newline, used, Takes}
 use Rattle.lines.specs.declared.input.Taken.{Taken}
@@ -68,7 +69,7 @@ module _ (s : Collected) (b : ℕ) (bs : List ℕ) where
 two_pieces : (s : Collected) (xs ys : List ℕ) → taken s (xs ++ ys) ≡ taken (taken s xs) ys
 unfolding taken
 two_pieces s [] ys = refl
-two_pieces s (x ∷ xs) ys = two_pieces _ xs ys
+two_pieces s (x ∷ xs) ys = two_pieces (cond (eqb x newline) (line_ended s) (with_bytes s (x ∷ []))) xs ys
 
 at_once : (s : Collected) (ps : List (List ℕ)) → taken_all s ps ≡ taken s (flatten ps)
 unfolding taken_all taken flatten

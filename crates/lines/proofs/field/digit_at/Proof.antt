@@ -8,9 +8,9 @@ pub digit_at_spec : {M : Type 1} → statement M
 digit_at_spec =
     tie.close
     (tie.spec
-    (λ c. sym (digit_past _ _ c.if1.true))
+    (λ c. sym (digit_past _ _ c.if-line-at.true))
     (λ c. search rules)
-    (λ c. sym (digit_low _ _ c.before.before.if1.false c.if2.true))
-    (λ c. sym (digit_high _ _ c.before.before.before.if1.false c.if3.true))
+    (λ c. sym (digit_low _ _ c.before.before.if-line-at.false c.if-b-lt48.true))
+    (λ c. sym (digit_high _ _ c.before.before.before.if-line-at.false c.if-b-gt57.true))
     (λ c. search rules)
-    (λ c. sym (digit_here _ _ c.before.before.before.if1.false c.before.if2.false c.if3.false)))
+    (λ c. sym (digit_here _ _ c.before.before.before.if-line-at.false c.before.if-b-lt48.false c.if-b-gt57.false)))

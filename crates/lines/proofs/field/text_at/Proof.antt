@@ -8,28 +8,28 @@ use Rattle.lines.proofs.Places.{text_done, text_past, text_other, text_next}
 use Rattle.lines.proofs.field.text_at.Statement.{statement}
 use Rattle.lines.proofs.field.text_at.Tie as tie
 
-abbrev invariant-loop : tie.invariant-loop
-invariant-loop line at text i₀ i = (i ≤ length text) × (at + i ≤ length line) × (begins text (drop at line) ≡ begins (drop i text) (drop (at + i) line))
+abbrev invariant-loop-i : tie.invariant-loop-i
+invariant-loop-i line at text i₀ i = (i ≤ length text) × (at + i ≤ length line) × (begins text (drop at line) ≡ begins (drop i text) (drop (at + i) line))
 
-abbrev decreases-loop : tie.decreases-loop
-decreases-loop line at text i₀ i = length text - i
+abbrev decreases-loop-i : tie.decreases-loop-i
+decreases-loop-i line at text i₀ i = length text - i
 
 pub text_at_spec : {M : Type 1} → statement M
 text_at_spec =
     tie.close
     (tie.spec
-    invariant-loop
-    decreases-loop
+    invariant-loop-i
+    decreases-loop-i
     (λ c. (search rules, search rules, rw add-zero))
     (λ c. search rules)
-    (λ c. let l = c.before.before.loop in sym (l.invariant.2 ∙ text_past _ _ _ _ c.before.loop-test.true c.if1.true))
+    (λ c. let l = c.before.before.loop-i in sym (l.invariant.2 ∙ text_past _ _ _ _ c.before.loop-i-test.true c.if-line-at.true))
     (λ c. search rules)
     (λ c. search rules)
     (λ c. search rules)
-    (λ c. let l = c.before.before.before.before.before.loop in
-    sym (l.invariant.2 ∙ text_other _ _ _ _ c.before.before.before.before.loop-test.true c.before.before.before.if1.false c.if2.true))
+    (λ c. let l = c.before.before.before.before.before.loop-i in
+    sym (l.invariant.2 ∙ text_other _ _ _ _ c.before.before.before.before.loop-i-test.true c.before.before.before.if-line-at.false c.if-text-i.true))
     (λ c. search rules)
     (λ c. search rules)
-    (λ c. let l = c.before.before.before.before.before.loop in
-    (search rules, search rules, l.invariant.2 ∙ text_next _ _ _ _ c.before.before.before.before.loop-test.true c.before.before.before.if1.false c.if2.false))
-    (λ c. let l = c.before.loop in sym (l.invariant.2 ∙ text_done _ _ _ _ c.loop-test.false)))
+    (λ c. let l = c.before.before.before.before.before.loop-i in
+    (search rules, search rules, l.invariant.2 ∙ text_next _ _ _ _ c.before.before.before.before.loop-i-test.true c.before.before.before.if-line-at.false c.if-text-i.false))
+    (λ c. let l = c.before.loop-i in sym (l.invariant.2 ∙ text_done _ _ _ _ c.loop-i-test.false)))

@@ -10,9 +10,9 @@ use Rattle.answer_lines.proofs.answer.put_part.Tie as tie
 part : tie.Need-returns
 part c =
     let a = c.before.before.before.before.before.before.before.before.before.before.args in
-    let d = c.before.before.put-decimal in
-    let t = c.before.before.before.before.before.before.put-text in
-    let w = holds_rest a.buffer.now a.text.now t.new.0 (length a.text.now) (decimal a.n) d.new.0 d.result
+    let d = c.before.before.put_decimal in
+    let t = c.before.before.before.before.before.before.put_text in
+    let w = holds_rest a.buffer.now a.text.now t.new.buffer (length a.text.now) (decimal a.n) d.new.buffer d.result
     (record { same = t.ensures; counted = refl }) (record { same = d.ensures.0; counted = d.ensures.1 }) in
     (w, part_short _ a.text.now _ _ _ c.before.before.before.before.before.before.before.before.before.before.ranges.n.fits w)
 

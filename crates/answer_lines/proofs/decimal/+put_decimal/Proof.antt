@@ -20,12 +20,12 @@ abbrev put_decimal_below : ℕ → In 1 put-decimal-kinds.ps
 put_decimal_below t = and 1 put-decimal-kinds.ps (falls 1 put-decimal-kinds.ps ◌<◌ μ-put-decimal t) put-decimal.Pre
 
 -- after the call there is room for the last digit
-room : (t : ℕ) (c : put-decimal-lts.After-slice-known2 (put_decimal_below t, put-decimal.Post) (put_decimal_at t) put-decimal.Post)
-    → c.before.before.put-decimal.result < 20
-room t c = rw c.before.before.put-decimal.ensures.1 (one_less c.before.before.before.before.before.before.args.n c.before.before.before.before.before.before.ranges.n.fits)
+room : (t : ℕ) (c : put-decimal-lts.After-slice_known-2-1 (put_decimal_below t, put-decimal.Post) (put_decimal_at t) put-decimal.Post)
+    → c.before.before.put_decimal-k.result < 20
+room t c = rw c.before.before.put_decimal-k.ensures.1 (one_less c.before.before.before.before.before.before.args.n c.before.before.before.before.before.before.ranges.n.fits)
 
-pub +put-decimal-spec : {M : Type 1} → statement M
-+put-decimal-spec =
+pub +put_decimal_spec : {M : Type 1} → statement M
++put_decimal_spec =
     close
     μ-put-decimal
     (λ t. put-decimal-lts.spec (put_decimal_below t, put-decimal.Post) (put_decimal_at t) put-decimal.Post
@@ -41,6 +41,6 @@ pub +put-decimal-spec : {M : Type 1} → statement M
     (λ c. let h = room t c in search rules)
     (λ c. search rules)
     (λ c. let a = c.before.before.before.before.before.before.args in
-    let p = c.before.before.put-decimal in
+    let p = c.before.before.put_decimal-k in
     let h = room t c in
-    put_more a.n p.result a.buffer.now p.new.0 (search rules) (omega (arith, c.before.before.before.before.before.before.requires.1)) p.ensures.0 p.ensures.1))
+    put_more a.n p.result a.buffer.now p.new.buffer (search rules) (omega (arith, c.before.before.before.before.before.before.requires.1)) p.ensures.0 p.ensures.1))

@@ -5,13 +5,15 @@
 mod print;
 mod vectors;
 
-fn main() {
-    vectors::bits();
-    vectors::bytes();
-    vectors::searches();
-    vectors::bitmap_searches();
-    vectors::writers();
-    vectors::carried_out();
-    vectors::flushes();
-    vectors::refusals();
+use std::io;
+
+fn main(rt: HostRuntime) -> io::Result<()> {
+    vectors::bits(&rt)?;
+    vectors::bytes(&rt)?;
+    vectors::searches(&rt)?;
+    vectors::bitmap_searches(&rt)?;
+    vectors::writers(&rt)?;
+    vectors::carried_out(&rt)?;
+    vectors::flushes(&rt)?;
+    vectors::refusals(&rt)
 }

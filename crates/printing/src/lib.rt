@@ -1,24 +1,19 @@
-// Lines of output: a label, then numbers.
+// Lines of output: a label, then numbers. Each function prints to what it is lent, and ends at the first write that fails.
 #![tactic(auto)]
 
-use libc::STDOUT_FILENO;
+use std::io;
 
 // A label and a number.
-pub fn number(label: &[u8], n: u64) {
-    io::write_all(STDOUT_FILENO, label);
-    io::write_all(STDOUT_FILENO, b" ");
-    io::print_decimal(STDOUT_FILENO, n);
-    io::write_all(STDOUT_FILENO, b"\n");
+pub fn number(rt: &impl Print, label: &[u8], n: u64) -> io::Result<()> {
+    rt.write_all(label)?;
+    println!(rt; " {n}")
 }
 
 // A label and the words of a slice.
-pub fn words(label: &[u8], ws: &[u64]) {
-    io::write_all(STDOUT_FILENO, label);
-    let mut i = 0;
-    while i < ws.len() {
-        io::write_all(STDOUT_FILENO, b" ");
-        io::print_decimal(STDOUT_FILENO, ws[i]);
-        i += 1;
+pub fn words(rt: &impl Print, label: &[u8], ws: &[u64]) -> io::Result<()> {
+    rt.write_all(label)?;
+    for w in ws {
+        print!(rt; " {w}")?;
     }
-    io::write_all(STDOUT_FILENO, b"\n");
+    println!(rt)
 }

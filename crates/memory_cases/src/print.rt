@@ -6,5 +6,5 @@ use std::io;
 pub fn outcome(rt: &impl Print, label: &[u8], answer: &[u8], image: &[u64]) -> io::Result<()> {
     rt.write_all(label)?;
     rt.write_all(answer)?;
-    words(rt, b" image", image)
+    words(rt, b", image", image)
 }

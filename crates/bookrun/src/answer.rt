@@ -1,18 +1,18 @@
 // The lines that are printed. Each function answers whether all of its lines are written: where one is not, the error has been
 // said, and the program is to end.
+use crate::errors::fail;
 use answer_lines::answer::{PRINTED, put_answer, put_frame};
-use libc::STDOUT_FILENO;
 
-pub fn answer(answer: u64, stores: u64, value: u64) -> bool {
+pub fn answer(rt: &(impl Print + Eprint + Alloc), answer: u64, stores: u64, value: u64) -> bool {
     let mut line = [0u8; PRINTED];
     let n = put_answer(&mut line, answer, stores, value);
-    print(&line[..n])
+    print(rt, &line[..n])
 }
 
-pub fn frames(list: &[u64]) -> bool {
+pub fn frames(rt: &(impl Print + Eprint + Alloc), list: &[u64]) -> bool {
     let mut i = 0;
     while i < list.len() {
-        if !frame(list[i]) {
+        if !frame(rt, list[i]) {
             return false;
         }
         i += 1;
@@ -20,16 +20,18 @@ pub fn frames(list: &[u64]) -> bool {
     true
 }
 
-fn frame(frame: u64) -> bool {
+fn frame(rt: &(impl Print + Eprint + Alloc), frame: u64) -> bool {
     let mut line = [0u8; PRINTED];
     let n = put_frame(&mut line, frame);
-    print(&line[..n])
+    print(rt, &line[..n])
 }
 
-fn print(line: &[u8]) -> bool {
-    if io::write_all(STDOUT_FILENO, line) {
-        return true;
+fn print(rt: &(impl Print + Eprint + Alloc), line: &[u8]) -> bool {
+    match rt.write_all(line) {
+        Ok(()) => true,
+        Err(error) => {
+            fail(rt, "standard output", error);
+            false
+        }
     }
-    os::fail(b"standard output");
-    false
 }

@@ -4,13 +4,15 @@
 #![tactic(auto)]
 
 mod answer;
+mod errors;
 mod run;
 
 ghost use Rattle.std.specs.Prelude.{◌≤◌, length};
 
-use libc::STDIN_FILENO;
+use errors::fail;
 use lines::input::take_piece;
 use reelbook::{HEAD_WORDS, reelbook_format};
+use std::io::Read;
 
 // What a piece of input came to: how many bytes are held of a line that has not ended, and whether every answer was written.
 #[derive(Drop)]
@@ -22,6 +24,7 @@ struct Rest {
 // Runs the lines that end in a piece of input, up to the first whose answer is not written. The first bytes of `line` are those
 // of the line that has not ended.
 fn run_piece(
+    rt: &(impl Print + Eprint + Alloc),
     image: &mut [u64],
     map: &mut [u64],
     heads: &mut [u64; HEAD_WORDS],
@@ -38,7 +41,7 @@ fn run_piece(
         let taken = take_piece(piece, at, line, count);
         at = taken.next;
         if taken.ended {
-            if !run::run_line(image, map, heads, &line[..taken.count]) {
+            if !run::run_line(rt, image, map, heads, &line[..taken.count]) {
                 return Rest {
                     held: 0,
                     written: false,
@@ -57,7 +60,7 @@ fn run_piece(
 
 // Nothing says that an input ends, and a proved loop has to: it counts its turns down from a number that no run uses up.
 // A line that no newline ends is run at the end of the input.
-fn main() {
+fn main(rt: HostRuntime) {
     let mut image = [0u64; 1352];
     let mut map = [0u64; 1];
     let mut heads = [0u64; HEAD_WORDS];
@@ -66,17 +69,19 @@ fn main() {
     let mut held = 0;
     let mut turns = u64::MAX;
     while turns > 0 {
-        let mut piece = io::buffer();
-        let got = libc::read(STDIN_FILENO, &mut piece);
-        if got < 0 {
-            os::fail(b"standard input");
-            return;
-        }
-        if got == 0 {
+        let mut piece = [0u8; 4096];
+        let n = match rt.stdin().read(&mut piece) {
+            Ok(n) => n,
+            Err(error) => {
+                fail(&rt, "standard input", error);
+                return;
+            }
+        };
+        if n == 0 {
             break;
         }
-        let n = io::count(got, &piece);
         let rest = run_piece(
+            &rt,
             &mut image,
             &mut map,
             &mut heads,
@@ -91,6 +96,6 @@ fn main() {
         turns -= 1;
     }
     if held > 0 {
-        run::run_line(&mut image, &mut map, &mut heads, &line[..held]);
+        run::run_line(&rt, &mut image, &mut map, &mut heads, &line[..held]);
     }
 }

@@ -2,20 +2,24 @@
 use crate::command::{ALL, Command, PUT, RAMP};
 use crate::lent::least;
 use crate::print;
+use std::io;
 
 // The most words that a line puts: its values but the first two.
 const PUTS: usize = 6;
 
-pub fn run_words(command: Command, buffer: &mut [u64]) {
+pub fn run_words(rt: &impl Print, command: Command, buffer: &mut [u64]) -> io::Result<()> {
     let name = command.name;
     let n = buffer.len() as u64;
     match name {
-        PUT => print::end(put(buffer, command)),
-        ALL => print::end(ramp(buffer, 0, 1, n, command.b, 0)),
-        RAMP => print::end(ramp(
-            buffer, command.b, command.c, command.d, command.e, command.f,
-        )),
-        _ => show(buffer, command.b as usize, command.c as usize),
+        PUT => print::end(rt, put(buffer, command)),
+        ALL => print::end(rt, ramp(buffer, 0, 1, n, command.b, 0)),
+        RAMP => print::end(
+            rt,
+            ramp(
+                buffer, command.b, command.c, command.d, command.e, command.f,
+            ),
+        ),
+        _ => show(rt, buffer, command.b as usize, command.c as usize),
     }
 }
 
@@ -55,12 +59,12 @@ fn ramp(buffer: &mut [u64], from: u64, step: u64, words: u64, value: u64, rise: 
     true
 }
 
-fn show(buffer: &[u64], start: usize, count: usize) {
+fn show(rt: &impl Print, buffer: &[u64], start: usize, count: usize) -> io::Result<()> {
     let shown = part(buffer, start, count);
     if shown.len() == count {
-        print::words(shown);
+        print::words(rt, shown)
     } else {
-        print::end(false);
+        print::end(rt, false)
     }
 }
 

@@ -9,24 +9,29 @@ use reelbook::{
     reelbook_format, reelbook_has, reelbook_list, reelbook_open, reelbook_recover, reelbook_remove,
     reelbook_retire, reelbook_tidy, reelbook_translate,
 };
+use std::io;
 
 // What stands where a count is handed back, or the places left or the number of nodes on a path are, before they are.
 pub const NO_COUNT: u64 = 999;
 
 // Format, Recover, Carry out.
 pub fn run_whole(
+    rt: &impl Print,
     command: Command,
     image: &mut [u64],
     map: &mut [u64],
     heads: &mut [u64; HEAD_WORDS],
     script: &[u64],
     table: &[u64],
-) {
+) -> io::Result<()> {
     let name = command.name;
     match name {
-        FORMAT => print::answer(call_format(image, map, heads, table, command.a, command.b)),
-        RECOVER => print::answer(reelbook_recover(image, map, heads)),
-        _ => print::answer(reelbook_apply(image, script)),
+        FORMAT => print::answer(
+            rt,
+            call_format(image, map, heads, table, command.a, command.b),
+        ),
+        RECOVER => print::answer(rt, reelbook_recover(image, map, heads)),
+        _ => print::answer(rt, reelbook_apply(image, script)),
     }
 }
 
@@ -55,16 +60,23 @@ fn put_low_bytes(words: &[u64], bytes: &mut [u8]) {
 }
 
 // Has, List.
-pub fn run_query(command: Command, image: &[u64], scratch: &mut [u64], list: &mut [u64]) {
+pub fn run_query(
+    rt: &impl Print,
+    command: Command,
+    image: &[u64],
+    scratch: &mut [u64],
+    list: &mut [u64],
+) -> io::Result<()> {
     let name = command.name;
     let mut count = NO_COUNT;
     let mut nodes = NO_COUNT;
     match name {
         HAS => {
             let number = reelbook_has(image, command.a, command.b, &mut count, &mut nodes);
-            print::told(number, count, nodes);
+            print::told(rt, number, count, nodes)
         }
         _ => print::counted(
+            rt,
             reelbook_list(image, scratch, list, command.a, &mut count),
             count,
         ),
@@ -72,10 +84,15 @@ pub fn run_query(command: Command, image: &[u64], scratch: &mut [u64], list: &mu
 }
 
 // The script translated for an image of so many words.
-pub fn run_translate(command: Command, script: &[u64], flushed: &mut [u64]) {
+pub fn run_translate(
+    rt: &impl Print,
+    command: Command,
+    script: &[u64],
+    flushed: &mut [u64],
+) -> io::Result<()> {
     let mut used = NO_COUNT;
     let number = reelbook_translate(script, flushed, command.a, &mut used);
-    print::counted(number, used);
+    print::counted(rt, number, used)
 }
 
 // The others, which write a script.

@@ -1,6 +1,7 @@
 // The commands.
 use crate::print;
 use crate::values::{VALUES, index_of, place_of, read_values};
+use std::io;
 
 // Their numbers, in the sequence of their names below. First the operations that write to the image, that write a script, and
 // that only read.
@@ -62,7 +63,7 @@ pub const HEADING: u64 = 26;
 pub const UNKNOWN: u64 = 27;
 
 // A command's number, how many values stand behind it, and the values.
-#[derive(Drop)]
+#[derive(Clone, Copy)]
 pub struct Command {
     pub name: u64,
     pub count: usize,
@@ -77,12 +78,12 @@ pub struct Command {
 }
 
 // Reads a line, and prints it: what comes out of it is printed behind it.
-pub fn read_command(line: &[u8]) -> Command {
-    print::line(line);
+pub fn read_command(rt: &impl Print, line: &[u8]) -> io::Result<Command> {
+    print::line(rt, line)?;
     let mut v = [0u64; VALUES];
     let count = read_values(line, &mut v);
     let name = name_of(line, count);
-    Command {
+    Ok(Command {
         name,
         count,
         a: v[0],
@@ -93,7 +94,7 @@ pub fn read_command(line: &[u8]) -> Command {
         f: v[5],
         g: v[6],
         h: v[7],
-    }
+    })
 }
 
 // The command of a line that has so many values.

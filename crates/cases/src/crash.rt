@@ -7,22 +7,30 @@ use crate::lent::{IMAGE_WORDS, LIST_WORDS, least};
 use crate::print;
 use crate::values::ONES;
 use reelbook::{HEAD_WORDS, reelbook_apply, reelbook_list, reelbook_recover};
+use std::io;
 
 // The most stores before a barrier of which all mixtures are tried.
 const MOST: usize = 16;
 
 // A crash just before each barrier that has stores to order.
-pub fn run_crash(command: Command, image: &[u64], script: &[u64], list: &[u64]) {
-    print::end(true);
+pub fn run_crash(
+    rt: &impl Print,
+    command: Command,
+    image: &[u64],
+    script: &[u64],
+    list: &[u64],
+) -> io::Result<()> {
+    print::end(rt, true)?;
     let entries = script.len() / 2;
     let mut first = 0;
     while first < entries {
         let barrier = barrier_from(script, first);
         if first < barrier {
-            crash_before(image, script, list, command, first, barrier);
+            crash_before(rt, image, script, list, command, first, barrier)?;
         }
         first = barrier + 1;
     }
+    Ok(())
 }
 
 // The first entry from an entry on that is a barrier, or the end.
@@ -43,13 +51,14 @@ fn barrier_from(script: &[u64], first: usize) -> usize
 
 // The stores of entries first to barrier - 1 are pending: all mixtures of them kept and lost, each from the image as it was.
 fn crash_before(
+    rt: &impl Print,
     image: &[u64],
     script: &[u64],
     list: &[u64],
     command: Command,
     first: usize,
     barrier: usize,
-)
+) -> io::Result<()>
     requires { (first ≤ barrier) × (2 * barrier ≤ length script.now) }
 {
     let stores = barrier - first;
@@ -62,9 +71,10 @@ fn crash_before(
         mixture += 1;
     }
     printing::words(
+        rt,
         b"  stores before a barrier, mixtures, as before:",
         &[stores as u64, mixtures, well],
-    );
+    )
 }
 
 // How many mixtures of so many stores there are; none where they are too many to try.

@@ -20,7 +20,7 @@ pub const TABLE_WORDS: usize = 257;
 
 // How many words are lent, the first ones; and whether a script is held, or carried out as soon as it is written.
 // `flushed` is of the buffer `module`, a name that the proofs' language keeps for itself.
-#[derive(Drop)]
+#[derive(Clone, Copy)]
 pub struct Lent {
     pub image: usize,
     pub map: usize,

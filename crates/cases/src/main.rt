@@ -37,24 +37,43 @@ mod print;
 mod run;
 mod values;
 
+ghost use Rattle.std.specs.Prelude.{◌≤◌, IfOk, length};
+
 use command::read_command;
 use lent::{IMAGE_WORDS, LIST_WORDS, Lent, MAP_WORDS, MODULE_WORDS, SCRIPT_WORDS, TABLE_WORDS};
-use libc::STDIN_FILENO;
 use reelbook::HEAD_WORDS;
 use run::run_lent;
+use std::io;
+use std::io::Read;
 use values::place_of;
 
-fn main() {
-    let mut text = io::large_buffer();
-    let n = io::read_full(STDIN_FILENO, &mut text);
-    run_text(&text[..n]);
+fn main(rt: HostRuntime) -> io::Result<()> {
+    let mut text = [0u8; 65536];
+    let n = read_full(&mut rt.stdin(), &mut text)?;
+    run_text(&rt, &text[..n])?;
     if n == text.len() {
-        print::end(false);
+        print::end(&rt, false)?;
     }
+    Ok(())
+}
+
+// Reads until a buffer is full or the input ends, and answers how many bytes were read.
+fn read_full(input: &mut impl Read, buffer: &mut [u8]) -> io::Result<usize>
+    ensures { IfOk result (λ n. n ≤ length buffer.new) }
+{
+    let mut done = 0;
+    while done < buffer.len() {
+        let n = input.read(&mut buffer[done..])?;
+        if n == 0 {
+            break;
+        }
+        done += n;
+    }
+    Ok(done)
 }
 
 // Runs the lines of a text, one after the other, over the buffers of a driver.
-fn run_text(text: &[u8]) {
+fn run_text(rt: &impl Print, text: &[u8]) -> io::Result<()> {
     let mut image = [0u64; IMAGE_WORDS];
     let mut map = [0u64; MAP_WORDS];
     let mut heads = [0u64; HEAD_WORDS];
@@ -68,10 +87,11 @@ fn run_text(text: &[u8]) {
     let mut at = 0;
     while at < text.len() {
         let end = place_of(b'\n', text, at);
-        let command = read_command(&text[at..end]);
+        let command = read_command(rt, &text[at..end])?;
         at = end + 1;
         lent = lent.after(command);
         run_lent(
+            rt,
             command,
             &mut image,
             &mut map,
@@ -83,6 +103,7 @@ fn run_text(text: &[u8]) {
             &mut copy,
             &mut flushed,
             lent,
-        );
+        )?;
     }
+    Ok(())
 }

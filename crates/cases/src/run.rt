@@ -12,9 +12,11 @@ use crate::lent::{Lent, has_words, least};
 use crate::values::{COPY, HEADS, IMAGE, MAP, MODULE, SCRATCH, SCRIPT, TABLE};
 use crate::{print, values};
 use reelbook::{HEAD_WORDS, reelbook_apply, reelbook_convert};
+use std::io;
 
 // Runs a command over the words that are lent.
 pub fn run_lent(
+    rt: &impl Print,
     command: Command,
     image: &mut [u64],
     map: &mut [u64],
@@ -26,7 +28,7 @@ pub fn run_lent(
     copy: &mut [u64],
     flushed: &mut [u64],
     lent: Lent,
-) {
+) -> io::Result<()> {
     let a = least(lent.image, image.len());
     let b = least(lent.map, map.len());
     let c = least(lent.scratch, scratch.len());
@@ -36,6 +38,7 @@ pub fn run_lent(
     let g = least(lent.copy, copy.len());
     let h = least(lent.flushed, flushed.len());
     run_command(
+        rt,
         command,
         &mut image[..a],
         &mut map[..b],
@@ -47,10 +50,11 @@ pub fn run_lent(
         &mut copy[..g],
         &mut flushed[..h],
         lent.held,
-    );
+    )
 }
 
 fn run_command(
+    rt: &impl Print,
     command: Command,
     image: &mut [u64],
     map: &mut [u64],
@@ -62,26 +66,27 @@ fn run_command(
     copy: &mut [u64],
     flushed: &mut [u64],
     held: bool,
-) {
+) -> io::Result<()> {
     let name = command.name;
     match name {
-        FORMAT..=APPLY => run_whole(command, image, map, heads, script, table),
-        OPEN..=ADD => run_scripted(command, image, map, heads, scratch, script, held),
-        HAS..=LIST => run_query(command, image, scratch, list),
-        CONVERT => print::answer(reelbook_convert(image, copy, scratch)),
-        CRASH => run_crash(command, image, script, list),
-        TRANSLATE => run_translate(command, script, flushed),
-        SWAP => print::end(swap(image, copy)),
-        REPLAY => print::answer(reelbook_apply(image, flushed)),
+        FORMAT..=APPLY => run_whole(rt, command, image, map, heads, script, table),
+        OPEN..=ADD => run_scripted(rt, command, image, map, heads, scratch, script, held),
+        HAS..=LIST => run_query(rt, command, image, scratch, list),
+        CONVERT => print::answer(rt, reelbook_convert(image, copy, scratch)),
+        CRASH => run_crash(rt, command, image, script, list),
+        TRANSLATE => run_translate(rt, command, script, flushed),
+        SWAP => print::end(rt, swap(image, copy)),
+        REPLAY => print::answer(rt, reelbook_apply(image, flushed)),
         PUT..=SHOW => run_buffer(
-            command, image, map, heads, scratch, script, list, table, copy, flushed,
+            rt, command, image, map, heads, scratch, script, list, table, copy, flushed,
         ),
-        _ => run_mode(command),
+        _ => run_mode(rt, command),
     }
 }
 
 // One operation that writes a script, or all those that add frames; each script is carried out, unless it is held.
 fn run_scripted(
+    rt: &impl Print,
     command: Command,
     image: &mut [u64],
     map: &mut [u64],
@@ -89,7 +94,7 @@ fn run_scripted(
     scratch: &mut [u64],
     script: &mut [u64],
     held: bool,
-) {
+) -> io::Result<()> {
     let mut step = first_step(command);
     let mut number = 0;
     let mut used = NO_COUNT;
@@ -102,14 +107,14 @@ fn run_scripted(
         carry(image, script, used, held);
         step = step.next(number);
     }
-    tell(command.name, number, used, left);
+    tell(rt, command.name, number, used, left)
 }
 
 // What came out of it: of a claim alone the places left too.
-fn tell(name: u64, number: u64, used: u64, left: u64) {
+fn tell(rt: &impl Print, name: u64, number: u64, used: u64, left: u64) -> io::Result<()> {
     match name {
-        CLAIM => print::told(number, used, left),
-        _ => print::counted(number, used),
+        CLAIM => print::told(rt, number, used, left),
+        _ => print::counted(rt, number, used),
     }
 }
 
@@ -181,6 +186,7 @@ fn carry(image: &mut [u64], script: &[u64], used: u64, held: bool) {
 }
 
 fn run_buffer(
+    rt: &impl Print,
     command: Command,
     image: &mut [u64],
     map: &mut [u64],
@@ -191,27 +197,27 @@ fn run_buffer(
     table: &mut [u64],
     copy: &mut [u64],
     flushed: &mut [u64],
-) {
+) -> io::Result<()> {
     let buffer = command.a;
     match buffer {
-        IMAGE => run_words(command, image),
-        MAP => run_words(command, map),
-        HEADS => run_words(command, heads),
-        SCRATCH => run_words(command, scratch),
-        SCRIPT => run_words(command, script),
-        values::LIST => run_words(command, list),
-        TABLE => run_words(command, table),
-        COPY => run_words(command, copy),
-        MODULE => run_words(command, flushed),
-        _ => print::end(false),
+        IMAGE => run_words(rt, command, image),
+        MAP => run_words(rt, command, map),
+        HEADS => run_words(rt, command, heads),
+        SCRATCH => run_words(rt, command, scratch),
+        SCRIPT => run_words(rt, command, script),
+        values::LIST => run_words(rt, command, list),
+        TABLE => run_words(rt, command, table),
+        COPY => run_words(rt, command, copy),
+        MODULE => run_words(rt, command, flushed),
+        _ => print::end(rt, false),
     }
 }
 
 // A command that changes what is lent, or a line that is none.
-fn run_mode(command: Command) {
+fn run_mode(rt: &impl Print, command: Command) -> io::Result<()> {
     let name = command.name;
     match name {
-        LEND => print::end(has_words(command.a, command.b as usize)),
-        _ => print::end(name != UNKNOWN),
+        LEND => print::end(rt, has_words(command.a, command.b as usize)),
+        _ => print::end(rt, name != UNKNOWN),
     }
 }

@@ -1,27 +1,34 @@
 // Errors of reads and writes.
-use std::io;
+use std::io::{Cursor, Write};
+use std::{io, str};
+
+// Room for the system's words and the error's number.
+const ROOM: usize = 320;
 
 // Says on standard error, in one line, which stream failed and why. Where that cannot be written either, nobody is left to be
 // told.
-pub fn fail(rt: &(impl Eprint + Alloc), stream: &str, error: io::Error) {
-    let _ = said(rt, stream, error);
+pub fn fail(rt: &impl Eprint, stream: &str, error: io::Error) {
+    let _ = say(rt, stream, error);
 }
 
-// The system's words alone, without the error's number, unless there is no memory to take them apart.
-fn said(rt: &(impl Eprint + Alloc), stream: &str, error: io::Error) -> io::Result<()> {
-    match format!(in rt.alloc(); "{error}") {
-        Ok(text) => {
-            let words = words_of(text.as_str());
-            eprintln!(rt; "{stream}: {words}")
-        }
-        Err(_) => eprintln!(rt; "{stream}: {error}"),
+fn say(rt: &impl Eprint, stream: &str, error: io::Error) -> io::Result<()> {
+    let mut text = Cursor::new([0u8; ROOM]);
+    write!(text, "{error}")?;
+    let words = words_of(text.get_ref());
+    eprintln!(rt; "{stream}: {words}")
+}
+
+// The system's words alone, which stand before the error's number.
+fn words_of(text: &[u8; ROOM]) -> &str {
+    match str::from_utf8(text) {
+        Ok(text) => before_number(text),
+        Err(_) => "",
     }
 }
 
-// What stands before an error's number.
-fn words_of(text: &str) -> &str {
+fn before_number(text: &str) -> &str {
     match text.split_once(" (os error ") {
         Some((words, _)) => words,
-        None => text,
+        None => text.trim_end_matches('\0'),
     }
 }

@@ -24,7 +24,7 @@ struct Rest {
 // Runs the lines that end in a piece of input, up to the first whose answer is not written. The first bytes of `line` are those
 // of the line that has not ended.
 fn run_piece(
-    rt: &(impl Print + Eprint + Alloc),
+    rt: &(impl Print + Eprint),
     image: &mut [u64],
     map: &mut [u64],
     heads: &mut [u64; HEAD_WORDS],

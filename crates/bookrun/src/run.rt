@@ -13,7 +13,7 @@ use reelbook::{
 const NO_SUCH_LINE: u64 = 15;
 
 pub fn run_line(
-    rt: &(impl Print + Eprint + Alloc),
+    rt: &(impl Print + Eprint),
     image: &mut [u64],
     map: &mut [u64],
     heads: &mut [u64; HEAD_WORDS],
@@ -36,7 +36,7 @@ pub fn run_line(
 // Carries out the script's used words, and prints the answer with their stores. So an operation whose answer cannot be written is
 // carried out: nobody sees that, since the book is in ordinary memory and ends with the program.
 fn finish(
-    rt: &(impl Print + Eprint + Alloc),
+    rt: &(impl Print + Eprint),
     image: &mut [u64],
     script: &[u64],
     used: u64,
@@ -49,12 +49,7 @@ fn finish(
     answer::answer(rt, number, count_stores(&script[..n]), 0)
 }
 
-fn run_open(
-    rt: &(impl Print + Eprint + Alloc),
-    image: &mut [u64],
-    map: &mut [u64],
-    reel: u64,
-) -> bool {
+fn run_open(rt: &(impl Print + Eprint), image: &mut [u64], map: &mut [u64], reel: u64) -> bool {
     let mut script = [0u64; 50];
     let mut used = 0;
     let number = reelbook_open(image, map, &mut script, reel, &mut used);
@@ -62,7 +57,7 @@ fn run_open(
 }
 
 fn run_claim(
-    rt: &(impl Print + Eprint + Alloc),
+    rt: &(impl Print + Eprint),
     image: &mut [u64],
     map: &mut [u64],
     heads: &mut [u64; HEAD_WORDS],
@@ -88,7 +83,7 @@ fn run_claim(
 }
 
 fn run_fill(
-    rt: &(impl Print + Eprint + Alloc),
+    rt: &(impl Print + Eprint),
     image: &mut [u64],
     heads: &mut [u64; HEAD_WORDS],
     head: u64,
@@ -100,7 +95,7 @@ fn run_fill(
 }
 
 fn run_commit(
-    rt: &(impl Print + Eprint + Alloc),
+    rt: &(impl Print + Eprint),
     image: &mut [u64],
     heads: &mut [u64; HEAD_WORDS],
     head: u64,
@@ -112,7 +107,7 @@ fn run_commit(
 }
 
 fn run_abandon(
-    rt: &(impl Print + Eprint + Alloc),
+    rt: &(impl Print + Eprint),
     image: &mut [u64],
     heads: &mut [u64; HEAD_WORDS],
     head: u64,
@@ -124,7 +119,7 @@ fn run_abandon(
 }
 
 fn run_remove(
-    rt: &(impl Print + Eprint + Alloc),
+    rt: &(impl Print + Eprint),
     image: &mut [u64],
     heads: &[u64; HEAD_WORDS],
     reel: u64,
@@ -136,7 +131,7 @@ fn run_remove(
     finish(rt, image, &script, used, number)
 }
 
-fn run_has(rt: &(impl Print + Eprint + Alloc), image: &[u64], reel: u64, frame: u64) -> bool {
+fn run_has(rt: &(impl Print + Eprint), image: &[u64], reel: u64, frame: u64) -> bool {
     let mut yes = 0;
     let mut nodes = 0;
     let number = reelbook_has(image, reel, frame, &mut yes, &mut nodes);
@@ -144,7 +139,7 @@ fn run_has(rt: &(impl Print + Eprint + Alloc), image: &[u64], reel: u64, frame: 
 }
 
 // Prints the frames behind the answer.
-fn run_list(rt: &(impl Print + Eprint + Alloc), image: &[u64], reel: u64) -> bool {
+fn run_list(rt: &(impl Print + Eprint), image: &[u64], reel: u64) -> bool {
     let mut scratch = [0u64; 1];
     let mut list = [0u64; 1024];
     let mut count = 0;
@@ -156,7 +151,7 @@ fn run_list(rt: &(impl Print + Eprint + Alloc), image: &[u64], reel: u64) -> boo
 }
 
 fn run_retire(
-    rt: &(impl Print + Eprint + Alloc),
+    rt: &(impl Print + Eprint),
     image: &mut [u64],
     map: &mut [u64],
     heads: &[u64; HEAD_WORDS],

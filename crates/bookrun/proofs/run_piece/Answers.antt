@@ -1,7 +1,5 @@
-use mathlib.Core.Path.{◌≡◌, ◌∙◌}
-use Rattle.std.proofs.Common.{◌≤◌, ◌<◌, ℕ, List, length, arith}
-use Rattle.lines.specs.Input.{Takes}
-use Rattle.lines.specs.declared.input.Taken.{Taken}
+use mathlib.Core.Path.{◌∙◌}
+use Rattle.std.proofs.Common.{arith}
 use Rattle.lines.proofs.Laws.{piece_laws}
 use Rattle.bookrun.proofs.run_piece.Goals as goal
 

@@ -1,6 +1,5 @@
 // The bench program: each line of standard input is an operation on a book of 4 slots and 16 nodes in ordinary memory, and is
-// answered with a line of output. It ends at the first write or read that fails, with one error; `main` has no exit status to say
-// so with.
+// answered with a line of output. It ends at the first write or read that fails, with one error; its exit status is 0 all the same.
 #![tactic(auto)]
 
 mod answer;

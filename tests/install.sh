@@ -252,12 +252,12 @@ try_make() {
     for entry in *; do
         ln -s "$here/$entry" "$work/clone/$entry"
     done
-    rm -f "$work/clone/build" "$work/clone/target"
-    mkdir -p "$work/clone/build/driver" "$work/clone/target"
-    touch "$work/clone/build/driver/main.o" "$work/clone/target/proved"
+    rm -f "$work/clone/build" "$work/clone/crates"
+    mkdir -p "$work/clone/build/driver" "$work/clone/crates/reelbook_c/out"
+    touch "$work/clone/build/driver/main.o" "$work/clone/crates/reelbook_c/out/proved"
     "$make" --no-print-directory -C "$work/clone" clean >/dev/null
     same 'build/ after make clean' "$(find "$work/clone/build" 2>/dev/null || true)" ''
-    same 'target/ after make clean' "$(files_below "$work/clone/target")" ./proved
+    same 'crates/ after make clean' "$(files_below "$work/clone/crates")" ./reelbook_c/out/proved
 }
 
 for part in files shared_object pkg_config examples pages staged uninstall make; do

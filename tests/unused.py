@@ -7,12 +7,14 @@ import sys
 NAME = r"[^\s(){}.,;⌜⌝λ→]+"
 DECLARED = re.compile(rf"^(?:  )*(?:pub |abbrev |unfoldable )*({NAME}(?: {NAME})*?) :(?: |$)")
 IMPORT = re.compile(r"^(?:pub |unfoldable )*use [^{\s]+\.\{(.*)\}$")
-# what the checker itself looks for, and theorems that nothing is derived from
+# what the checker itself looks for: a goal's answer, a loop's invariant and a measure by the goal's name, and the proof of a function
+ANSWER = re.compile(rf"^(?:abbrev |pub )*({NAME}) : goal\.\1$")
+# and theorems that nothing is derived from
 THEOREMS = (
-    "witnesses|own-tables|conversions|tidying|every-starred|two-in-tree|cut-claim|tidy-room|tidy-order|high-node"
-    "|layout-laws|order-laws|walk-laws|recovery-laws|clear-grows-nothing"
+    "witnesses|own_tables|conversions|tidying|every_starred|two_in_tree_lem|cut_claim_lem|tidy_room|tidy_order|high_node"
+    "|layout_laws|order_laws|walk_laws|recovery_laws|clear_grows_nothing"
 )
-KEPT = re.compile(rf".*-spec$|^(Inv|μ)-.*|^({THEOREMS})$")
+KEPT = re.compile(rf".*_spec$|^({THEOREMS})$")
 WORDS = re.compile(NAME)
 
 
@@ -40,8 +42,8 @@ def imports(path, body):
         if found and not line.startswith(("pub", "unfoldable pub")):
             for item in found.group(1).split(", "):
                 name = item.split(" as ")[-1]
-                parts = [part for part in name.split("_") if part]
-                used = counts.get(name) or (name.startswith("_") or name.endswith("_")) and all(map(counts.get, parts))
+                parts = [part for part in name.split("◌") if part]
+                used = counts.get(name) or "◌" in name and all(map(counts.get, parts))
                 if not used:
                     yield f"{path}: {name} is brought in and not used"
 
@@ -63,11 +65,11 @@ def main():
         found += imports(path, body)
         for line in body:
             declared = DECLARED.match(line)
-            if not declared or "=" in declared.group(1) or line.startswith("   "):
+            if not declared or "=" in declared.group(1) or line.startswith("   ") or ANSWER.match(line):
                 continue
             for name in declared.group(1).split():
                 own = sum(words(other).count(name) for other in body if defines(other, name, line))
-                if everywhere.get(name, 0) <= own and not KEPT.match(name) and "_" not in name:
+                if everywhere.get(name, 0) <= own and not KEPT.match(name) and "◌" not in name:
                     found.append(f"{path}: {name} is used by nothing")
     print("\n".join(found), end="\n" if found else "")
     sys.exit(1 if found else 0)

@@ -1,5 +1,6 @@
 // The bench program: each line of standard input is an operation on a book of 4 slots and 16 nodes in ordinary memory, and is
-// answered with a line of output. It ends at the first write or read that fails, with one error; its exit status is 0 all the same.
+// answered with a line of output. It ends at the first write or read that fails, with one error; its exit status is 0 all
+// the same.
 #![tactic(auto)]
 
 mod answer;

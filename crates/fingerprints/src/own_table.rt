@@ -2,7 +2,8 @@
 ghost use Rattle.std.specs.Prelude.{◌≡◌, true, ◌↔◌, ℕ, ◌+◌, ◌≤◌, ◌<◌, length, get_or};
 ghost use Rattle.memory.specs.Words.{reads};
 ghost use Rattle.tree.specs.Test.{holds};
-ghost use Rattle.tree.specs.Fingerprint.{entry_in, folded, has_own, unpacked, stored_table, has_every, bad_own, bad_given, packed};
+ghost use Rattle.tree.specs.Fingerprint.{entry_in, folded, has_own, unpacked, stored_table, has_every};
+ghost use Rattle.tree.specs.Fingerprint.{bad_own, bad_given, packed};
 ghost use Rattle.fingerprints.specs.Tables.{flagged};
 
 use memory::words::{byte_of, with_byte};

@@ -17,7 +17,7 @@ use Rattle.memory.specs.Laws.{LastBarrier, Choice, old, new, image, Torn}
 use Rattle.flushes.specs.Crash.{line_of, has_flush, is_flush, flushed, unflushed, FlushCrash}
 use Rattle.flushes.specs.Module.{flushed_after}
 use Rattle.flushes.specs.Laws.{NoFlush, Lasts, LastFlush, FlushCrashLaws, EachLine, OwnWritesLaws}
-use Rattle.memory.proofs.Laws.{mem_take, number_of, element_at, take_through, length_apply, apply_append, content, OldOrStored, rejoined, store_of, crash_laws, fenced_at, length_image, reads_image}
+use Rattle.memory.proofs.Laws.{mem_take, number_of, element_at, take_through, length_apply, apply_append, content, OldOrStored, rejoined, store_of, crash_laws, fenced_at, choice_means, length_image, reads_image}
 use Rattle.flushes.proofs.Flushes.{a_flush, flush_rejoined, flush_later, no_flush_later, flushed_later, not_flushed_later, no_flush_of, none_flushed, unflushed_of}
 use Rattle.flushes.proofs.Translated.{no_store_in}
 use Rattle.flushes.proofs.Translator.{apply_flushes}
@@ -135,12 +135,6 @@ parts es k line b f =
 
 abbrev Possible : List ℕ → List Entry → ℕ → ℕ → Type 0
 Possible m t i v = (v ≡ reads (apply m (flushed (line_of i) (fenced t))) i) ⊎ Memᴰ (store i v) (unflushed (line_of i) (fenced t) ++ unfenced t)
-
--- a choice is old, or stored since
-choice_means : (m : List ℕ) (es : List Entry) (b k i : ℕ) {v : ℕ} → Choice m es b k i v
-    → (v ≡ reads (apply m (take b es)) i) ⊎ Memᴰ (store i v) (drop b (take k es))
-choice_means m es b k i old = inl refl
-choice_means m es b k i (new j s) = inr (element_at es b k j s.since s.before s.entry)
 
 chosen : (m : List ℕ) (es : List Entry) (k b i v : ℕ) → LastFlush es k (line_of i) b → Choice m es b k i v ↔ Possible m (take k es) i v
 chosen m es k b i v l = let f = parts es k (line_of i) b l in (

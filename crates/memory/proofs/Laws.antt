@@ -14,7 +14,7 @@ pub use Rattle.memory.proofs.Written.{set_two, Reads, as_barrier, as_flush, as_s
 pub use Rattle.memory.proofs.Stores.{length_apply, apply_append}
 pub use Rattle.memory.proofs.StoreLists.{store_of}
 pub use Rattle.memory.proofs.Fences.{Fenced, no_barrier, rejoined, barrier_later, none_later}
-pub use Rattle.memory.proofs.Possible.{fenced_at, length_image, reads_image}
+pub use Rattle.memory.proofs.Possible.{fenced_at, choice_means, length_image, reads_image}
 use Rattle.memory.specs.Laws.{CrashLaws}
 use Rattle.memory.proofs.Fences.{passed_means, passed_at_end}
 use Rattle.memory.proofs.Possible.{last_barrier, only_chosen, possible, outside}

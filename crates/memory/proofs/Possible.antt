@@ -53,7 +53,7 @@ fenced_at es k b l =
 -- ---- choices
 
 -- a choice is old, or stored since
-choice_means : (m : List ℕ) (es : List Entry) (b k i : ℕ) {v : ℕ} → Choice m es b k i v
+pub choice_means : (m : List ℕ) (es : List Entry) (b k i : ℕ) {v : ℕ} → Choice m es b k i v
     → (v ≡ reads (apply m (take b es)) i) ⊎ Memᴰ (store i v) (drop b (take k es))
 choice_means m es b k i old = inl refl
 choice_means m es b k i (new j s) = inr (element_at es b k j s.since s.before s.entry)

@@ -14,7 +14,8 @@ use tree::path::{ClearPlace, fanout};
 
 // A root of size 16 or 32, with no bit at or above its size in either bitmap, and no children.
 fn small_root(depth: u64, size: u64, locate: u64, set: u64, next: u64) -> bool
-    ensures { result ≡ holds (eq depth 0 and (eq size 16 or eq size 32) and lt locate (2 ^ size) and lt set (2 ^ size) and eq next 0) }
+    ensures { result
+        ≡ holds (eq depth 0 and (eq size 16 or eq size 32) and lt locate (2 ^ size) and lt set (2 ^ size) and eq next 0) }
 {
     if depth != 0 {
         return false;

@@ -1,5 +1,5 @@
-// The C interface: thin wrappers, in which numbers and the driver's words meet the proved operations. The crate reelbook_c exports
-// them to C.
+// The C interface: thin wrappers, in which numbers and the driver's words meet the proved operations. The crate reelbook_c
+// exports them to C.
 //
 // A script's first `used` words are to be carried out, each barrier passed where it stands, before the next call; the map
 // and the head records have changed when the call returns. The driver passes a barrier after Format and after Recover.

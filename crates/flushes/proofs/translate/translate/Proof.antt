@@ -2,6 +2,7 @@ use mathlib.Core.Path.{◌≡◌, sym, ◌∙◌}
 use mathlib.Core.Bool.{true, false}
 use Prim.Native.Nat.{◌≤◌}
 use lib.ListN.{length}
+use native.Mathlib.Omega.{arith}
 use borrow.Author.Rules.{rules}
 use borrow.Author.Tests.{not-true, not-false}
 use Rattle.memory.specs.Apply.{is_script}
@@ -19,7 +20,7 @@ record Passed (c : tie.Else-not-is_script) : Type 0 where
 
 passed : (c : tie.Else-not-is_script) → Passed c
 passed c = record {
-  b = c.before.before.before.if-buffer-lt98.false;
+  b = omega arith;
   l = c.before.before.if-script-gt50.false;
   s = sym c.before.is_script.ensures ∙ not-false c.before.is_script.result c.if-not-is_script.false-raw;
 }
@@ -34,10 +35,10 @@ pub translate_spec : {M : Type 1} → statement M
 translate_spec =
     tie.close
     (tie.spec
-    (λ c. too_short _ _ _ c.if-buffer-lt98.true)
-    (λ c. too_long _ _ _ c.before.if-buffer-lt98.false c.if-script-gt50.true)
+    (λ c. too_short _ _ _ (omega arith))
+    (λ c. too_long _ _ _ (omega arith) c.if-script-gt50.true)
     (λ c κs. search rules)
-    (λ c. no_script _ _ _ c.before.before.before.if-buffer-lt98.false c.before.before.if-script-gt50.false (sym c.before.is_script.ensures ∙ not-true c.before.is_script.result c.if-not-is_script.true-raw))
+    (λ c. no_script _ _ _ (omega arith) c.before.before.if-script-gt50.false (sym c.before.is_script.ensures ∙ not-true c.before.is_script.result c.if-not-is_script.true-raw))
     (λ c κs. search rules)
     (λ c. let p = passed c.before.before in with_flush _ _ _ p.b p.l p.s (sym c.before.has_flush.ensures ∙ c.if-has_flush.true))
     (λ c κs. even _ _ (passed c.before.before).s)

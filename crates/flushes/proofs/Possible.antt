@@ -17,7 +17,7 @@ use Rattle.memory.specs.Laws.{LastBarrier, Choice, old, new, image, Torn}
 use Rattle.flushes.specs.Crash.{line_of, has_flush, is_flush, flushed, unflushed, FlushCrash}
 use Rattle.flushes.specs.Module.{flushed_after}
 use Rattle.flushes.specs.Laws.{NoFlush, Lasts, LastFlush, FlushCrashLaws, EachLine, OwnWritesLaws}
-use Rattle.memory.proofs.Laws.{mem_take, number_of, element_at, take_through, length_apply, apply_append, content, OldOrStored, rejoined, store_of, crash_laws, fenced_at, choice_means, length_image, reads_image}
+use Rattle.memory.proofs.Laws.{mem_take, number_of, take_through, length_apply, apply_append, content, OldOrStored, rejoined, store_of, crash_laws, fenced_at, choice_means, length_image, reads_image}
 use Rattle.flushes.proofs.Flushes.{a_flush, flush_rejoined, flush_later, no_flush_later, flushed_later, not_flushed_later, no_flush_of, none_flushed, unflushed_of}
 use Rattle.flushes.proofs.Translated.{no_store_in}
 use Rattle.flushes.proofs.Translator.{apply_flushes}

@@ -3,9 +3,9 @@
 
 usage: python3 tools/respell.py [--list] [FOLDER]     once, after port.py, at the top of the repository (or of FOLDER)
 
-A name is renamed wherever it stands in crates/: in .antt files and in the clauses of .rt files. A dash or a capital inside a name that begins
-with a small letter becomes an underscore. Where two names fall together, the lemma or field that had the dash gets `_lem` behind it. Names of
-the library and names that Rattle makes of the code (goals, invariants) stay.
+A name is renamed wherever it stands in crates/: in .antt and in .rt files, in comments only where it has a capital inside. A dash or a capital
+inside a name that begins with a small letter becomes an underscore. Where two names would meet in one file, the lemma or field gets `_lem`
+behind it, and the definition keeps the name. Names of the library and names that Rattle makes of the code (goals, invariants) stay.
 """
 import collections
 import os
@@ -20,7 +20,6 @@ TOP = re.compile(r"^(?:\s*(?:abbrev|unfoldable) )?(?:(?:abbrev|unfoldable|pub|re
 MEMBER = re.compile(r"^\s+(?:pub )?(?!let |in |as )(" + NAME + r"(?: " + NAME + r")*)" + ARGUMENTS)
 # what Rattle makes of the code in the files of a function's proof
 MADE = re.compile(r"^(invariant|decreases)-")
-KEEP = {"Prim"}
 
 
 def snake(name):

@@ -1,16 +1,20 @@
 -- A number for each byte, 1 at those among a table's first entries: all are 1 exactly if the table lacks no byte.
 use mathlib.Core.Path.{◌≡◌, refl, sym, ◌∙◌, ap, ap₂}
-use mathlib.Core.Bool.{Bool, true}
+use mathlib.Core.Bool.{Bool, true, ◌&&◌}
 use mathlib.Core.Logic.{◌↔◌}
-use mathlib.Core.List.{List}
+use mathlib.Core.List.{List, [], ◌∷◌}
 use Prim.Native.Nat.{ℕ, zero, suc, ◌+◌, ◌*◌, ◌/◌, ◌%◌, ◌≤◌, ◌<◌}
 use native.Mathlib.Omega.{arith}
 use native.Mathlib.Decide.{ℕ_discrete}
-use lib.ListN.{length, get_or, set, replicate, length-set, length-replicate}
-use lib.Seq.{get_or-set_same, get_or-set_other}
-use Rattle.memory.specs.Words.{Memory, byte}
+use lib.ListN.{length, get_or, set, take, drop, replicate, length-set, length-replicate}
+use lib.Seq.{get_or-set_same, get_or-set_other, ext_get_or}
+use lib.Dec.{eqb}
+use borrow.Author.Tests.{eqb-true, eq-eqb}
+use Rattle.std.specs.List.{fold}
+use Rattle.std.proofs.lemmas.List.{get_or-take, get_or-drop}
+use Rattle.memory.specs.Words.{Memory, byte, reads}
 use Rattle.tree.specs.Fingerprint.{unpacked, has_every}
-use Rattle.tree.proofs.Cases.{same_test}
+use Rattle.tree.proofs.Cases.{same_test, and-true, true_and}
 use Rattle.tree.proofs.Fingerprints.{unpacked_at, unpacked_length, unpacked_bytes}
 use Rattle.tree.proofs.OwnTables.{AmongFirst, lacks_no}
 use Rattle.fingerprints.specs.Tables.{flagged}
@@ -49,6 +53,21 @@ flagged_more t seen i h a = record {
   ];
 }
 
+-- as the code tests them all, from the first on
+ones_from : (a : Bool) (xs : List ℕ) → (fold (λ all x. all && eqb x 1) a xs ≡ true) ↔ ((a ≡ true) × ((b : ℕ) → b < length xs → get_or xs b 0 ≡ 1))
+ones_from a [] = (λ e. (e, λ b h. absurd (omega arith)), λ h. h.0)
+ones_from a (x ∷ xs) = let rest = ones_from (a && eqb x 1) xs in (
+  λ e. let t = and-true a (eqb x 1) (rest.0 e).0 in (t.0, each x xs (eqb-true x 1 t.1) (rest.0 e).1),
+  λ h. rest.1 (true_and h.0 (eq-eqb x 1 (h.1 0 (omega arith))), λ b l. h.1 (suc b) (omega arith)),
+)
+  where
+    each : (x : ℕ) (xs : List ℕ) → x ≡ 1 → ((b : ℕ) → b < length xs → get_or xs b 0 ≡ 1) → (b : ℕ) → b < length (x ∷ xs) → get_or (x ∷ xs) b 0 ≡ 1
+    each x xs e h zero l = e
+    each x xs e h (suc b) l = h b (omega arith)
+
+pub all_ones : (xs : List ℕ) → (fold (λ all x. all && eqb x 1) true xs ≡ true) ↔ ((b : ℕ) → b < length xs → get_or xs b 0 ≡ 1)
+all_ones xs = let h = ones_from true xs in (λ e. (h.0 e).1, λ a. h.1 (refl, a))
+
 -- a table in words: the bytes of word j are entries 8 × j and on
 module _ (m : Memory) (from : ℕ) where
   word_entry : (j k : ℕ) → j < 32 → k < 8 → get_or (unpacked m from) (8 * j + k) 0 ≡ byte (m (from + j)) k
@@ -81,3 +100,13 @@ module _ (m : Memory) (from : ℕ) where
         λ e. (lacks_no t).1 (λ b k. rw l ((a.flags b k).0 (h.0 e b k))),
         λ e. h.1 (λ b k. (a.flags b k).1 (rw l at ((lacks_no t).0 e b k))),
       )
+
+-- a table's words, lent by themselves
+pub words_alone : (words : List ℕ) (from : ℕ) → unpacked (reads (take 32 (drop from words))) 0 ≡ unpacked (reads words) from
+words_alone words from =
+    let lent = take 32 (drop from words) in
+    ext_get_or 0 (unpacked (reads lent) 0) (unpacked (reads words) from) (unpacked_length (reads lent) 0 ∙ sym (unpacked_length (reads words) from)) (λ i h.
+    let l : i < 256 = omega (arith, unpacked_length (reads lent) 0) in
+    let here : from + (0 + i / 8) ≡ from + i / 8 = omega arith in
+    let word = get_or-take {A = ℕ} 32 (drop from words) (0 + i / 8) 0 (omega arith) ∙ get_or-drop {A = ℕ} from words (0 + i / 8) 0 in
+    unpacked_at (reads lent) 0 i l ∙ ap (λ w. byte w (i % 8)) (rw here at word) ∙ sym (unpacked_at (reads words) from i l))

@@ -25,13 +25,13 @@ pub our_bytes : Bytes table_entry
 our_bytes = fingerprint_laws.table_once.entries
 
 -- a step of the fold: to an entry of the table, and so to the next h
-module _ {table : ℕ → ℕ} (t : Bytes table) (k f : ℕ) {h b : ℕ} (p : h ≡ folded table k f) (q : b ≡ byte f k) where
-  pub entry_inside : bit_xor h b < 256
-  entry_inside = xor_lt 8 h b (rw p (bytes_lt t k f)) (byte_small f k q)
+pub entry_inside : (k f : ℕ) {h b : ℕ} → h < 256 → b ≡ byte f k → bit_xor h b < 256
+entry_inside k f {h} {b} l q = xor_lt 8 h b l (byte_small f k q)
 
-  pub folded_step : {e : ℕ} → e ≡ table (bit_xor h b) → e ≡ folded table (k + 1) f
-  unfolding folded
-  folded_step s = rw (add-one, ← p, ← q) s
+pub folded_step : (table : ℕ → ℕ) (k f : ℕ) {h b e : ℕ} → h ≡ folded table k f → b ≡ byte f k → e ≡ table (bit_xor h b)
+    → e ≡ folded table (k + 1) f
+unfolding folded
+folded_step table k f p q s = rw (add-one, ← p, ← q) s
 
 -- a fold begins with 0
 pub begun : (table : ℕ → ℕ) (f : ℕ) → 0 ≡ folded table 0 f

@@ -1,10 +1,11 @@
 // Fingerprints: the paper's table, in which every byte occurs once, and a frame's fold by the image's rule.
 ghost use Rattle.std.specs.Prelude.{◌≡◌, ◌%◌, ◌≤◌, ◌<◌, length};
 ghost use Rattle.memory.specs.Words.{reads, with_byte};
-ghost use Rattle.tree.specs.Fingerprint.{table_entry, the_table, entry_in, folded, fingerprint, rule_for, rule_of};
+ghost use Rattle.tree.specs.Fingerprint.{the_table, entry_in, folded, fingerprint, rule_for, rule_of};
 ghost use Rattle.fingerprints.specs.Tables.{table_in};
 
-use crate::own_table::{fold_stored, has_own, stored_table};
+use crate::own_table::{has_own, stored_table};
+use crate::tables::{Lent, Ruled, Stored, Table};
 use memory::words::{byte_of, with_byte};
 use tree::layout::edition;
 
@@ -43,43 +44,41 @@ pub fn table_in(image: &[u64]) -> [u8; 256]
     ensures { result ≡ table_in (reads image.now) }
 {
     if has_own(image) {
-        return stored_table(image);
+        stored_table(image)
+    } else {
+        table()
     }
-    table()
 }
 
 // How many bytes of a frame an edition folds: 1 the four low ones, 2 all eight.
 fn bytes_folded(edition: u64) -> u32
     ensures { (result ≡ (rule_for edition).bytes) × (4 ≤ result) × (result ≤ 8) }
 {
-    if edition == 1 {
-        return LOW_BYTES;
-    }
-    ALL_BYTES
+    if edition == 1 { LOW_BYTES } else { ALL_BYTES }
 }
 
-// A fold goes on from a byte up to another, by a table that is lent.
-fn fold_on(table: &[u8], h: u64, frame: u64, from: u32, to: u32) -> u64
-    requires { (length table.now ≡ 256) × (from ≤ to) × (to ≤ 8) × (h ≡ folded (entry_in table.now) from frame) }
-    ensures { result ≡ folded (entry_in table.now) to frame }
+// A frame's fold over so many of its bytes. The low ones are a fixed number of steps, which the compiler unrolls; what an
+// edition adds comes after.
+fn fold_by<T: Table>(table: &T, bytes: u32, frame: u64) -> u64
+    requires { (4 ≤ bytes) × (bytes ≤ 8) }
+    ensures { result ≡ folded (T.entries table.now) bytes frame }
 {
-    let mut h = h;
-    let mut k = from;
-    while k < to {
-        h = table[(h ^ byte_of(frame, k)) as usize] as u64;
-        k += 1;
+    let mut h = 0;
+    for k in 0..LOW_BYTES {
+        h = table.entry(h ^ byte_of(frame, k));
+    }
+    for k in LOW_BYTES..bytes {
+        h = table.entry(h ^ byte_of(frame, k));
     }
     h
 }
 
-// A frame's fold by a table that is lent, over as many bytes as an edition folds. The low bytes are a fixed number of steps,
-// which the compiler unrolls; what the edition adds comes after.
+// A frame's fold by a table that is lent, over as many bytes as an edition folds.
 pub fn fold_for(edition: u64, table: &[u8], frame: u64) -> u64
     requires { length table.now ≡ 256 }
     ensures { result ≡ folded (entry_in table.now) (rule_for edition).bytes frame }
 {
-    let low = fold_on(table, 0, frame, 0, LOW_BYTES);
-    fold_on(table, low, frame, LOW_BYTES, bytes_folded(edition))
+    fold_by(&Lent { table }, bytes_folded(edition), frame)
 }
 
 // A frame's fingerprint in an image, by the image's table, which is lent.
@@ -90,39 +89,16 @@ pub fn fold(image: &[u64], table: &[u8], frame: u64) -> u64
     fold_for(edition(image), table, frame)
 }
 
-// An entry of the paper's table, by its rule.
-fn entry(i: u64) -> u64
-    requires { i < 256 }
-    ensures { result ≡ table_entry i }
-{
-    (167 * i + 13) % 256
-}
-
-// A fold goes on from a byte up to another, by that rule.
-fn fold_on_by_rule(h: u64, frame: u64, from: u32, to: u32) -> u64
-    requires { (from ≤ to) × (to ≤ 8) × (h ≡ folded table_entry from frame) }
-    ensures { result ≡ folded table_entry to frame }
-{
-    let mut h = h;
-    let mut k = from;
-    while k < to {
-        h = entry(h ^ byte_of(frame, k));
-        k += 1;
-    }
-    h
-}
-
-// A frame's fingerprint in an image, where it is the only one to be folded: to lay a table out would cost more than its
-// entries. An own table's are read where they are stored.
+// A frame's fingerprint in an image, where it is the only one to be folded: no table is laid out.
 pub fn fingerprint(image: &[u64], frame: u64) -> u64
     requires { 64 ≤ length image.now }
     ensures { result ≡ fingerprint (rule_of (reads image.now)) frame }
 {
     if has_own(image) {
-        return fold_stored(image, frame);
+        fold_by(&Stored { image }, ALL_BYTES, frame)
+    } else {
+        fold_by(&Ruled, bytes_folded(edition(image)), frame)
     }
-    let low = fold_on_by_rule(0, frame, 0, LOW_BYTES);
-    fold_on_by_rule(low, frame, LOW_BYTES, bytes_folded(edition(image)))
 }
 
 // The fingerprint word of a place with the frame's fingerprint in it, its seven other bytes kept.

@@ -3,3 +3,4 @@
 
 pub mod fingerprint;
 pub mod own_table;
+mod tables;

@@ -1,11 +1,11 @@
 // A mill's own table: tested, packed into words, and read from an image's.
-ghost use Rattle.std.specs.Prelude.{◌≡◌, true, ◌↔◌, ℕ, ◌+◌, ◌≤◌, ◌<◌, length, get_or};
+ghost use Rattle.std.specs.Prelude.{◌≡◌, true, ◌↔◌, ℕ, ◌≤◌, ◌<◌, length, get_or};
 ghost use Rattle.memory.specs.Words.{reads};
 ghost use Rattle.tree.specs.Test.{holds};
-ghost use Rattle.tree.specs.Fingerprint.{entry_in, folded, has_own, unpacked, stored_table, has_every};
-ghost use Rattle.tree.specs.Fingerprint.{bad_own, bad_given, packed};
+ghost use Rattle.tree.specs.Fingerprint.{has_own, unpacked, stored_table, has_every, bad_own, bad_given, packed};
 ghost use Rattle.fingerprints.specs.Tables.{flagged};
 
+use crate::tables::{Stored, Table};
 use memory::words::{byte_of, with_byte};
 use tree::layout::{TABLE_AT, edition, own_word};
 
@@ -22,10 +22,8 @@ fn flag_bytes(seen: &mut [u8], w: u64)
     requires { length seen.old ≡ 256 }
     ensures { seen.new ≡ flagged seen.old w 8 }
 {
-    let mut k: u32 = 0;
-    while k < 8 {
+    for k in 0..8 {
         seen[byte_of(w, k) as usize] = 1;
-        k += 1;
     }
 }
 
@@ -34,29 +32,18 @@ fn all_flagged(seen: &[u8]) -> bool
     requires { length seen.now ≡ 256 }
     ensures { (result ≡ true) ↔ ((b : ℕ) → b < 256 → get_or seen.now b 0 ≡ 1) }
 {
-    let mut all = true;
-    let mut b: usize = 0;
-    while b < 256 {
-        all = all & (seen[b] == 1);
-        b += 1;
-    }
-    all
+    seen.iter().fold(true, |all, flag| all & (*flag == 1))
 }
 
-// Does a table in 32 words, from some word on, lack no byte? Four words a step: so large a body is left to a call, and every
-// operation's common way, where there is no own table, stays short.
-fn has_every(words: &[u64], from: usize) -> bool
-    requires { (from ≤ 8) × (from + 32 ≤ length words.now) }
-    ensures { result ≡ has_every (unpacked (reads words.now) from) }
+// Does a table in 32 words lack no byte? Left to a call: every operation's common way, where there is no own table, stays short.
+#[inline(never)]
+fn has_every(words: &[u64]) -> bool
+    requires { length words.now ≡ 32 }
+    ensures { result ≡ has_every (unpacked (reads words.now) 0) }
 {
-    let mut seen: [u8; 256] = [0; 256];
-    let mut j: usize = 0;
-    while j < 32 {
-        flag_bytes(&mut seen, words[from + j]);
-        flag_bytes(&mut seen, words[from + j + 1]);
-        flag_bytes(&mut seen, words[from + j + 2]);
-        flag_bytes(&mut seen, words[from + j + 3]);
-        j += 4;
+    let mut seen = [0; 256];
+    for word in words {
+        flag_bytes(&mut seen, *word);
     }
     all_flagged(&seen)
 }
@@ -66,14 +53,11 @@ pub fn bad_own(image: &[u64]) -> bool
     requires { 64 ≤ length image.now }
     ensures { result ≡ holds (bad_own (reads image.now)) }
 {
-    if edition(image) != 2 {
-        return false;
-    }
-    let own = own_word(image);
-    if own != 1 {
-        return 1 < own;
-    }
-    !has_every(image, TABLE_AT)
+    edition(image) == 2
+        && match own_word(image) {
+            1 => !has_every(&image[TABLE_AT..TABLE_AT + 32]),
+            own => 1 < own,
+        }
 }
 
 // Eight entries of a table in a word, lowest byte first.
@@ -81,11 +65,9 @@ pub fn packed(table: &[u8], j: usize) -> u64
     requires { (length table.now ≡ 256) × (j < 32) }
     ensures { result ≡ packed table.now j }
 {
-    let mut w: u64 = 0;
-    let mut k: usize = 0;
-    while k < 8 {
-        w = with_byte(w, k as u32, table[8 * j + k] as u64);
-        k += 1;
+    let mut w = 0;
+    for (k, entry) in table[8 * j..8 * j + 8].iter().enumerate() {
+        w = with_byte(w, k as u32, *entry as u64);
     }
     w
 }
@@ -94,20 +76,18 @@ pub fn packed(table: &[u8], j: usize) -> u64
 pub fn bad_given(table: &[u8]) -> bool
     ensures { result ≡ holds (bad_given table.now) }
 {
-    if table.len() == 0 {
-        return false;
+    match table.len() {
+        0 => false,
+        256 => {
+            // Entry by entry: of whole words the compiler makes a memcpy, which the library does not ask for.
+            let mut words = [0; 32];
+            for (i, entry) in table.iter().enumerate() {
+                words[i / 8] = with_byte(words[i / 8], (i % 8) as u32, *entry as u64);
+            }
+            !has_every(&words)
+        }
+        _ => true,
     }
-    if table.len() != 256 {
-        return true;
-    }
-    // Entry by entry: of whole words the compiler makes a memcpy, which the library does not ask for.
-    let mut words: [u64; 32] = [0; 32];
-    let mut i: usize = 0;
-    while i < 256 {
-        words[i / 8] = with_byte(words[i / 8], (i % 8) as u32, table[i] as u64);
-        i += 1;
-    }
-    !has_every(&words, 0)
 }
 
 // An image's own table, laid out as 256 bytes.
@@ -115,26 +95,10 @@ pub fn stored_table(image: &[u64]) -> [u8; 256]
     requires { 64 ≤ length image.now }
     ensures { result ≡ stored_table (reads image.now) }
 {
-    let mut table: [u8; 256] = [0; 256];
-    let mut i: usize = 0;
-    while i < 256 {
-        table[i] = byte_of(image[TABLE_AT + i / 8], (i % 8) as u32) as u8;
-        i += 1;
+    let stored = Stored { image };
+    let mut table = [0; 256];
+    for (i, entry) in table.iter_mut().enumerate() {
+        *entry = stored.entry(i as u64) as u8;
     }
     table
-}
-
-// A frame's fingerprint by an image's own table, its entries read where they are stored: all eight bytes, lowest first.
-pub fn fold_stored(image: &[u64], frame: u64) -> u64
-    requires { 64 ≤ length image.now }
-    ensures { result ≡ folded (entry_in (stored_table (reads image.now))) 8 frame }
-{
-    let mut h: u64 = 0;
-    let mut k: u32 = 0;
-    while k < 8 {
-        let i = (h ^ byte_of(frame, k)) as usize;
-        h = byte_of(image[TABLE_AT + i / 8], (i % 8) as u32);
-        k += 1;
-    }
-    h
 }

@@ -1,14 +1,17 @@
 -- What the loops over the pool map ask: marks made or taken away in turn, runs found and passed over, used nodes found.
 use mathlib.Core.Path.{◌≡◌, refl, sym, ap, ◌∙◌}
-use mathlib.Core.Bool.{true, false}
+use mathlib.Core.Bool.{true, false, not}
 use mathlib.Core.Logic.{inl, inr, ◌≢◌}
 use mathlib.Core.List.{List, [], ◌∷◌}
+use Rattle.std.specs.List.{list_all, range_with_len}
+use Rattle.std.specs.Prelude.{min, ◌↔◌}
+use Rattle.std.specs.Ordering.{ord_min, nat_cmp}
+use Rattle.std.proofs.lemmas.Grind.{common_steps}
 use Prim.Native.Nat.{ℕ, zero, suc, ◌+◌, ◌-◌, ◌*◌, ◌/◌, ◌%◌, ◌^◌, ◌≤◌, ◌<◌}
 use native.Mathlib.Omega.{arith}
 use native.Mathlib.Decide.{dec_lt}
-use native.Mathlib.Numerals.{add-one}
 use lib.Count.{count_trailing_zeros, trailing_le}
-use borrow.Author.Tests.{not-false as is_true}
+use borrow.Author.Tests.{not-false as is_true, not-true}
 use Rattle.memory.specs.Words.{Memory, reads, is_set, marked}
 use Rattle.memory.specs.Search.{first}
 use Rattle.memory.specs.Laws.{NoneBelow}
@@ -18,7 +21,7 @@ use Rattle.tree.specs.Lists.{range}
 use Rattle.tree.specs.Lookup.{is_free_run, free_run}
 use Rattle.tree.specs.Pool.{used, next_used, mark, unmark, mark_all, unmark_all}
 use Rattle.tree.specs.PoolLaws.{NoneUsed}
-use Rattle.tree.proofs.Cases.{test, true_not_false, not-false}
+use Rattle.tree.proofs.Cases.{test, true_not_false, not-false, same_test, and-true, true_and}
 use Rattle.tree.proofs.Pool.{pool_laws}
 use Rattle.tree.proofs.Runs.{run_laws}
 use Rattle.tree.proofs.Bits.{high_of, high_kept, low_cleared}
@@ -39,11 +42,6 @@ unfolding unmark_all
 unmarks = record { none = λ pool. refl; onto = λ pool n ns. refl }
 
 module _ {one : List ℕ → ℕ → List ℕ} {all : List ℕ → List ℕ → List ℕ} (t : InTurn one all) where
-  -- none of a run yet, and one node more
-  pub run_none : (pool : List ℕ) (start : ℕ) → pool ≡ all pool (range start 0)
-  unfolding range
-  run_none pool start = sym (t.none pool)
-
   run_suc : (pool : List ℕ) (start i : ℕ) → one (all pool (range start i)) (start + i) ≡ all pool (range start (suc i))
   unfolding range
   run_suc pool start zero = let q : start + 0 ≡ start = omega arith in rw (q, t.none pool, t.onto pool start [], t.none (one pool start)) refl
@@ -51,8 +49,16 @@ module _ {one : List ℕ → ℕ → List ℕ} {all : List ℕ → List ℕ → 
       let q : start + suc i ≡ suc start + i = omega arith in
       rw (q, t.onto pool start (range (suc start) i), t.onto pool start (suc start ∷ range (suc (suc start)) i)) (run_suc (one pool start) (suc start) i)
 
-  pub run_more : (pool : List ℕ) (start i : ℕ) → one (all pool (range start i)) (start + i) ≡ all pool (range start (i + 1))
-  run_more pool start i = rw (add-one i) (run_suc pool start i)
+  -- none of a run yet, and one node more
+  pub run_none : (pool : List ℕ) (start : ℕ) → pool ≡ all pool (range start (start - start))
+  unfolding range
+  run_none pool start = let q : start - start ≡ 0 = omega arith in rw q (sym (t.none pool))
+
+  pub run_more : {pool now : List ℕ} {start : ℕ} (n : ℕ) → start ≤ n → now ≡ all pool (range start (n - start)) → one now n ≡ all pool (range start (n + 1 - start))
+  run_more {pool} {now} {start} n l is =
+      let q : n + 1 - start ≡ suc (n - start) = omega arith in
+      let r : start + (n - start) ≡ n = omega arith in
+      rw (q, ← run_suc pool start (n - start), r, is) refl
 
 -- ---- the search for a run
 
@@ -65,24 +71,43 @@ module _ (g : Geometry) (m : Memory) (k : ℕ) where
   pub run_used : (s i : ℕ) → i < k → marked m (s + i) ≡ true → is_free_run g m k s ≡ false
   run_used s i l u = not-false (λ e. true_not_false u ((((run_laws g m k).free s).0 e).free i l))
 
-  run_outside : (s : ℕ) → g.nodes < s + k → is_free_run g m k s ≡ false
+  pub run_outside : (s : ℕ) → g.nodes < s + k → is_free_run g m k s ≡ false
   run_outside s l = not-false (λ e. omega (arith, (((run_laws g m k).free s).0 e).inside))
 
-  -- nor in the full word that starts at s
-  pub word_full : (s : ℕ) → 0 < k → s % 64 ≡ 0 → m (s / 64) ≡ 2 ^ 64 - 1 → NoneBelow (is_free_run g m k) s → NoneBelow (is_free_run g m k) (s + 64)
+  -- nor in a full word
+  pub word_full : (i : ℕ) → 0 < k → m i ≡ 2 ^ 64 - 1 → NoneBelow (is_free_run g m k) (64 * i) → NoneBelow (is_free_run g m k) (64 * (i + 1))
   unfolding marked
-  word_full s o z full below j l = elim (dec_lt j s) [
+  word_full i o full below j l = elim (dec_lt j (64 * i)) [
     | yes h ↦ below j h
     | no h ↦
-        let q : (j + 0) / 64 ≡ s / 64 = omega arith in
+        let q : (j + 0) / 64 ≡ i = omega arith in
         run_used j 0 o (rw (q, full) (full_bit ((j + 0) % 64) (omega arith)))
   ]
 
+  -- what the test of a run computes
+  all_free : (s n : ℕ) → (list_all (λ j. not (marked m j)) (range_with_len s n) ≡ true) ↔ ((i : ℕ) → i < n → marked m (s + i) ≡ false)
+  all_free s zero = (λ e i l. absurd (omega arith), λ h. refl)
+  all_free s (suc n) = (
+    λ e i l. let t = and-true (not (marked m s)) _ e in elim (dec_lt i 1) [
+      | yes z ↦ let q : s + i ≡ s = omega arith in ap (marked m) q ∙ not-true (marked m s) t.0
+      | no z ↦ let q : s + i ≡ s + 1 + (i - 1) = omega arith in ap (marked m) q ∙ (all_free (s + 1) n).0 t.1 (i - 1) (omega arith)
+    ],
+    λ h.
+        let here : marked m s ≡ false = ap (marked m) (omega arith) ∙ h 0 (omega arith) in
+        true_and (rw here refl) ((all_free (s + 1) n).1 (λ i l. let q : s + 1 + i ≡ s + (i + 1) = omega arith in ap (marked m) q ∙ h (i + 1) (omega arith))),
+  )
+
+  pub run_tested : (s : ℕ) → s + k ≤ g.nodes → list_all (λ j. not (marked m j)) (range_with_len s k) ≡ is_free_run g m k s
+  run_tested s l = same_test (
+    λ e. ((run_laws g m k).free s).1 (record { inside = l; free = (all_free s k).0 e }),
+    λ e. (all_free s k).1 (((run_laws g m k).free s).0 e).free,
+  )
+
   -- the search ends at s: with a run, or where none can end inside the pool
-  pub run_found : (s : ℕ) → s + k ≤ g.nodes → NoneBelow (is_free_run g m k) s → ((i : ℕ) → i < k → marked m (s + i) ≡ false) → s ≡ free_run g m k
+  pub run_found : (s : ℕ) → 0 < k → NoneBelow (is_free_run g m k) s → is_free_run g m k s ≡ true → s ≡ free_run g m k
   unfolding free_run
-  run_found s l below free =
-      (first_laws (is_free_run g m k) g.nodes).stops s (omega arith) below (λ b. ((run_laws g m k).free s).1 (record { inside = l; free = free }))
+  run_found s o below e =
+      (first_laws (is_free_run g m k) g.nodes).stops s (omega (arith, (((run_laws g m k).free s).0 e).inside)) below (λ b. e)
 
   pub run_missing : (s : ℕ) → g.nodes < s + k → NoneBelow (is_free_run g m k) s → g.nodes ≡ free_run g m k
   unfolding free_run
@@ -119,25 +144,33 @@ in_word pool i j l =
     let r : (64 * i + j) % 64 ≡ j = omega arith in
     rw (q, r) refl
 
--- what the search has at word i: below it no node from `from` on is used, and of its bits those of nodes from there on are left
-pub record Searched (pool : List ℕ) (from i rest : ℕ) : Type 0 where
+-- what the search has at word i: below it no node from `from` on is used
+pub record Passed (pool : List ℕ) (from i : ℕ) : Type 0 where
   pub onward : from < 64 * i + 64
   pub none : (k : ℕ) → from ≤ k → k < 64 * i → used pool k ≡ false
-  pub fits : rest < 2 ^ 64
-  pub ahead : (j : ℕ) → j < 64 → from ≤ 64 * i + j → is_set rest j ≡ used pool (64 * i + j)
-  pub behind : (j : ℕ) → 64 * i + j < from → is_set rest j ≡ false
 
-pub search_starts : (pool : List ℕ) (from : ℕ) → reads pool (from / 64) < 2 ^ 64
-    → Searched pool from (from / 64) (high_of (reads pool (from / 64)) (from % 64))
-search_starts pool from h = record {
-  onward = omega arith;
-  none = λ k l b. absurd (omega arith);
-  fits = omega arith;
-  ahead = λ j b l. high_kept (reads pool (from / 64)) (from % 64) h j (omega arith) ∙ in_word pool (from / 64) j b;
-  behind = λ j l. low_cleared (reads pool (from / 64)) (from % 64) h j (omega arith);
-}
+pub passed_none : (pool : List ℕ) (from : ℕ) → Passed pool from (from / 64)
+passed_none pool from = record { onward = omega arith; none = λ k l b. absurd (omega arith) }
 
-module _ {pool : List ℕ} {from i rest : ℕ} (t : Searched pool from i rest) where
+pub passed_all : {pool : List ℕ} {from i : ℕ} (bound : ℕ) → Passed pool from i → from ≤ bound → bound ≤ 64 * i → bound ≡ next_used pool from bound
+passed_all {pool} {from} {i} bound t l h =
+    next_missing bound (record { onward = l; none = λ k a b. t.none k a (omega arith) }) l (omega arith)
+
+-- the lesser of two numbers, as the library's `min` answers
+lesser : (a b : ℕ) → ord_min nat_cmp a b ≡ min a b
+lesser a b = grind (arith, common_steps)
+
+module _ {pool : List ℕ} {from i below : ℕ} (t : Passed pool from i) (fits : reads pool i < 2 ^ 64) (is : below ≡ from - 64 * i) where
+  abbrev rest : ℕ
+  rest = high_of (reads pool i) below
+
+  -- of the word's bits those of nodes from `from` on are left
+  ahead : (j : ℕ) → j < 64 → from ≤ 64 * i + j → is_set rest j ≡ used pool (64 * i + j)
+  ahead j b l = high_kept (reads pool i) below fits j (omega arith) ∙ in_word pool i j b
+
+  behind : (j : ℕ) → 64 * i + j < from → is_set rest j ≡ false
+  behind j l = low_cleared (reads pool i) below fits j (omega arith)
+
   -- no bit of the word below the lowest that is left
   none_onto : (n : ℕ) → from ≤ 64 * i + n → n ≤ 64 → NoneBelow (is_set rest) n → NoneUsed pool from (64 * i + n)
   none_onto n l h clear = record {
@@ -146,42 +179,35 @@ module _ {pool : List ℕ} {from i rest : ℕ} (t : Searched pool from i rest) w
       | yes u ↦ t.none k a u
       | no u ↦
           let q : k ≡ 64 * i + (k - 64 * i) = omega arith in
-          ap (used pool) q ∙ sym (t.ahead (k - 64 * i) (omega arith) (omega arith)) ∙ clear (k - 64 * i) (omega arith)
+          ap (used pool) q ∙ sym (ahead (k - 64 * i) (omega arith) (omega arith)) ∙ clear (k - 64 * i) (omega arith)
     ];
   }
 
   -- no bit is left
-  module _ (z : rest ≡ 0) where
-    none_here : NoneUsed pool from (64 * i + 64)
-    none_here = none_onto 64 (omega (arith, t.onward)) (omega arith) (λ j l. rw z (no_bit j))
-
-    pub search_next : reads pool (i + 1) < 2 ^ 64 → Searched pool from (i + 1) (reads pool (i + 1))
-    search_next h = record {
-      onward = omega (arith, t.onward);
-      none = λ k l b. none_here.none k l (omega arith);
-      fits = h;
-      ahead = λ j b l. in_word pool (i + 1) j b;
-      behind = λ j l. absurd (omega (arith, t.onward));
-    }
-
-    pub search_ends : (bound : ℕ) → from ≤ bound → bound ≤ 64 * (i + 1) → bound ≡ next_used pool from bound
-    search_ends bound l h = next_missing bound none_here l (omega arith)
+  pub passed_more : rest ≡ 0 → Passed pool from (i + 1)
+  passed_more z =
+      let u = none_onto 64 (omega (arith, t.onward)) (omega arith) (λ j l. rw z (no_bit j)) in
+      record { onward = omega (arith, t.onward); none = λ k l b. u.none k l (omega arith) }
 
   -- a bit is left: the lowest
   module _ (o : rest ≢ 0) where
     abbrev low : ℕ
     low = count_trailing_zeros 64 rest
 
+    small : rest < 2 ^ 64
+    small = omega arith
+
     low_onward : from ≤ 64 * i + low
-    low_onward = elim (dec_lt (64 * i + low) from) [ yes l ↦ absurd (true_not_false (lowest_set rest o t.fits) (t.behind low l)) | no l ↦ omega arith ]
+    low_onward = elim (dec_lt (64 * i + low) from) [ yes l ↦ absurd (true_not_false (lowest_set rest o small) (behind low l)) | no l ↦ omega arith ]
 
     none_low : NoneUsed pool from (64 * i + low)
     none_low = none_onto low low_onward (trailing_le 64 rest) (rw (trailing_first 64 rest) (first_laws (is_set rest) 64).none_before)
 
-    pub search_found : (bound : ℕ) → 64 * i + low < bound → 64 * i + low ≡ next_used pool from bound
-    search_found bound l =
-        pool_laws.next_is pool from bound (64 * i + low)
-        (record { none_before = none_low; within = omega arith; is_used = λ b. sym (t.ahead low (lowest_in rest o t.fits) low_onward) ∙ lowest_set rest o t.fits })
-
-    pub search_beyond : (bound : ℕ) → from ≤ bound → bound ≤ 64 * i + low → bound ≡ next_used pool from bound
-    search_beyond bound l h = next_missing bound none_low l h
+    pub search_ends : (bound : ℕ) → from ≤ bound → ord_min nat_cmp (64 * i + low) bound ≡ next_used pool from bound
+    search_ends bound h = lesser (64 * i + low) bound ∙ elim (dec_lt (64 * i + low) bound) [
+      | yes l ↦
+          let q : min (64 * i + low) bound ≡ 64 * i + low = omega arith in
+          q ∙ pool_laws.next_is pool from bound (64 * i + low)
+          (record { none_before = none_low; within = omega arith; is_used = λ b. sym (ahead low (lowest_in rest o small) low_onward) ∙ lowest_set rest o small })
+      | no l ↦ let q : min (64 * i + low) bound ≡ bound = omega arith in q ∙ next_missing bound none_low h (omega arith)
+    ]

@@ -1,13 +1,14 @@
 // The pool map: bit n % 64 of word n / 64 is 1 if node n is used.
-ghost use Rattle.std.specs.Prelude.{◌≡◌, ◌+◌, ◌*◌, ◌≤◌, ◌<◌, length};
+ghost use Rattle.std.specs.Prelude.{◌≡◌, ◌+◌, ◌*◌, ◌^◌, ◌≤◌, ◌<◌, length};
 ghost use Rattle.memory.specs.Words.{reads};
 ghost use Rattle.tree.specs.Lists.{range};
-ghost use Rattle.tree.specs.Lookup.{free_run};
+ghost use Rattle.tree.specs.Lookup.{free_run, is_free_run};
 ghost use Rattle.tree.specs.Pool.{used, next_used, mark, unmark, mark_all, unmark_all, clear_map};
 
 use memory::search::lowest_unmarked;
 use memory::words::{is_set, with_bit, without_bit};
-use tree::layout::Geometry;
+use std::cmp::min;
+use tree::layout::{Geometry, map_words};
 
 // A word of the map with every node used.
 const FULL: u64 = 0xffff_ffff_ffff_ffff;
@@ -25,24 +26,16 @@ pub fn next_used(pool: &[u64], from: usize, nodes: usize) -> usize
     requires { (from ≤ nodes) × (nodes ≤ 64 * length pool.now) × (nodes ≤ 65536) }
     ensures { result ≡ next_used pool.now from nodes }
 {
-    if from == nodes {
-        return nodes;
-    }
-    let mut i = from / 64;
-    // Of word i the bits of nodes from there on.
-    let mut rest = pool[i] >> (from % 64) << (from % 64);
-    while rest == 0 {
-        i += 1;
-        if nodes <= 64 * i {
-            return nodes;
+    // Of the first word the bits of nodes from there on, of the others all.
+    let mut below = from % 64;
+    for i in from / 64..usize::div_ceil(nodes, 64) {
+        let rest = pool[i] >> below << below;
+        if rest != 0 {
+            return min(64 * i + u64::trailing_zeros(rest) as usize, nodes);
         }
-        rest = pool[i];
+        below = 0;
     }
-    let hit = 64 * i + u64::trailing_zeros(rest) as usize;
-    if nodes <= hit {
-        return nodes;
-    }
-    hit
+    nodes
 }
 
 pub fn mark(pool: &mut [u64], n: usize)
@@ -57,10 +50,8 @@ pub fn mark_run(pool: &mut [u64], start: usize, k: usize)
     requires { (start + k ≤ 64 * length pool.old) × (start + k ≤ 65536) }
     ensures { pool.new ≡ mark_all pool.old (range start k) }
 {
-    let mut i = 0;
-    while i < k {
-        mark(pool, start + i);
-        i += 1;
+    for n in start..start + k {
+        mark(pool, n);
     }
 }
 
@@ -76,10 +67,8 @@ pub fn unmark_run(pool: &mut [u64], start: usize, k: usize)
     requires { (start + k ≤ 64 * length pool.old) × (start + k ≤ 65536) }
     ensures { pool.new ≡ unmark_all pool.old (range start k) }
 {
-    let mut i = 0;
-    while i < k {
-        unmark(pool, start + i);
-        i += 1;
+    for n in start..start + k {
+        unmark(pool, n);
     }
 }
 
@@ -87,11 +76,7 @@ pub fn unmark_run(pool: &mut [u64], start: usize, k: usize)
 pub fn clear_map(pool: &mut [u64])
     ensures { pool.new ≡ clear_map (length pool.old) }
 {
-    let mut i = 0;
-    while i < pool.len() {
-        pool[i] = 0;
-        i += 1;
-    }
+    pool.fill(0);
 }
 
 // The lowest free node, or the number of nodes.
@@ -102,30 +87,28 @@ pub fn free_node(pool: &[u64], g: Geometry) -> usize
     lowest_unmarked(pool, g.nodes)
 }
 
+// Are k adjacent nodes from s on inside the pool and free?
+fn is_free_run(pool: &[u64], g: Geometry, s: usize, k: usize) -> bool
+    requires { (g.nodes ≤ 64 * length pool.now) × (g.nodes ≤ 65536) × (k ≤ 4) × (s + k < 2 ^ 64) }
+    ensures { result ≡ is_free_run g (reads pool.now) k s }
+{
+    s + k <= g.nodes && (s..s + k).all(|n| !is_used(pool, n))
+}
+
 // The lowest run of k adjacent free nodes, or the number of nodes. No run starts in a full word.
 pub fn free_run(pool: &[u64], g: Geometry, k: usize) -> usize
     requires { (g.nodes ≤ 64 * length pool.now) × (g.nodes ≤ 65536) × (1 ≤ k) × (k ≤ 4) }
     ensures { result ≡ free_run g (reads pool.now) k }
 {
-    let mut s = 0;
-    'search: loop {
-        if s + k > g.nodes {
-            break g.nodes;
-        }
-        if s % 64 == 0 && pool[s / 64] == FULL {
-            s += 64;
+    for (i, word) in pool[..map_words(g)].iter().enumerate() {
+        if *word == FULL {
             continue;
         }
-        let mut i = 0;
-        loop {
-            if i == k {
-                break 'search s;
+        for s in 64 * i..64 * i + 64 {
+            if is_free_run(pool, g, s, k) {
+                return s;
             }
-            if is_used(pool, s + i) {
-                break;
-            }
-            i += 1;
         }
-        s += 1;
     }
+    g.nodes
 }

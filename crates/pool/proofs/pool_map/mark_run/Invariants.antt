@@ -1,0 +1,8 @@
+use Rattle.std.proofs.Common.{◌≡◌, ◌-◌, length}
+use Rattle.tree.specs.Lists.{range}
+use Rattle.tree.specs.Pool.{mark_all}
+use Rattle.pool.proofs.pool_map.mark_run.Given as goal
+
+-- nodes of the run below n are marked
+abbrev pub invariant-loop-n : goal.invariant-loop-n
+invariant-loop-n l = (length l.pool ≡ length l.fn.pool) × (l.pool ≡ mark_all l.fn.pool (range l.start (l.n - l.start)))

@@ -7,6 +7,7 @@ mod Bitmap
 mod Trailing
 mod Bytes
 mod Written
+mod Pairs
 mod Passes
 mod Stores
 mod Fences

@@ -4,35 +4,20 @@ use mathlib.Core.Bool.{Bool, true, false, cond, ◌&&◌}
 use mathlib.Core.Logic.{◌≢◌}
 use mathlib.Core.Option.{Option, none, some}
 use mathlib.Core.List.{List, [], ◌∷◌}
-use Prim.Native.Nat.{ℕ, suc, ◌+◌, ◌^◌, ◌≤◌, ◌<◌}
+use Prim.Native.Nat.{ℕ, zero, suc, ◌+◌, ◌%◌, ◌^◌, ◌≤◌, ◌<◌}
 use native.Mathlib.Omega.{arith}
-use native.Mathlib.Numerals.{add-one}
 use native.Mathlib.Decide.{dec_lt, ℕ_discrete}
-use lib.ListN.{length, get_or, drop, set, length-set, drop_of_length-le}
-use lib.Seq.{drop-cons}
+use lib.ListN.{length, get_or, set, length-set}
 use lib.Dec.{eqb, ltb}
-use borrow.Author.Tests.{eq-eqb, ne_eqb}
+use borrow.Author.Tests.{eq-eqb, ne_eqb, lt-ltb, le-ltb}
+use Rattle.std.specs.Prelude.{All, Any, count_by}
+use Rattle.std.proofs.lemmas.List.Sums.{sum_by-cons}
 use Rattle.memory.specs.Script.{Entry, store, barrier, flush, barrier_word, flush_word, entry_of, onto, decode, stores_in}
 use Rattle.memory.specs.Crash.{apply}
 use Rattle.memory.specs.Apply.{is_some, outcome, applied, carry_out, is_entry, is_script, made_stores}
 use Rattle.memory.proofs.Cases.{clash}
+use Rattle.memory.proofs.Pairs.{Pairs, none, half, pair}
 use Rattle.memory.proofs.Written.{Reads, as_barrier, as_flush, as_store, entry_reads}
-
--- the words from `at` on: an entry and what is left, or the end
-decode_step : (n at : ℕ) (ws : List ℕ) → at + 1 < length ws
-    → decode n (drop at ws) ≡ onto (entry_of n (get_or ws at 0) (get_or ws (at + 1) 0)) (decode n (drop (at + 2) ws))
-unfolding decode
-decode_step n at ws h =
-    let two : at + 2 ≡ suc (suc at) = omega arith in
-    rw (add-one at, two, drop-cons ws at 0 (omega arith), drop-cons ws (suc at) 0 (omega arith)) refl
-
-decode_end : (n at : ℕ) (ws : List ℕ) → length ws ≤ at → decode n (drop at ws) ≡ some []
-unfolding decode
-decode_end n at ws h = rw (drop_of_length-le ws h) refl
-
-decode_odd : (n at : ℕ) (ws : List ℕ) → at + 1 ≡ length ws → decode n (drop at ws) ≡ none
-unfolding decode
-decode_odd n at ws h = rw (drop-cons ws at 0 (omega arith), drop_of_length-le ws {i = suc at} (omega arith)) refl
 
 -- ---- the check pass
 
@@ -57,34 +42,41 @@ both_there none os = refl
 both_there (some e) none = refl
 both_there (some e) (some es) = refl
 
-script_step : (n at : ℕ) (ws : List ℕ) → at + 1 < length ws
-    → is_script n (drop at ws) ≡ is_entry n (get_or ws at 0) (get_or ws (at + 1) 0) && is_script n (drop (at + 2) ws)
-unfolding is_script is_entry
-script_step n at ws h = ap is_some (decode_step n at ws h) ∙ both_there (entry_of n (get_or ws at 0) (get_or ws (at + 1) 0)) (decode n (drop (at + 2) ws))
+script_step : (n i v : ℕ) (ws : List ℕ) → is_script n (i ∷ v ∷ ws) ≡ is_entry n i v && is_script n ws
+unfolding is_script is_entry decode
+script_step n i v ws = both_there (entry_of n i v) (decode n ws)
 
--- fewer than two words left: a whole script exactly where none is
-pub script_last : (n at : ℕ) (ws : List ℕ) → at ≤ length ws → length ws ≤ at + 1 → is_script n (drop at ws) ≡ eqb at (length ws)
-unfolding is_script
-script_last n at ws l h = elim (ℕ_discrete at (length ws)) [
-  | yes q ↦ rw (eq-eqb at (length ws) q, decode_end n at ws (omega arith)) refl
-  | no q ↦ rw (ne_eqb at (length ws) q, decode_odd n at ws (omega arith)) refl
-]
+-- of words that are in pairs, whole where no half is left: a script where each pair is an entry, and none where one is not
+abbrev pub entry_is : ℕ → Bool → List ℕ → Type 0
+entry_is n t w = is_entry n (get_or w 0 0) (get_or w 1 0) ≡ t
 
-pub script_stops : (n at : ℕ) (ws : List ℕ) → at + 1 < length ws → is_entry n (get_or ws at 0) (get_or ws (at + 1) 0) ≡ false
-    → is_script n (drop at ws) ≡ false
-script_stops n at ws h e = script_step n at ws h ∙ rw e refl
+pub each_entry : (n : ℕ) {ws : List ℕ} {ps : List (List ℕ)} → Pairs ws ps → All (entry_is n true) ps → eqb (length ws % 2) 0 ≡ is_script n ws
+unfolding is_script decode
+each_entry n none a = refl
+each_entry n half a = refl
+each_entry n (pair {i = i} {v = v} {ws = ws} p) a =
+    let two : length (i ∷ v ∷ ws) % 2 ≡ length ws % 2 = omega arith in
+    rw (two, script_step n i v ws, a 0 [] (omega arith)) (each_entry n p (λ k d l. a (suc k) d (omega arith)))
 
-pub script_more : (n at : ℕ) (ws : List ℕ) → at + 1 < length ws → is_entry n (get_or ws at 0) (get_or ws (at + 1) 0) ≡ true
-    → is_script n (drop at ws) ≡ is_script n (drop (at + 2) ws)
-script_more n at ws h e = script_step n at ws h ∙ rw e refl
+nowhere : (t : Bool) → false ≡ t && false
+nowhere true = refl
+nowhere false = refl
+
+pub no_entry : (n : ℕ) {ws : List ℕ} {ps : List (List ℕ)} → Pairs ws ps → Any (entry_is n false) ps → false ≡ is_script n ws
+no_entry n none (k, x, l, e, f) = absurd (omega arith)
+no_entry n half (k, x, l, e, f) = absurd (omega arith)
+no_entry n (pair {i = i} {v = v} {ws = ws} p) (zero, x, l, e, f) =
+    let first : is_entry n i v ≡ false = rw (← e) at f in rw (script_step n i v ws, first) refl
+no_entry n (pair {i = i} {v = v} {ws = ws} p) (suc k, x, l, e, f) =
+    let left : is_script n ws ≡ false = sym (no_entry n p (k, x, omega arith, e, f)) in rw (script_step n i v ws, left) (nowhere (is_entry n i v))
 
 -- ---- the write pass
 
--- what is left of a script that was checked, after the entry at `at`
-pub record Made (m m' ws : List ℕ) (at : ℕ) : Type 0 where
+-- what is left of a script that was checked, after an entry is made
+pub record Made (m m' ws ws' : List ℕ) : Type 0 where
   pub same_length : length m' ≡ length m
-  pub checked : is_script (length m') (drop (at + 2) ws) ≡ true
-  pub same : made_stores m (drop at ws) ≡ made_stores m' (drop (at + 2) ws)
+  pub checked : is_script (length m') ws' ≡ true
+  pub same : made_stores m ws ≡ made_stores m' ws'
 
 -- the image that the entry leaves
 abbrev stepped : List ℕ → Entry → List ℕ
@@ -103,86 +95,76 @@ apply_stepped m (store i v) es = refl
 apply_stepped m barrier es = refl
 apply_stepped m (flush l) es = refl
 
-made : (m ws : List ℕ) (at : ℕ) (e : Entry) (es : List Entry) → decode (length m) (drop at ws) ≡ some (e ∷ es)
-    → decode (length m) (drop (at + 2) ws) ≡ some es → Made m (stepped m e) ws at
-unfolding is_script made_stores carry_out
-made m ws at e es all rest =
-    let left : decode (length (stepped m e)) (drop (at + 2) ws) ≡ some es = rw (length_stepped m e) rest in
+made : (m : List ℕ) (i v : ℕ) (ws : List ℕ) (e : Entry) (es : List Entry) → entry_of (length m) i v ≡ some e → decode (length m) ws ≡ some es
+    → Made m (stepped m e) (i ∷ v ∷ ws) ws
+unfolding is_script made_stores carry_out decode
+made m i v ws e es one rest =
+    let all : onto (entry_of (length m) i v) (decode (length m) ws) ≡ some (e ∷ es) = rw (one, rest) refl in
+    let left : decode (length (stepped m e)) ws ≡ some es = rw (length_stepped m e) rest in
     record {
       same_length = length_stepped m e;
       checked = ap is_some left;
       same = ap (λ o. (applied m o).image) all ∙ apply_stepped m e es ∙ sym (ap (λ o. (applied (stepped m e) o).image) left);
     }
 
-pub made_step : (m ws : List ℕ) (at : ℕ) → at + 1 < length ws → is_script (length m) (drop at ws) ≡ true
-    → (e : Entry) × Reads (length m) (get_or ws at 0) (get_or ws (at + 1) 0) e × Made m (stepped m e) ws at
-unfolding is_script
-made_step m ws at h c =
-    let step = decode_step (length m) at ws h in
-    go (entry_of (length m) (get_or ws at 0) (get_or ws (at + 1) 0)) (decode (length m) (drop (at + 2) ws)) refl refl step (ap is_some (sym step) ∙ c)
+made_step : (m : List ℕ) (i v : ℕ) (ws : List ℕ) → is_script (length m) (i ∷ v ∷ ws) ≡ true
+    → (e : Entry) × Reads (length m) i v e × Made m (stepped m e) (i ∷ v ∷ ws) ws
+unfolding is_script decode
+made_step m i v ws c = go (entry_of (length m) i v) (decode (length m) ws) refl refl c
   where
-    go : (o : Option Entry) (os : Option (List Entry)) → entry_of (length m) (get_or ws at 0) (get_or ws (at + 1) 0) ≡ o
-        → decode (length m) (drop (at + 2) ws) ≡ os → decode (length m) (drop at ws) ≡ onto o os → is_some (onto o os) ≡ true
-        → (e : Entry) × Reads (length m) (get_or ws at 0) (get_or ws (at + 1) 0) e × Made m (stepped m e) ws at
-    go none os eo eos all t = clash false t refl
-    go (some e) none eo eos all t = clash false t refl
-    go (some e) (some es) eo eos all t = (e, entry_reads _ _ _ e eo, made m ws at e es all eos)
+    go : (o : Option Entry) (os : Option (List Entry)) → entry_of (length m) i v ≡ o → decode (length m) ws ≡ os → is_some (onto o os) ≡ true
+        → (e : Entry) × Reads (length m) i v e × Made m (stepped m e) (i ∷ v ∷ ws) ws
+    go none os eo eos t = clash false t refl
+    go (some e) none eo eos t = clash false t refl
+    go (some e) (some es) eo eos t = (e, entry_reads _ _ _ e eo, made m i v ws e es eo eos)
 
 -- a store, where the first word is below the two marks; a barrier or a flush, where it is not
-pub made_store : (m ws : List ℕ) (at : ℕ) → at + 1 < length ws → is_script (length m) (drop at ws) ≡ true → get_or ws at 0 < flush_word
-    → (get_or ws at 0 < length m) × Made m (set m (get_or ws at 0) (get_or ws (at + 1) 0)) ws at
-made_store m ws at h c b = let s = made_step m ws at h c in go s.0 s.1 s.2
+pub made_store : (m : List ℕ) (i v : ℕ) (ws : List ℕ) → is_script (length m) (i ∷ v ∷ ws) ≡ true → i < flush_word
+    → (i < length m) × Made m (set m i v) (i ∷ v ∷ ws) ws
+made_store m i v ws c b = let s = made_step m i v ws c in go s.0 s.1 s.2
   where
-    go : (e : Entry) → Reads (length m) (get_or ws at 0) (get_or ws (at + 1) 0) e → Made m (stepped m e) ws at
-        → (get_or ws at 0 < length m) × Made m (set m (get_or ws at 0) (get_or ws (at + 1) 0)) ws at
+    go : (e : Entry) → Reads (length m) i v e → Made m (stepped m e) (i ∷ v ∷ ws) ws → (i < length m) × Made m (set m i v) (i ∷ v ∷ ws) ws
     go barrier (as_barrier q z) d = absurd (omega arith)
     go (flush l) (as_flush q) d = absurd (omega arith)
     go (store i v) (as_store l q f) d = (l, d)
 
-pub made_skip : (m ws : List ℕ) (at : ℕ) → length m ≤ flush_word → at + 1 < length ws → is_script (length m) (drop at ws) ≡ true → flush_word ≤ get_or ws at 0
-    → Made m m ws at
-made_skip m ws at short h c b = let s = made_step m ws at h c in go s.0 s.1 s.2
+pub made_skip : (m : List ℕ) (i v : ℕ) (ws : List ℕ) → length m ≤ flush_word → is_script (length m) (i ∷ v ∷ ws) ≡ true → flush_word ≤ i
+    → Made m m (i ∷ v ∷ ws) ws
+made_skip m i v ws short c b = let s = made_step m i v ws c in go s.0 s.1 s.2
   where
-    go : (e : Entry) → Reads (length m) (get_or ws at 0) (get_or ws (at + 1) 0) e → Made m (stepped m e) ws at → Made m m ws at
+    go : (e : Entry) → Reads (length m) i v e → Made m (stepped m e) (i ∷ v ∷ ws) ws → Made m m (i ∷ v ∷ ws) ws
     go barrier (as_barrier q z) d = d
     go (flush l) (as_flush q) d = d
     go (store i v) (as_store l q f) d = absurd (omega arith)
 
 -- the last entry is made
-pub made_last : (m ws : List ℕ) (at : ℕ) → length ws ≤ at + 1 → made_stores m (drop at ws) ≡ m
-unfolding made_stores carry_out apply
-made_last m ws at h = elim (dec_lt at (length ws)) [
-  | yes l ↦ ap (λ o. (applied m o).image) (decode_odd (length m) at ws (omega arith))
-  | no l ↦ ap (λ o. (applied m o).image) (decode_end (length m) at ws (omega arith))
-]
+pub made_last : (m ws : List ℕ) → length ws ≤ 1 → m ≡ made_stores m ws
+unfolding made_stores carry_out apply decode
+made_last m [] h = refl
+made_last m (i ∷ []) h = refl
+made_last m (i ∷ v ∷ ws) h = absurd (omega arith)
 
 -- ---- the count
 
-count_step : (at : ℕ) (ws : List ℕ) → at + 1 < length ws
-    → let rest = stores_in (drop (at + 2) ws) in
-    stores_in (drop at ws) ≡ cond (eqb (get_or ws at 0) barrier_word) rest (cond (eqb (get_or ws at 0) flush_word) rest (1 + rest))
-unfolding stores_in
-count_step at ws h =
-    let two : at + 2 ≡ suc (suc at) = omega arith in
-    rw (two, drop-cons ws at 0 (omega arith), drop-cons ws (suc at) 0 (omega arith)) refl
-
-pub count_store : (at : ℕ) (ws : List ℕ) → at + 1 < length ws → get_or ws at 0 < flush_word → stores_in (drop at ws) ≡ 1 + stores_in (drop (at + 2) ws)
-count_store at ws h b =
-    count_step at ws h ∙ rw (ne_eqb (get_or ws at 0) barrier_word (λ q. omega arith), ne_eqb (get_or ws at 0) flush_word (λ q. omega arith)) refl
-
-pub count_skip : (at : ℕ) (ws : List ℕ) → at + 1 < length ws → flush_word ≤ get_or ws at 0 → get_or ws at 0 < 2 ^ 64
-    → stores_in (drop at ws) ≡ stores_in (drop (at + 2) ws)
-count_skip at ws h b u = count_step at ws h ∙ elim (ℕ_discrete (get_or ws at 0) barrier_word) [
-  | yes q ↦ rw (eq-eqb (get_or ws at 0) barrier_word q) refl
-  | no q ↦ rw (ne_eqb (get_or ws at 0) barrier_word q, eq-eqb (get_or ws at 0) flush_word (omega arith)) refl
+-- a store, where the first word is below the two marks
+stored : (i rest : ℕ) → i < 2 ^ 64 → cond (ltb i flush_word) 1 0 + rest ≡ cond (eqb i barrier_word) rest (cond (eqb i flush_word) rest (1 + rest))
+stored i rest u = elim (dec_lt i flush_word) [
+  | yes l ↦ rw (lt-ltb i flush_word l, ne_eqb i barrier_word (λ q. omega arith), ne_eqb i flush_word (λ q. omega arith)) refl
+  | no g ↦ elim (ℕ_discrete i barrier_word) [
+    | yes q ↦ rw (le-ltb i flush_word (omega arith), eq-eqb i barrier_word q) (omega arith)
+    | no q ↦ rw (le-ltb i flush_word (omega arith), ne_eqb i barrier_word q, eq-eqb i flush_word (omega arith)) (omega arith)
+  ]
 ]
 
-pub count_last : (at : ℕ) (ws : List ℕ) → length ws ≤ at + 1 → stores_in (drop at ws) ≡ 0
+abbrev pub stores_word : List ℕ → Bool
+stores_word w = ltb (get_or w 0 0) flush_word
+
+pub count_pairs : {ws : List ℕ} {ps : List (List ℕ)} → Pairs ws ps → ((k : ℕ) → get_or ws k 0 < 2 ^ 64) → count_by stores_word ps ≡ stores_in ws
 unfolding stores_in
-count_last at ws h = elim (dec_lt at (length ws)) [
-  | yes l ↦ rw (drop-cons ws at 0 (omega arith), drop_of_length-le ws {i = suc at} (omega arith)) refl
-  | no l ↦ rw (drop_of_length-le ws {i = at} (omega arith)) refl
-]
+count_pairs none u = refl
+count_pairs half u = refl
+count_pairs (pair {i = i} {v = v} {ws = ws} {ps = ps} p) u =
+    sum_by-cons (λ (w : List ℕ). cond (stores_word w) 1 0) (i ∷ v ∷ []) ps ∙ rw (count_pairs p (λ k. u (suc (suc k)))) (stored i (stores_in ws) (u 0))
 
 -- ---- both passes
 

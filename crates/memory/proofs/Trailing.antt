@@ -2,7 +2,7 @@
 use mathlib.Core.Path.{◌≡◌, refl, sym, ◌∙◌, ap, ap₂}
 use mathlib.Core.Bool.{true, not, cond}
 use mathlib.Core.Logic.{◌≢◌}
-use Prim.Native.Nat.{ℕ, zero, suc, ◌-◌, ◌*◌, ◌/◌, ◌%◌, ◌^◌, ◌≤◌, ◌<◌}
+use Prim.Native.Nat.{ℕ, min, zero, suc, ◌-◌, ◌*◌, ◌/◌, ◌%◌, ◌^◌, ◌≤◌, ◌<◌}
 use native.Mathlib.Nat.{pow-suc, zero-mul, one-mul}
 use native.Mathlib.Omega.{arith}
 use native.Mathlib.Decide.{dec_lt}
@@ -78,14 +78,20 @@ lowest_clear w h =
     trailing_first 64 (2 ^ 64 - 1 - w)
     ∙ (first_laws (is_set (2 ^ 64 - 1 - w)) 64).equal_tests (clear_in w) (λ k l. not_bits w k h l)
 
--- below n it is the search's answer; from n on there is none below n
+-- below n it is the search's answer; from n on there is none below n, and n is
 module _ (w n : ℕ) (h : w < 2 ^ 64) (l : n ≤ 64) where
-  pub clear_below : count_trailing_zeros 64 (2 ^ 64 - 1 - w) < n → count_trailing_zeros 64 (2 ^ 64 - 1 - w) ≡ first (clear_in w) n
+  clear_below : count_trailing_zeros 64 (2 ^ 64 - 1 - w) < n → count_trailing_zeros 64 (2 ^ 64 - 1 - w) ≡ first (clear_in w) n
   clear_below u =
       let s = first_laws (clear_in w) 64 in
       rw (lowest_clear w h) ((first_laws (clear_in w) n).stops (first (clear_in w) 64) (omega (arith, lowest_clear w h)) s.none_before (λ v. s.holds (omega arith)))
 
-  pub clear_none : n ≤ count_trailing_zeros 64 (2 ^ 64 - 1 - w) → n ≡ first (clear_in w) n
+  clear_none : n ≤ count_trailing_zeros 64 (2 ^ 64 - 1 - w) → n ≡ first (clear_in w) n
   clear_none u =
       let s = first_laws (clear_in w) 64 in
       (first_laws (clear_in w) n).stops n (omega arith) (λ k v. s.none_before k (omega (arith, lowest_clear w h))) (λ v. absurd (omega arith))
+
+  pub clear_first : min (count_trailing_zeros 64 (2 ^ 64 - 1 - w)) n ≡ first (clear_in w) n
+  clear_first = elim (dec_lt (count_trailing_zeros 64 (2 ^ 64 - 1 - w)) n) [
+    | yes u ↦ omega (arith, clear_below u)
+    | no g ↦ omega (arith, clear_none (omega arith))
+  ]

@@ -1,15 +1,14 @@
 -- Carry out: a script of words applied to an image.
-use Rattle.std.specs.Prelude.{Bool, true, false, List, ℕ, length}
+use Rattle.std.specs.Prelude.{Bool, true, false, List, ℕ, length, Result, Ok, Err, ⊤}
 use Rattle.std.proofs.Math.Option.{Option, none, some}
 use Rattle.memory.specs.Script.{Entry, entry_of, decode}
 use Rattle.memory.specs.Crash.{apply}
-use Rattle.memory.specs.declared.apply.Applied.{Applied}
-use Rattle.memory.specs.declared.apply.Applied.TheVariants.{Done, Refused}
+use Rattle.memory.specs.declared.apply.Refused.{Refused}
 
 -- the paper's number for an answer of the code: 3 where the words are no script
-abbrev pub number_of : Applied → ℕ
-number_of Done = 0
-number_of Refused = 3
+abbrev pub number_of : Result ⊤ Refused → ℕ
+number_of (Ok done) = 0
+number_of (Err refused) = 3
 
 -- the answer's number, and the image as it is left
 pub record Outcome : Type 0 where

@@ -4,38 +4,30 @@ ghost use Rattle.memory.specs.Apply.{is_entry, is_script, made_stores, number_of
 
 use crate::script::{BARRIER, FLUSH};
 
-// What carrying a script out answers.
-#[derive(Clone, Copy)]
-pub enum Applied {
-    Done,
-    Refused,
-}
+// What refuses words that are no script.
+#[derive(Clone, Copy, Debug, PartialEq, Eq)]
+pub struct Refused;
 
 // Are two words an entry on an image of n words?
 fn is_entry(n: usize, index: u64, value: u64) -> bool
     ensures { result ≡ is_entry n index value }
 {
-    if index == BARRIER {
-        return value == 0;
+    match index {
+        BARRIER => value == 0,
+        FLUSH => true,
+        _ => index < n as u64,
     }
-    if index == FLUSH {
-        return true;
-    }
-    index < n as u64
 }
 
 // Are all of a script's words whole entries on an image of n words?
 pub fn is_script(n: usize, script: &[u64]) -> bool
     ensures { result ≡ is_script n script.now }
 {
-    let mut at = 0;
-    while at + 1 < script.len() {
-        if !is_entry(n, script[at], script[at + 1]) {
-            return false;
-        }
-        at += 2;
-    }
-    at == script.len()
+    let (entries, rest) = script.as_chunks::<2>();
+    let all_entries = entries
+        .iter()
+        .all(|&[index, value]| is_entry(n, index, value));
+    all_entries && rest.is_empty()
 }
 
 // Makes the stores of a script that was checked.
@@ -43,24 +35,21 @@ fn make_stores(image: &mut [u64], script: &[u64])
     requires { is_script (length image.old) script.now ≡ true }
     ensures { image.new ≡ made_stores image.old script.now }
 {
-    let mut at = 0;
-    while at + 1 < script.len() {
-        let index = script[at];
+    for &[index, value] in script.as_chunks::<2>().0 {
         if index < FLUSH {
-            image[index as usize] = script[at + 1];
+            image[index as usize] = value;
         }
-        at += 2;
     }
 }
 
 // Carries a script of whole entries out on an image, or refuses it and writes nothing. It passes no
 // barrier: it is for images that need no crash safety while it runs, as in a simulation or a bench.
-pub fn apply(image: &mut [u64], script: &[u64]) -> Applied
+pub fn apply(image: &mut [u64], script: &[u64]) -> Result<(), Refused>
     ensures { outcome (number_of result) image.new ≡ carry_out image.old script.now }
 {
     if !is_script(image.len(), script) {
-        return Applied::Refused;
+        return Err(Refused);
     }
     make_stores(image, script);
-    Applied::Done
+    Ok(())
 }

@@ -48,13 +48,6 @@ pub fn put_fenced_pair(script: &mut [u64], index: u64, value: u64, index2: u64, 
 pub fn count_stores(script: &[u64]) -> u64
     ensures { result ≡ stores_in script.now }
 {
-    let mut count = 0;
-    let mut at = 0;
-    while at + 1 < script.len() {
-        if script[at] < FLUSH {
-            count += 1;
-        }
-        at += 2;
-    }
-    count
+    let (entries, _) = script.as_chunks::<2>();
+    entries.iter().filter(|entry| entry[0] < FLUSH).count() as u64
 }

@@ -8,11 +8,7 @@ pub fn lowest_clear(w: u64, n: u32) -> u32
     requires { n ≤ 64 }
     ensures { result ≡ first (λ (k : ℕ). not (is_set w k)) n }
 {
-    let k = u64::trailing_zeros(!w);
-    if k < n {
-        return k;
-    }
-    n
+    u32::min(w.trailing_ones(), n)
 }
 
 // The lowest clear bit below n of a bitmap, or n: a step for each word. The last step may pass n, and
@@ -21,17 +17,11 @@ pub fn lowest_unmarked(bitmap: &[u64], n: usize) -> usize
     requires { (n ≤ 64 * length bitmap.now) × (n + 64 < 2 ^ 64) }
     ensures { result ≡ first (λ (k : ℕ). not (marked (reads bitmap.now) k)) n }
 {
-    let mut start = 0;
-    while start < n {
-        let r = lowest_clear(bitmap[start / 64], 64) as usize;
-        if r < 64 {
-            if start + r < n {
-                return start + r;
-            } else {
-                return n;
-            }
+    for (k, word) in bitmap[..n.div_ceil(64)].iter().enumerate() {
+        let clear = lowest_clear(*word, 64) as usize;
+        if clear < 64 {
+            return usize::min(64 * k + clear, n);
         }
-        start += 64;
     }
     n
 }

@@ -16,4 +16,4 @@ pub returns-else-all_entries : goal.returns-else-all_entries
 returns-else-all_entries c =
     let ws = c.args.script.now in
     let any : Any (entry_is c.args.n false) (first_chunks 2 (length ws / 2) ws) = search (rules, chains) in
-    c.if-all_entries.false ∙ no_entry c.args.n (pairs ws refl) any
+    rw (← no_entry c.args.n (pairs ws refl) any) (search rules)

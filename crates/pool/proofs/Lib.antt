@@ -1,1 +1,2 @@
 pub mod PoolLoops
+pub mod UsedNodes

@@ -1,5 +1,7 @@
 // The pool map: bit n % 64 of word n / 64 is 1 if node n is used.
-ghost use Rattle.std.specs.Prelude.{◌≡◌, ◌+◌, ◌*◌, ◌^◌, ◌≤◌, ◌<◌, length};
+ghost use Rattle.std.specs.Prelude.{◌≡◌, ◌+◌, ◌-◌, ◌*◌, ◌^◌, ◌≤◌, ◌<◌, length};
+ghost use Rattle.std.specs.Iterator.{at_most};
+ghost use Rattle.pool.specs.UsedNodes.{NextUsed};
 ghost use Rattle.memory.specs.Words.{reads};
 ghost use Rattle.tree.specs.Lists.{range};
 ghost use Rattle.tree.specs.Lookup.{free_run, is_free_run};
@@ -36,6 +38,44 @@ pub fn next_used(pool: &[u64], from: usize, nodes: usize) -> usize
         below = 0;
     }
     nodes
+}
+
+// The used nodes of a map, rising: those that `used_nodes` goes over.
+#[derive(Drop)]
+pub struct UsedNodes<'a> {
+    pool: &'a [u64],
+    from: usize,
+    nodes: usize,
+}
+
+impl<'a> Iterator for UsedNodes<'a> {
+    type Item = usize;
+
+    ghost can_next = { λ s. (s.from ≤ s.nodes) × (s.nodes ≤ 64 * length s.pool.now) × (s.nodes ≤ 65536) };
+
+    ghost next_gives = { λ s r t. (t.pool.now ≡ s.pool.now) × (t.nodes ≡ s.nodes) × NextUsed s.pool.now s.from s.nodes r t.from };
+
+    ghost remaining = { λ s. at_most (s.nodes - s.from) };
+
+    fn next(&mut self) -> Option<usize> {
+        let n = next_used(self.pool, self.from, self.nodes);
+        if n == self.nodes {
+            return None;
+        }
+        self.from = n + 1;
+        Some(n)
+    }
+}
+
+pub fn used_nodes(pool: &[u64], nodes: usize) -> UsedNodes<'_>
+    requires { (nodes ≤ 64 * length pool.now) × (nodes ≤ 65536) }
+    ensures { (result.pool.now ≡ pool.now) × (result.from ≡ 0) × (result.nodes ≡ nodes) }
+{
+    UsedNodes {
+        pool,
+        from: 0,
+        nodes,
+    }
 }
 
 pub fn mark(pool: &mut [u64], n: usize)

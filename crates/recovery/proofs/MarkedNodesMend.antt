@@ -101,7 +101,7 @@ module _ (g : Geometry) (pool image : List ℕ) where
 
   -- ---- the loop
 
-  -- what the loop has at n: the image mended below n
+  -- what the loop has where the nodes below n are done: the image mended below n
   pub record MendedTo (now : List ℕ) (n : ℕ) : Type 0 where
     pub is : now ≡ mended_below g pool image n
     pub same_length : length now ≡ length image
@@ -113,30 +113,30 @@ module _ (g : Geometry) (pool image : List ℕ) where
   unfolding mended_below
   mended_none = mended_to image 0 refl
 
-  -- nodes that are not marked are passed over
-  pub mended_past : {now : List ℕ} {from n : ℕ} → NoneUsed pool from n → MendedTo now from → MendedTo now n
-  mended_past {now} {n = n} u t = mended_to now n (t.is ∙ sym (past_unmarked (mended_below g pool image) pool mended_unmarked u))
+  -- nodes that are not marked are passed over; in the end no marked node is left
+  pub mended_past : {now : List ℕ} {from n : ℕ} → NoneUsed pool from n → MendedTo now from → now ≡ mended_below g pool image n
+  mended_past u t = t.is ∙ sym (past_unmarked (mended_below g pool image) pool mended_unmarked u)
 
-  pub mended_all : {now : List ℕ} {n nodes : ℕ} → n ≤ nodes → nodes ≤ n → MendedTo now n → now ≡ mended_below g pool image nodes
-  mended_all {n = n} {nodes} l h t = let q : n ≡ nodes = omega arith in t.is ∙ ap (mended_below g pool image) q
+  module _ {now : List ℕ} {from n : ℕ} (o : NoneUsed pool from n) (t : MendedTo now from) where
+    here : now ≡ mended_below g pool image n
+    here = mended_past o t
 
-  module _ {now : List ℕ} (n : ℕ) (t : MendedTo now n) where
     locate_then : reads now (locate_at g n) ≡ reads image (locate_at g n)
-    locate_then = ap (λ ws. reads ws (locate_at g n)) t.is ∙ ahead n n (omega arith)
+    locate_then = ap (λ ws. reads ws (locate_at g n)) here ∙ ahead n n (omega arith)
 
     set_then : reads now (set_at g n) ≡ reads image (set_at g n)
-    set_then = ap (λ ws. reads ws (set_at g n)) t.is ∙ set_stays n n
+    set_then = ap (λ ws. reads ws (set_at g n)) here ∙ set_stays n n
 
-    -- a marked node's two words, as they are read now, are equal, or different
+    -- the next marked node's two words, as they are read now, are equal, or different
     module _ {held locate : ℕ} (s : held ≡ reads now (set_at g n)) (l : locate ≡ reads now (locate_at g n)) where
       pub pass_equal : locate ≡ held → MendedTo now (n + 1)
-      pass_equal e = mended_to now (n + 1) (rw (add-one n) (t.is ∙ sym (mended_equal n (eq-eqb _ _ (sym (l ∙ locate_then) ∙ e ∙ s ∙ set_then)))))
+      pass_equal e = mended_to now (n + 1) (rw (add-one n) (here ∙ sym (mended_equal n (eq-eqb _ _ (sym (l ∙ locate_then) ∙ e ∙ s ∙ set_then)))))
 
       pub pass_stored : {at : ℕ} → at ≡ node_at g n → used pool n ≡ true → locate ≢ held → MendedTo (set now (at + 1) held) (n + 1)
       pass_stored {at} a u d =
-          let here : set now (at + 1) held ≡ set (mended_below g pool image n) (locate_at g n) (reads image (set_at g n)) = rw (a, ← t.is, s ∙ set_then) refl in
+          let stored_here : set now (at + 1) held ≡ set (mended_below g pool image n) (locate_at g n) (reads image (set_at g n)) = rw (a, ← here, s ∙ set_then) refl in
           mended_to _ (n + 1) (rw (add-one n)
-          (here ∙ sym (mended_differing n u (ne_eqb _ _ (λ q. d (l ∙ locate_then ∙ q ∙ sym (s ∙ set_then)))))))
+          (stored_here ∙ sym (mended_differing n u (ne_eqb _ _ (λ q. d (l ∙ locate_then ∙ q ∙ sym (s ∙ set_then)))))))
 
 -- ---- with the map of a sound image
 

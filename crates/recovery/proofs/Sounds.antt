@@ -1,11 +1,11 @@
 -- What the check of an image comes to, from what its walks leave.
 use mathlib.Core.Path.{◌≡◌, refl, sym, ◌∙◌, ap}
-use mathlib.Core.Bool.{Bool, true, false, cond, not}
+use mathlib.Core.Bool.{Bool, true, false, cond}
 use mathlib.Core.Option.{none, some}
 use mathlib.Core.List.{List}
 use Prim.Native.Nat.{ℕ, ◌+◌, ◌-◌, ◌≤◌, ◌<◌}
 use native.Mathlib.Omega.{arith}
-use borrow.Author.Tests.{eq-eqb, ne_eqb, not-true, not-false}
+use borrow.Author.Tests.{eq-eqb, ne_eqb}
 use lib.ListN.{length}
 use Rattle.memory.specs.Words.{Memory, reads}
 use Rattle.memory.specs.Script.{stores}
@@ -39,18 +39,18 @@ module _ (g : Geometry) (m : Memory) (s : ℕ) (pool : List ℕ) (lowest : ℕ) 
 
   module _ (own : lowest ≡ s) (r : Bool) (pool' : List ℕ) (walk : kept r pool' ≡ walked_slot g m s pool) where
     -- nor one whose tree is not walked through
-    pub tree_fails : not r ≡ true → none ≡ walked_reel g m s pool
+    pub tree_fails : r ≡ false → none ≡ walked_reel g m s pool
     unfolding walked_reel
-    tree_fails e = rw (← of, eq-eqb lowest s own, ← walk, not-true r e) refl
+    tree_fails e = rw (← of, eq-eqb lowest s own, ← walk, e) refl
 
     -- else its tree is sound, and its frames decide
-    module _ (through : not r ≡ false) where
+    module _ (through : r ≡ true) where
       pub tree_sound : length pool ≡ map_words g → is_sound_tree g m s ≡ true
-      tree_sound l = walked_sound g m s pool l (rw (not-false r through) at walk)
+      tree_sound l = walked_sound g m s pool l (rw through at walk)
 
       pub tree_walked : (placed : Bool) → placed ≡ every (in_place (rule_of m) g m s) (tree g m s) → kept placed pool' ≡ walked_reel g m s pool
       unfolding walked_reel
-      tree_walked placed e = rw (← of, eq-eqb lowest s own, ← walk, not-false r through, ← e) refl
+      tree_walked placed e = rw (← of, eq-eqb lowest s own, ← walk, through, ← e) refl
 
 -- ---- the slots in turn
 
@@ -58,28 +58,28 @@ module _ (g : Geometry) (m : Memory) (s : ℕ) (pool : List ℕ) (lowest : ℕ) 
 abbrev pub slots_from : (k s : ℕ) → List ℕ
 slots_from k s = range s (k - s)
 
-pub all_slots : (k : ℕ) → up_to k ≡ slots_from k 0
+pub all_slots : (g : Geometry) (m : Memory) (k : ℕ) (pool : List ℕ) → walked_slots g m (slots_from k 0) pool ≡ walked_slots g m (up_to k) pool
 unfolding up_to
-all_slots k = ap (range 0) (omega arith)
+all_slots g m k pool = let q : k - 0 ≡ k = omega arith in rw q refl
 
 module _ (g : Geometry) (m : Memory) (k s : ℕ) (low : s < k) (pool : List ℕ) (here : Bool) (is : here ≡ filled m s) where
-  pub slot_filled : k ≡ g.slots → not here ≡ false → Filled g m s
-  slot_filled e h = record { inside = omega arith; linked = (filled_test m s).0 (sym is ∙ not-false here h) }
+  pub slot_filled : k ≡ g.slots → here ≡ true → Filled g m s
+  slot_filled e h = record { inside = omega arith; linked = (filled_test m s).0 (sym is ∙ h) }
 
   -- an empty slot is passed over
-  pub slot_empty : not here ≡ true → walked_slots g m (slots_from k s) pool ≡ walked_slots g m (slots_from k (s + 1)) pool
+  pub slot_empty : here ≡ false → walked_slots g m (slots_from k s) pool ≡ walked_slots g m (slots_from k (s + 1)) pool
   unfolding walked_slots
-  slot_empty e = rw (range_next s k low, ← is, not-true here e) refl
+  slot_empty e = rw (range_next s k low, ← is, e) refl
 
-  module _ (full : not here ≡ false) (r : Bool) (pool' : List ℕ) (walk : kept r pool' ≡ walked_reel g m s pool) where
+  module _ (full : here ≡ true) (r : Bool) (pool' : List ℕ) (walk : kept r pool' ≡ walked_reel g m s pool) where
     -- one that does not pass ends the walk
-    pub slot_fails : not r ≡ true → none ≡ walked_slots g m (slots_from k s) pool
+    pub slot_fails : r ≡ false → none ≡ walked_slots g m (slots_from k s) pool
     unfolding walked_slots
-    slot_fails e = rw (range_next s k low, ← is, not-false here full, ← walk, not-true r e) refl
+    slot_fails e = rw (range_next s k low, ← is, full, ← walk, e) refl
 
-    pub slot_walked : not r ≡ false → walked_slots g m (slots_from k s) pool ≡ walked_slots g m (slots_from k (s + 1)) pool'
+    pub slot_walked : r ≡ true → walked_slots g m (slots_from k s) pool ≡ walked_slots g m (slots_from k (s + 1)) pool'
     unfolding walked_slots
-    slot_walked e = rw (range_next s k low, ← is, not-false here full, ← walk, not-false r e) refl
+    slot_walked e = rw (range_next s k low, ← is, full, ← walk, e) refl
 
 pub slots_end : (g : Geometry) (m : Memory) (k s : ℕ) (pool : List ℕ) → k ≤ s → some pool ≡ walked_slots g m (slots_from k s) pool
 unfolding walked_slots range
@@ -105,13 +105,13 @@ module _ (g : Geometry) (image : List ℕ) where
     end : r ≡ sound
     end = same_end r sound marks (map_of g (nodes_of (all_trees g (reads image)))) whole
 
-    pub image_unsound : not r ≡ true → (pool' : List ℕ) → pool' ≡ clear_map (map_words g) → Checks false pool'
-    image_unsound e pool' c = rw (sym end ∙ not-true r e) (refl, c)
+    pub image_unsound : r ≡ false → (pool' : List ℕ) → pool' ≡ clear_map (map_words g) → Checks false pool'
+    image_unsound e pool' c = rw (sym end ∙ e) (refl, c)
 
-    pub image_sound : not r ≡ false → Checks true marks
+    pub image_sound : r ≡ true → Checks true marks
     image_sound e =
-        let t = same_kept r sound marks (map_of g (nodes_of (all_trees g (reads image)))) whole (not-false r e) in
-        rw (sym end ∙ not-false r e) (refl, t)
+        let t = same_kept r sound marks (map_of g (nodes_of (all_trees g (reads image)))) whole e in
+        rw (sym end ∙ e) (refl, t)
 
   -- what recovery answers and leaves
   abbrev Recovers : Bool → (after pool : List ℕ) → Type 0
@@ -121,13 +121,13 @@ module _ (g : Geometry) (image : List ℕ) where
       × (pool ≡ cond sound (map_of g (nodes_of (all_trees g (reads image)))) (clear_map (map_words g)))
 
   module _ {r : Bool} {marks : List ℕ} (c : Checks r marks) where
-    pub image_refused : not r ≡ true → Recovers false image marks
+    pub image_refused : r ≡ false → Recovers false image marks
     image_refused e =
-        let d : sound ≡ false = sym c.0 ∙ not-true r e in
+        let d : sound ≡ false = sym c.0 ∙ e in
         (sym d, rw d refl, c.1)
 
-    pub image_mended : not r ≡ false → Sized image g → (after : List ℕ) → after ≡ mended_below g marks image g.nodes → Recovers true after marks
+    pub image_mended : r ≡ true → Sized image g → (after : List ℕ) → after ≡ mended_below g marks image g.nodes → Recovers true after marks
     image_mended e sized after q =
-        let d : sound ≡ true = sym c.0 ∙ not-false r e in
+        let d : sound ≡ true = sym c.0 ∙ e in
         let t : marks ≡ map_of g (nodes_of (all_trees g (reads image))) = rw d at c.1 in
         (sym d, rw d (q ∙ ap (λ p. mended_below g p image g.nodes) t ∙ mend_law g image sized d), c.1)

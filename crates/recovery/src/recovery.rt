@@ -16,7 +16,7 @@ ghost use Rattle.recovery.specs.AllSlots.{walked_reel, walked_slots};
 ghost use Rattle.recovery.specs.Mended.{mended_below};
 
 use nodes::reels::{is_filled, slot_of};
-use pool::pool_map::{clear_map, next_used};
+use pool::pool_map::{clear_map, used_nodes};
 use settled::frames::frames_in_place;
 use tree::layout::{Geometry, LOCATE, SET, node_at, reel_of, word_of};
 use visits::visit::visit_slot;
@@ -40,16 +40,10 @@ fn visit_slots(image: &[u64], pool: &mut [u64], g: Geometry) -> bool
     requires { Sized image.now g × (length pool.old ≡ map_words g) }
     ensures { kept result pool.new ≡ walked_slots g (reads image.now) (up_to g.slots) pool.old }
 {
-    let mut s = 0;
-    while s < g.slots {
-        if !is_filled(image, g, s) {
-            s += 1;
-            continue;
-        }
-        if !visit_reel(image, pool, g, s) {
+    for s in 0..g.slots {
+        if is_filled(image, g, s) && !visit_reel(image, pool, g, s) {
             return false;
         }
-        s += 1;
     }
     true
 }
@@ -60,13 +54,11 @@ fn mend(image: &mut [u64], pool: &[u64], g: Geometry)
     requires { Sized image.old g × (length pool.now ≡ map_words g) }
     ensures { image.new ≡ mended_below g pool.now image.old g.nodes }
 {
-    let mut n = next_used(pool, 0, g.nodes);
-    while n < g.nodes {
+    for n in used_nodes(pool, g.nodes) {
         let set = word_of(image, g, n, SET);
         if word_of(image, g, n, LOCATE) != set {
             image[node_at(g, n) + LOCATE] = set;
         }
-        n = next_used(pool, n + 1, g.nodes);
     }
 }
 

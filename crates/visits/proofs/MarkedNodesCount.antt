@@ -1,5 +1,5 @@
 -- How many frames the marked nodes hold: the count of a word's set bits, the loop, and the frames of a sound tree.
-use mathlib.Core.Path.{◌≡◌, refl, sym, ◌∙◌, ap, ap₂}
+use mathlib.Core.Path.{◌≡◌, refl, sym, ◌∙◌, ap₂}
 use mathlib.Core.Bool.{true, false, cond}
 use mathlib.Core.Logic.{inl}
 use mathlib.Core.List.{List, [], ◌∷◌, flat_map, Memᴰ}
@@ -32,7 +32,7 @@ module _ (g : Geometry) (m : Memory) where
 
   -- ---- the loop
 
-  -- what the loop has at n: the frames of the marked nodes below n, at most 64 each
+  -- what the loop has where the nodes below n are done: the frames of the marked ones, at most 64 each
   pub record HeldTo (pool : List ℕ) (count n : ℕ) : Type 0 where
     pub few : count ≤ 64 * n
     pub is : count ≡ held_below g m pool n
@@ -42,24 +42,25 @@ module _ (g : Geometry) (m : Memory) where
   held_none pool = record { few = omega arith; is = refl }
 
   -- nodes that are not marked are passed over
-  pub held_past : {pool : List ℕ} {count from n : ℕ} → NoneUsed pool from n → HeldTo pool count from → HeldTo pool count n
+  held_past : {pool : List ℕ} {count from n : ℕ} → NoneUsed pool from n → HeldTo pool count from → HeldTo pool count n
   unfolding held_below
   held_past {pool} u t = record {
     few = omega (arith, t.few, u.onward);
     is = t.is ∙ sym (past_unmarked (held_below g m pool) pool (λ k e. rw e (omega arith)) u);
   }
 
-  -- a marked node's frames are added
-  pub held_more : {pool : List ℕ} {count n set : ℕ} → set ≡ m (set_at g n) → used pool n ≡ true → set < 2 ^ 64 → HeldTo pool count n
-      → HeldTo pool (count + ones set) (n + 1)
+  -- the next marked node's frames are added
+  pub held_more : {pool : List ℕ} {count from n set : ℕ} → NoneUsed pool from n → used pool n ≡ true → set ≡ m (set_at g n) → set < 2 ^ 64
+      → HeldTo pool count from → HeldTo pool (count + ones set) (n + 1)
   unfolding held_below
-  held_more {n = n} {set = set} e u h t = record {
+  held_more {n = n} {set = set} o u e h s = let t = held_past o s in record {
     few = omega (arith, t.few, ones-le 64 set h);
     is = rw (add-one n, u, ← t.is, e, frames_counted n (rw e at h)) refl;
   }
 
-  pub held_all : {pool : List ℕ} {count n nodes : ℕ} → n ≤ nodes → nodes ≤ n → HeldTo pool count n → count ≡ held_below g m pool nodes
-  held_all {pool} {n = n} {nodes = nodes} l h t = let q : n ≡ nodes = omega arith in t.is ∙ ap (held_below g m pool) q
+  -- no marked node is left
+  pub held_all : {pool : List ℕ} {count from nodes : ℕ} → NoneUsed pool from nodes → HeldTo pool count from → count ≡ held_below g m pool nodes
+  held_all u t = (held_past u t).is
 
   -- ---- one more node marked, and several
 

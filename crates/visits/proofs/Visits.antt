@@ -1,10 +1,9 @@
 -- What the walk over a tree's nodes asks: the definition's cases, one law for each way through the code.
 use mathlib.Core.Path.{◌≡◌, refl, sym, ◌∙◌}
-use mathlib.Core.Bool.{Bool, true, false, not}
+use mathlib.Core.Bool.{Bool, true, false}
 use mathlib.Core.Option.{Option, none, some}
 use mathlib.Core.List.{List}
 use Prim.Native.Nat.{ℕ, suc, ◌+◌, ◌-◌, ◌≤◌}
-use borrow.Author.Tests.{not-true, not-false}
 use Rattle.memory.specs.Words.{Memory}
 use Rattle.tree.specs.declared.layout.Geometry.{Geometry}
 use Rattle.tree.specs.Layout.{next_at}
@@ -33,33 +32,33 @@ module _ (g : Geometry) (m : Memory) where
       then_rest : walk (group_stops g m left d start count) pool ≡ then_walk (walk (group_stops g m left d (start + 1) (count - 1))) (kept r pool')
       then_rest = rw (group_first g m left d start count h, first) (walked_append (formed_at g m) (stops g m left d start) (group_stops g m left d (start + 1) (count - 1)) pool)
 
-      pub group_stop : not r ≡ true → none ≡ walk (group_stops g m left d start count) pool
-      group_stop e = rw (then_rest, not-true r e) refl
+      pub group_stop : r ≡ false → none ≡ walk (group_stops g m left d start count) pool
+      group_stop e = rw (then_rest, e) refl
 
-      pub group_more : not r ≡ false → walk (group_stops g m left d start count) pool ≡ walk (group_stops g m left d (start + 1) (count - 1)) pool'
-      group_more e = rw (then_rest, not-false r e) refl
+      pub group_more : r ≡ true → walk (group_stops g m left d start count) pool ≡ walk (group_stops g m left d (start + 1) (count - 1)) pool'
+      group_more e = rw (then_rest, e) refl
 
   -- ---- a node, then all below it
 
-  pub formed_facts : (d n : ℕ) (r : Bool) → r ≡ well_formed g m d n → not r ≡ false → WellFormed g m d n
-  formed_facts d n r q e = ((node_laws g m).facts d n).0 (sym q ∙ not-false r e)
+  pub formed_facts : (d n : ℕ) (r : Bool) → r ≡ well_formed g m d n → r ≡ true → WellFormed g m d n
+  formed_facts d n r q e = ((node_laws g m).facts d n).0 (sym q ∙ e)
 
   -- it is malformed, or is met again, or has no children, or has some
 
   module _ (left d n : ℕ) (pool : List ℕ) (h : 1 ≤ left) (r : Bool) (tested : r ≡ well_formed g m d n) where
-    pub node_fails : not r ≡ true → none ≡ walk (stops g m left d n) pool
+    pub node_fails : r ≡ false → none ≡ walk (stops g m left d n) pool
     unfolding walked formed_at
-    node_fails e = rw (node_first g m left d n h, ← tested, not-true r e) refl
+    node_fails e = rw (node_first g m left d n h, ← tested, e) refl
 
-    module _ (e : not r ≡ false) (met : Bool) (there : met ≡ used pool n) where
+    module _ (e : r ≡ true) (met : Bool) (there : met ≡ used pool n) where
       pub node_met : met ≡ true → none ≡ walk (stops g m left d n) pool
       unfolding walked formed_at
-      node_met u = rw (node_first g m left d n h, ← tested, not-false r e, ← there, u) refl
+      node_met u = rw (node_first g m left d n h, ← tested, e, ← there, u) refl
 
       module _ (u : met ≡ false) (pool' : List ℕ) (now : pool' ≡ mark pool n) where
         marked : walk (group_stops g m (left - 1) (suc d) (m (next_at g n) - 1) (children g m d n)) pool' ≡ walk (stops g m left d n) pool
         unfolding walked formed_at
-        marked = rw (now, node_first g m left d n h, ← tested, not-false r e, ← there, u) refl
+        marked = rw (now, node_first g m left d n h, ← tested, e, ← there, u) refl
 
         pub node_leaf : {next : ℕ} → next ≡ m (next_at g n) → next ≡ 0 → some pool' ≡ walk (stops g m left d n) pool
         node_leaf q z = rw (← marked, leaf g m d n (sym q ∙ z)) (group_none (left - 1) (suc d) (m (next_at g n) - 1) 0 pool' refl)

@@ -4,7 +4,7 @@ ghost use Rattle.memory.specs.Words.{reads};
 ghost use Rattle.tree.specs.Layout.{Sized, map_words};
 ghost use Rattle.visits.specs.Marked.{held_below, without_marked};
 
-use pool::pool_map::next_used;
+use pool::pool_map::used_nodes;
 use tree::layout::{Geometry, SET, word_of};
 
 // How many frames the nodes marked in a map hold.
@@ -13,10 +13,8 @@ pub fn count_frames(image: &[u64], pool: &[u64], g: Geometry) -> usize
     ensures { result ≡ held_below g (reads image.now) pool.now g.nodes }
 {
     let mut count = 0;
-    let mut n = next_used(pool, 0, g.nodes);
-    while n < g.nodes {
+    for n in used_nodes(pool, g.nodes) {
         count += u64::count_ones(word_of(image, g, n, SET)) as usize;
-        n = next_used(pool, n + 1, g.nodes);
     }
     count
 }
@@ -26,9 +24,7 @@ pub fn take_out(pool: &mut [u64], marks: &[u64])
     requires { length pool.old ≡ length marks.now }
     ensures { pool.new ≡ without_marked pool.old marks.now }
 {
-    let mut i = 0;
-    while i < pool.len() {
-        pool[i] = pool[i] & !marks[i];
-        i += 1;
+    for (i, word) in pool.iter_mut().enumerate() {
+        *word &= !marks[i];
     }
 }

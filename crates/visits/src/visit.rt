@@ -52,12 +52,10 @@ fn visit_group(
         ≡ walked (formed_at g (reads image.now))
         (group_stops g (reads image.now) left (levels - left) start count) pool.old }
 {
-    let mut c = 0;
-    while c < count {
-        if !visit_node(image, pool, g, left, start + c) {
+    for n in start..start + count {
+        if !visit_node(image, pool, g, left, n) {
             return false;
         }
-        c += 1;
     }
     true
 }

@@ -31,7 +31,10 @@ use Rattle.recovery.proofs.AllSlots.{slots_law}
 
 -- ---- a filled slot
 
-module _ (g : Geometry) (m : Memory) (s : ℕ) (pool : List ℕ) (lowest : ℕ) (of : lowest ≡ slot_of g m (m (reel_at s))) where
+module _ (g : Geometry) (m : Memory) (s : ℕ) (pool : List ℕ) {reel lowest : ℕ} (found : lowest ≡ slot_of g m reel) (number : reel ≡ m (reel_at s)) where
+  of : lowest ≡ slot_of g m (m (reel_at s))
+  of = found ∙ ap (slot_of g m) number
+
   -- one that is not its reel's does not pass
   pub reel_doubled : (lowest ≡ s → ⊥) → none ≡ walked_reel g m s pool
   unfolding walked_reel

@@ -18,8 +18,7 @@ pub fn has_own(image: &[u64]) -> bool
 }
 
 // 1 at each of a word's eight bytes. A byte stands for a byte: a store that waits for nothing, where a bit would be read first.
-fn flag_bytes(seen: &mut [u8], w: u64)
-    requires { length seen.old ≡ 256 }
+fn flag_bytes(seen: &mut [u8; 256], w: u64)
     ensures { seen.new ≡ flagged seen.old w 8 }
 {
     for k in 0..8 {
@@ -28,8 +27,7 @@ fn flag_bytes(seen: &mut [u8], w: u64)
 }
 
 // Are all 256 of them 1? Without a branch.
-fn all_flagged(seen: &[u8]) -> bool
-    requires { length seen.now ≡ 256 }
+fn all_flagged(seen: &[u8; 256]) -> bool
     ensures { (result ≡ true) ↔ ((b : ℕ) → b < 256 → get_or seen.now b 0 ≡ 1) }
 {
     seen.iter().fold(true, |all, flag| all & (*flag == 1))

@@ -1,6 +1,7 @@
 -- The translator's answers, by its tests.
 use mathlib.Core.Path.{◌≡◌, refl, ap, sym, ◌∙◌}
 use mathlib.Core.Bool.{true, false}
+use mathlib.Core.Logic.{◌⊎◌, inl, inr}
 use mathlib.Core.Option.{Option, none, some}
 use mathlib.Core.List.{List, [], ◌∷◌}
 use Prim.Native.Nat.{ℕ, ◌*◌, ◌%◌, ◌≤◌, ◌<◌}
@@ -59,13 +60,10 @@ even n ws h =
 
 -- ---- the answers
 
-pub too_short : (n : ℕ) (ws buffer : List ℕ) → length buffer < 98 → translation 3 0 buffer ≡ translate n ws buffer
+pub too_short : (n : ℕ) (ws buffer : List ℕ) → (length buffer < 98) ⊎ ((98 ≤ length buffer) × (50 < length ws)) → translation 3 0 buffer ≡ translate n ws buffer
 unfolding translate
-too_short n ws buffer h = rw (lt-ltb (length buffer) 98 h) refl
-
-pub too_long : (n : ℕ) (ws buffer : List ℕ) → 98 ≤ length buffer → 50 < length ws → translation 3 0 buffer ≡ translate n ws buffer
-unfolding translate
-too_long n ws buffer b h = rw (le-ltb (length buffer) 98 b, lt-ltb 50 (length ws) h) refl
+too_short n ws buffer (inl h) = rw (lt-ltb (length buffer) 98 h) refl
+too_short n ws buffer (inr (b, h)) = rw (le-ltb (length buffer) 98 b, lt-ltb 50 (length ws) h) refl
 
 module _ (n : ℕ) (ws buffer : List ℕ) (b : 98 ≤ length buffer) (l : length ws ≤ 50) where
   into : (o : Option (List Entry)) → decode n ws ≡ o → translated_into buffer o ≡ translate n ws buffer

@@ -1,6 +1,6 @@
 -- The translator's passes, an entry at a time.
 use mathlib.Core.Path.{◌≡◌, refl, ap, sym}
-use mathlib.Core.Bool.{true, false}
+use mathlib.Core.Bool.{Bool, true, false, ◌||◌}
 use mathlib.Core.Logic.{◌≢◌, inl, inr}
 use mathlib.Core.List.Memᴰ
 use mathlib.Core.List.{List, [], ◌∷◌, ◌++◌, map, map-append, append-nil, Memᴰ}
@@ -13,12 +13,17 @@ use lib.Seq.{drop-cons}
 use lib.Dec.{eqb}
 use borrow.Author.Tests.{eq-eqb, ne_eqb}
 use borrow.Rule.Slice.PartMut.{mid_of, put_mid}
-use Rattle.memory.specs.Script.{store, barrier, flush, barrier_word, flush_word, encode, written}
+use Rattle.memory.specs.Script.{Entry, store, barrier, flush, barrier_word, flush_word, encode, written}
 use Rattle.flushes.specs.Crash.{line_of}
 use Rattle.flushes.specs.Translate.{firsts, any_flush, ends_fenced}
 use Rattle.flushes.specs.Passes.{segment_start, entry_in, entries_in, line_words, elem, new_flush, line_flushes, piece_of}
-use Rattle.memory.proofs.Laws.{test, clash, written_rest}
+use Rattle.memory.proofs.Laws.{test, clash, written_rest, Pairs, none, half, pair}
+use Rattle.std.specs.Prelude.{All, Any, MatchBool}
 use Rattle.flushes.proofs.Translator.{first_more, first_again, length_firsts}
+
+or_true : (t : Bool) → true ≡ t || true
+or_true true = refl
+or_true false = refl
 
 -- ---- the lines of words
 
@@ -67,17 +72,28 @@ no_elem l (k ∷ ls) h x = elim (ℕ_discrete k l) [
   | no n ↦ elim (Memᴰ.cases_cons x) [ inl q ↦ n (sym q) | inr y ↦ no_elem l ls (rw (ne_eqb k l n) at h) y ]
 ]
 
-pub elem_here : (l at : ℕ) (ws : List ℕ) → at + 1 < length ws → get_or ws at 0 / 8 ≡ l → elem l (line_words (drop at ws)) ≡ true
-unfolding elem
-elem_here l at ws h q = rw (line_step at ws h, eq-eqb (line_of (get_or ws at 0)) l q) refl
+-- of words in pairs, a line is among them where a pair's first word is in it, and not where none is
+abbrev pub line_is : ℕ → Bool → List ℕ → Type 0
+line_is l t w = eqb (line_of (get_or w 0 0)) l ≡ t
 
-pub elem_on : (l at : ℕ) (ws : List ℕ) → at + 1 < length ws → get_or ws at 0 / 8 ≢ l → elem l (line_words (drop at ws)) ≡ elem l (line_words (drop (at + 2) ws))
-unfolding elem
-elem_on l at ws h n = rw (line_step at ws h, ne_eqb (line_of (get_or ws at 0)) l n) refl
+has_line : (l : ℕ) {ws : List ℕ} {ps : List (List ℕ)} → Pairs ws ps → Any (line_is l true) ps → true ≡ elem l (line_words ws)
+unfolding elem line_words
+has_line l none (k, x, h, e, t) = absurd (omega arith)
+has_line l half (k, x, h, e, t) = absurd (omega arith)
+has_line l (pair {i = i} p) (zero, x, h, e, t) =
+    let here : eqb (line_of i) l ≡ true = rw (← e) at t in rw here refl
+has_line l (pair {i = i} p) (suc k, x, h, e, t) = rw (← has_line l p (k, x, omega arith, e, t)) (or_true (eqb (line_of i) l))
 
-pub elem_end : (l at : ℕ) (ws : List ℕ) → length ws ≤ at + 1 → elem l (line_words (drop at ws)) ≡ false
-unfolding elem
-elem_end l at ws h = rw (line_last at ws h) refl
+no_line : (l : ℕ) {ws : List ℕ} {ps : List (List ℕ)} → Pairs ws ps → All (line_is l false) ps → false ≡ elem l (line_words ws)
+unfolding elem line_words
+no_line l none a = refl
+no_line l half a = refl
+no_line l (pair p) a = rw (a 0 [] (omega arith)) (no_line l p (λ k d h. a (suc k) d (omega arith)))
+
+pub line_among : (t : Bool) (l : ℕ) {ws : List ℕ} {ps : List (List ℕ)} → Pairs ws ps → MatchBool t (Any (line_is l true) ps) (All (line_is l false) ps)
+    → t ≡ elem l (line_words ws)
+line_among true l p m = has_line l p m
+line_among false l p m = no_line l p m
 
 -- ---- a line's flush
 
@@ -196,20 +212,35 @@ entries_last at ws h = elim (dec_lt at (length ws)) [
 ]
 
 -- a flush among them
-pub flush_here : (at : ℕ) (ws : List ℕ) → at + 1 < length ws → get_or ws at 0 ≡ flush_word → any_flush (entries_in (drop at ws)) ≡ true
-unfolding any_flush entry_in
-flush_here at ws h q = rw (entries_step at ws h, q) refl
+abbrev pub flush_is : Bool → List ℕ → Type 0
+flush_is t w = eqb (get_or w 0 0) flush_word ≡ t
 
-pub flush_on : (at : ℕ) (ws : List ℕ) → at + 1 < length ws → get_or ws at 0 ≢ flush_word → any_flush (entries_in (drop at ws)) ≡ any_flush (entries_in (drop (at + 2) ws))
+one_flush : (i v : ℕ) (es : List Entry) → any_flush (entry_in i v ∷ es) ≡ eqb i flush_word || any_flush es
 unfolding any_flush entry_in
-flush_on at ws h n = elim (ℕ_discrete (get_or ws at 0) barrier_word) [
-  | yes q ↦ rw (entries_step at ws h, eq-eqb (get_or ws at 0) barrier_word q) refl
-  | no q ↦ rw (entries_step at ws h, ne_eqb (get_or ws at 0) barrier_word q, ne_eqb (get_or ws at 0) flush_word n) refl
+one_flush i v es = elim (ℕ_discrete i barrier_word) [
+  | yes q ↦ rw (eq-eqb i barrier_word q, ne_eqb i flush_word (λ f. omega arith)) refl
+  | no q ↦ elim (test (eqb i flush_word)) [ inl t ↦ rw (ne_eqb i barrier_word q, t) refl | inr t ↦ rw (ne_eqb i barrier_word q, t) refl ]
 ]
 
-pub flush_end : (at : ℕ) (ws : List ℕ) → length ws ≤ at + 1 → any_flush (entries_in (drop at ws)) ≡ false
-unfolding any_flush
-flush_end at ws h = rw (entries_last at ws h) refl
+flush_among : {ws : List ℕ} {ps : List (List ℕ)} → Pairs ws ps → Any (flush_is true) ps → true ≡ any_flush (entries_in ws)
+unfolding entries_in
+flush_among none (k, x, h, e, t) = absurd (omega arith)
+flush_among half (k, x, h, e, t) = absurd (omega arith)
+flush_among (pair {i = i} {v = v} {ws = ws} p) (zero, x, h, e, t) =
+    let here : eqb i flush_word ≡ true = rw (← e) at t in rw (one_flush i v (entries_in ws), here) refl
+flush_among (pair {i = i} {v = v} {ws = ws} p) (suc k, x, h, e, t) =
+    rw (one_flush i v (entries_in ws), ← flush_among p (k, x, omega arith, e, t)) (or_true (eqb i flush_word))
+
+no_flush : {ws : List ℕ} {ps : List (List ℕ)} → Pairs ws ps → All (flush_is false) ps → false ≡ any_flush (entries_in ws)
+unfolding entries_in any_flush
+no_flush none a = refl
+no_flush half a = refl
+no_flush (pair {i = i} {v = v} {ws = ws} p) a = rw (one_flush i v (entries_in ws), a 0 [] (omega arith)) (no_flush p (λ k d h. a (suc k) d (omega arith)))
+
+pub flush_in : (t : Bool) {ws : List ℕ} {ps : List (List ℕ)} → Pairs ws ps → MatchBool t (Any (flush_is true) ps) (All (flush_is false) ps)
+    → t ≡ any_flush (entries_in ws)
+flush_in true p m = flush_among p m
+flush_in false p m = no_flush p m
 
 -- the last entry
 entry_fenced : (i v : ℕ) → ends_fenced (entry_in i v ∷ []) ≡ eqb i barrier_word
@@ -232,7 +263,7 @@ last_fenced (suc k) (i ∷ v ∷ []) h = absurd (omega arith)
 last_fenced (suc k) (i ∷ v ∷ j ∷ []) h = absurd (omega arith)
 last_fenced (suc k) (i ∷ v ∷ j ∷ u ∷ ws) h = let q : 2 * suc k ≡ suc (suc (2 * k)) = omega arith in rw q (last_fenced k (j ∷ u ∷ ws) (omega arith))
 
-pub ends_empty : (ws : List ℕ) → length ws ≡ 0 → true ≡ ends_fenced (entries_in ws)
+pub ends_empty : (ws : List ℕ) → length ws ≡ 0 → eqb (length ws) 0 ≡ ends_fenced (entries_in ws)
 unfolding ends_fenced entries_in
 ends_empty [] h = refl
 ends_empty (i ∷ ws) h = absurd (omega arith)

@@ -7,7 +7,7 @@ use mathlib.Core.List.{List, [], ◌∷◌, ◌++◌, map, append-nil, append_as
 use Prim.Native.Nat.{ℕ, ◌+◌, ◌-◌, ◌*◌, ◌≤◌, ◌<◌}
 use native.Mathlib.Omega.{arith}
 use native.Mathlib.Decide.{ℕ_discrete}
-use lib.ListN.{length, get_or, take, drop, length-append, length-drop}
+use lib.ListN.{length, get_or, take, drop, length-append, length-drop, length-take}
 use lib.Seq.{append_snoc, get_or-drop}
 use borrow.Author.Tests.{eq-eqb, ne_eqb}
 use borrow.Rule.Slice.PartMut.{mid_of, put_mid}
@@ -17,7 +17,7 @@ use Rattle.flushes.specs.Translate.{firsts, lines_in, flushes, translated_from, 
 use Rattle.flushes.specs.Passes.{segment_start, entry_in, entries_in, line_words, line_flushes, piece_of}
 use Rattle.memory.proofs.Laws.{written_rest}
 use Rattle.flushes.proofs.Translator.{flush_free, length_flushes}
-use Rattle.flushes.proofs.Passes.{lines_more, entries_step, entries_last}
+use Rattle.flushes.proofs.Passes.{lines_more, entries_step, entries_last, piece_few}
 
 -- ---- one entry more
 
@@ -100,6 +100,12 @@ room script buffer₀ buffer used start at f h p =
     let few = entries_few script in
     let l = long [] p.ds in
     omega (arith, p.segment, p.used_is)
+
+-- and that keeps to it
+pub room_left : (script buffer₀ buffer seg : List ℕ) (used start at i v r : ℕ) → length script ≤ 50 → at + 1 < length script → Progress script buffer₀ buffer used start at
+    → seg ≡ take (at - start) (drop start script) → r ≡ 2 * length (piece_of seg i v) → used + r ≤ 98
+room_left script buffer₀ buffer seg used start at i v r f h p q e =
+    omega (arith, room script buffer₀ buffer used start at f h p, piece_few seg i v, ap length q, length-take (at - start) (drop start script))
 
 -- a piece by its entry
 piece : (segment : List ℕ) (since : List Entry) (i v : ℕ) → line_words segment ≡ lines_in since → i ≢ flush_word → piece_of segment i v ≡ piece_for since (entry_in i v)

@@ -1,10 +1,9 @@
 -- The translator's passes in code, over words, and what it answers.
-use Rattle.std.specs.Prelude.{◌≡◌, Bool, true, false, cond, ◌||◌, List, [], ◌∷◌, ◌++◌, map, ℕ, ◌≤◌, length, eqb}
+use Rattle.std.specs.Prelude.{◌≡◌, Bool, true, false, cond, ◌||◌, List, [], ◌∷◌, ◌++◌, map, ℕ, ◌≤◌, length, eqb, Result, Ok, Err}
 use Rattle.memory.specs.Script.{Entry, store, barrier, flush, barrier_word, flush_word}
 use Rattle.flushes.specs.Crash.{line_of}
 use Rattle.flushes.specs.Translate.{firsts, any_flush, ends_fenced}
-use Rattle.flushes.specs.declared.translate.Translated.{Translated}
-use Rattle.flushes.specs.declared.translate.Translated.TheVariants.{Done, Refused}
+use Rattle.memory.specs.declared.apply.Refused.{Refused}
 
 -- two words as an entry, and a script of words as entries, whatever the image
 unfoldable pub entry_in : ℕ → ℕ → Entry
@@ -47,10 +46,10 @@ pub record Ours (ws : List ℕ) : Type 0 where
   pub fenced_end : ends_fenced (entries_in ws) ≡ true
 
 -- the paper's numbers for an answer of the code
-abbrev pub answer_of : Translated → ℕ
-answer_of (Done used) = 0
-answer_of Refused = 3
+abbrev pub answer_of : Result ℕ Refused → ℕ
+answer_of (Ok used) = 0
+answer_of (Err refused) = 3
 
-abbrev pub count_of : Translated → ℕ
-count_of (Done used) = used
-count_of Refused = 0
+abbrev pub count_of : Result ℕ Refused → ℕ
+count_of (Ok used) = used
+count_of (Err refused) = 0

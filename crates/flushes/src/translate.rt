@@ -7,28 +7,20 @@ ghost use Rattle.flushes.specs.Translate.{translate as translate_words, translat
 ghost use Rattle.flushes.specs.Passes.{elem, line_words, new_flush, line_flushes, piece_of};
 ghost use Rattle.flushes.specs.Passes.{entries_in, segment_start, Ours, answer_of, count_of};
 
-use memory::apply::is_script;
+use memory::apply::{Refused, is_script};
 use memory::script::{BARRIER, FLUSH, put_barrier, put_store};
 
-// What the translator answers: the words used, or that it is refused.
-#[derive(Clone, Copy)]
-pub enum Translated {
-    Done(usize),
-    Refused,
-}
+// The words of the longest script of ours, and those that its translation may take.
+const LONGEST: usize = 50;
+
+const ROOM: usize = 98;
 
 // Does an entry of a segment store to the line?
 fn holds_line(segment: &[u64], line: u64) -> bool
     ensures { result ≡ elem line (line_words segment.now) }
 {
-    let mut at = 0;
-    while at + 1 < segment.len() {
-        if segment[at] / 8 == line {
-            return true;
-        }
-        at += 2;
-    }
-    false
+    let (entries, _) = segment.as_chunks::<2>();
+    entries.iter().any(|entry| entry[0] / 8 == line)
 }
 
 pub fn put_flush(script: &mut [u64], line: u64)
@@ -59,10 +51,8 @@ fn put_flushes(script: &mut [u64], segment: &[u64]) -> usize
         × (script.new ≡ written (line_flushes segment.now) script.old) }
 {
     let mut used = 0;
-    let mut at = 0;
-    while at + 1 < segment.len() {
-        used += put_new(&mut script[used..], &segment[0..at], segment[at] / 8);
-        at += 2;
+    for (k, entry) in segment.as_chunks::<2>().0.iter().enumerate() {
+        used += put_new(&mut script[used..], &segment[..2 * k], entry[0] / 8);
     }
     used
 }
@@ -87,10 +77,7 @@ fn put_piece(script: &mut [u64], segment: &[u64], index: u64, value: u64) -> usi
 fn segment_start(index: u64, start: usize, next: usize) -> usize
     ensures { result ≡ segment_start index start next }
 {
-    if index == BARRIER {
-        return next;
-    }
-    start
+    if index == BARRIER { next } else { start }
 }
 
 // Writes a script's translation; answers the words written.
@@ -101,17 +88,9 @@ fn put_translated(buffer: &mut [u64], script: &[u64]) -> usize
 {
     let mut used = 0;
     let mut start = 0;
-    let mut at = 0;
-    while at + 1 < script.len() {
-        let index = script[at];
-        used += put_piece(
-            &mut buffer[used..],
-            &script[start..at],
-            index,
-            script[at + 1],
-        );
-        at += 2;
-        start = segment_start(index, start, at);
+    for (k, &[index, value]) in script.as_chunks::<2>().0.iter().enumerate() {
+        used += put_piece(&mut buffer[used..], &script[start..2 * k], index, value);
+        start = segment_start(index, start, 2 * k + 2);
     }
     used
 }
@@ -120,14 +99,8 @@ fn put_translated(buffer: &mut [u64], script: &[u64]) -> usize
 fn has_flush(script: &[u64]) -> bool
     ensures { result ≡ any_flush (entries_in script.now) }
 {
-    let mut at = 0;
-    while at + 1 < script.len() {
-        if script[at] == FLUSH {
-            return true;
-        }
-        at += 2;
-    }
-    false
+    let (entries, _) = script.as_chunks::<2>();
+    entries.iter().any(|entry| entry[0] == FLUSH)
 }
 
 // Is a script of whole entries empty, or its last entry a barrier?
@@ -136,32 +109,20 @@ fn ends_fenced(script: &[u64]) -> bool
     ensures { result ≡ ends_fenced (entries_in script.now) }
 {
     let n = script.len();
-    if n == 0 {
-        return true;
-    }
-    script[n - 2] == BARRIER
+    n == 0 || script[n - 2] == BARRIER
 }
 
 // Translates a script for an image of n words into a buffer of at least 98, or refuses it and
 // writes nothing.
-pub fn translate(script: &[u64], buffer: &mut [u64], n: usize) -> Translated
+pub fn translate(script: &[u64], buffer: &mut [u64], n: usize) -> Result<usize, Refused>
     ensures { translation (answer_of result) (count_of result) buffer.new
         ≡ translate_words n script.now buffer.old }
 {
-    if buffer.len() < 98 {
-        return Translated::Refused;
+    if buffer.len() < ROOM || script.len() > LONGEST {
+        return Err(Refused);
     }
-    if script.len() > 50 {
-        return Translated::Refused;
+    if !is_script(n, script) || has_flush(script) || !ends_fenced(script) {
+        return Err(Refused);
     }
-    if !is_script(n, script) {
-        return Translated::Refused;
-    }
-    if has_flush(script) {
-        return Translated::Refused;
-    }
-    if !ends_fenced(script) {
-        return Translated::Refused;
-    }
-    Translated::Done(put_translated(buffer, script))
+    Ok(put_translated(buffer, script))
 }

@@ -10,6 +10,7 @@ pub use Rattle.memory.proofs.Bytes.{equal_bit, equal_beside, set_ahead, half_bit
 pub use Rattle.memory.proofs.Cases.{test, clash}
 -- and what `flushes`, which knows crashes from within, builds on
 pub use Rattle.memory.proofs.Lists.{mem_take, number_of, element_at, take_through}
+pub use Rattle.memory.proofs.Pairs.{Pairs, none, half, pair, pairs, pair_read, length_pairs}
 pub use Rattle.memory.proofs.Written.{set_two, Reads, as_barrier, as_flush, as_store, entry_reads}
 pub use Rattle.memory.proofs.Stores.{length_apply, apply_append}
 pub use Rattle.memory.proofs.StoreLists.{store_of}

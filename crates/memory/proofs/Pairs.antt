@@ -34,6 +34,17 @@ pair_at (pair p) (suc k) h =
     let b : 2 * (suc k + 1) ≡ suc (suc (2 * (k + 1))) = omega arith in
     rw (a, b) (pair_at p k (omega arith))
 
+-- the two words of pair k
+pub pair_read : {ws : List ℕ} {ps : List (List ℕ)} → Pairs ws ps → (k : ℕ) → k < length ps
+    → (get_or (get_or ps k []) 0 0 ≡ get_or ws (2 * k) 0) × (get_or (get_or ps k []) 1 0 ≡ get_or ws (2 * k + 1) 0)
+pair_read none k h = absurd (omega arith)
+pair_read half k h = absurd (omega arith)
+pair_read (pair p) zero h = (refl, refl)
+pair_read (pair p) (suc k) h =
+    let a : 2 * suc k ≡ suc (suc (2 * k)) = omega arith in
+    let b : suc (suc (2 * k)) + 1 ≡ suc (suc (2 * k + 1)) = omega arith in
+    rw (a, b) (pair_read p k (omega arith))
+
 pub length_pairs : {ws : List ℕ} {ps : List (List ℕ)} → Pairs ws ps → (2 * length ps ≤ length ws) × (length ws ≤ 2 * length ps + 1)
 length_pairs none = (omega arith, omega arith)
 length_pairs half = (omega arith, omega arith)

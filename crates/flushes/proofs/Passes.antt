@@ -27,19 +27,6 @@ or_true false = refl
 
 -- ---- the lines of words
 
-pub line_step : (at : ℕ) (ws : List ℕ) → at + 1 < length ws → line_words (drop at ws) ≡ line_of (get_or ws at 0) ∷ line_words (drop (at + 2) ws)
-unfolding line_words
-line_step at ws h =
-    let two : at + 2 ≡ suc (suc at) = omega arith in
-    rw (two, drop-cons ws at 0 (omega arith), drop-cons ws (suc at) 0 (omega arith)) refl
-
-pub line_last : (at : ℕ) (ws : List ℕ) → length ws ≤ at + 1 → line_words (drop at ws) ≡ []
-unfolding line_words
-line_last at ws h = elim (dec_lt at (length ws)) [
-  | yes l ↦ rw (drop-cons ws at 0 (omega arith), drop_of_length-le ws {i = suc at} (omega arith)) refl
-  | no l ↦ rw (drop_of_length-le ws {i = at} (omega arith)) refl
-]
-
 -- one entry more, behind
 lines_behind : (k : ℕ) (ws : List ℕ) → 2 * k + 1 < length ws → line_words (take (2 * k + 2) ws) ≡ line_words (take (2 * k) ws) ++ line_of (get_or ws (2 * k) 0) ∷ []
 unfolding line_words

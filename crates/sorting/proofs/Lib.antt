@@ -1,5 +1,4 @@
 pub mod Sorts
-pub mod Steps
 pub mod Rising
 pub mod Search
 pub mod Stretches

@@ -12,9 +12,6 @@ use Rattle.tree.proofs.Ways.{child_base}
 shifted : (k : ℕ) → k < 64 → 1 * 2 ^ k % 2 ^ 64 ≡ 2 ^ k
 shifted k h = shl_exact 1 k 64 (omega arith) (omega arith) ∙ omega arith
 
-pub shifted_pos : (k : ℕ) → k < 64 → 0 < 1 * 2 ^ k % 2 ^ 64
-shifted_pos k h = rw (shifted k h) (pow_pos k)
-
 pub child_low : (k f : ℕ) → k ≤ 2 → f / (1 * 2 ^ k % 2 ^ 64) % 2 ≡ child k f
 child_low k f h =
     let b : k ≡ bits_to k = omega arith in

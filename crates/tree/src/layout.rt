@@ -16,13 +16,11 @@ pub struct Geometry {
 fn word(image: &[u64], i: usize) -> u64
     ensures { result ≡ reads image.now i }
 {
-    if i < image.len() {
-        return image[i];
-    }
-    0
+    image.get(i).copied().unwrap_or(0)
 }
 
 // What the header says of the geometry, right or wrong.
+#[tactic(auto, unfolding(crate::specs::Layout::geometry_of))]
 pub fn geometry_in(image: &[u64]) -> Geometry
     ensures { result ≡ geometry_of (reads image.now) }
 {
@@ -48,22 +46,11 @@ pub fn map_words(g: Geometry) -> usize
 }
 
 // Refusal 1: R, N or the image's length is wrong. The ranges are tested first, so the length does not wrap.
+#[tactic(auto, unfolding(crate::specs::Layout::bad_image))]
 pub fn bad_image(words: usize, g: Geometry) -> bool
     ensures { result ≡ holds (bad_image words g) }
 {
-    if g.slots < 1 {
-        return true;
-    }
-    if 4096 < g.slots {
-        return true;
-    }
-    if g.nodes < 1 {
-        return true;
-    }
-    if 65536 < g.nodes {
-        return true;
-    }
-    words != image_words(g)
+    !(1..=4096).contains(&g.slots) || !(1..=65536).contains(&g.nodes) || words != image_words(g)
 }
 
 // Refusal 2: the image's edition is neither 1 nor 2.

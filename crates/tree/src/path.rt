@@ -30,16 +30,15 @@ pub enum Room {
 }
 
 // Two children at levels 0 to 2, four at 3 to 30, none at 31.
+#[tactic(auto, unfolding(crate::specs::Path::fanout))]
 pub fn fanout(level: u64) -> usize
     ensures { result ≡ fanout level }
 {
-    if level < 3 {
-        return 2;
+    match level {
+        0..=2 => 2,
+        3..=30 => 4,
+        _ => 0,
     }
-    if level < 31 {
-        return 4;
-    }
-    0
 }
 
 // The level's digit of a frame, by a quotient and a remainder: the digits, lowest first, are three of base 2, then of base 4. No

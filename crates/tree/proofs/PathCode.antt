@@ -3,7 +3,7 @@ use mathlib.Core.Path.{◌≡◌, sym, ◌∙◌, ap}
 use Prim.Native.Nat.{ℕ, ◌+◌, ◌-◌, ◌*◌, ◌/◌, ◌%◌, ◌^◌, ◌≤◌, ◌<◌}
 use native.Mathlib.Omega.{arith}
 use lib.Pow
-use lib.Pow.{shl_exact, pow_pos}
+use lib.Pow.{shl_exact}
 use borrow.Author.Tests.{lt-ltb, le-ltb}
 use Rattle.tree.specs.Path.{child, bits_to}
 use Rattle.tree.proofs.Ways.{child_base}

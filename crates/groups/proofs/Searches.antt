@@ -1,13 +1,14 @@
 -- The search for an empty group, a step at a time, in the terms of the code that makes it.
 use mathlib.Core.Path.{◌≡◌, refl, sym, ◌∙◌, ap}
-use mathlib.Core.Bool.{Bool, true, false, not, ◌&&◌}
+use mathlib.Core.Bool.{Bool, true, false, ◌&&◌}
 use mathlib.Core.Logic.{inl, inr, ◌≢◌}
-use mathlib.Core.Option.{Option}
+use mathlib.Core.Option.{Option as MathOption}
 use mathlib.Core.List.{List, [], ◌∷◌, ◌++◌, map}
-use Prim.Native.Nat.{ℕ, ◌+◌, ◌-◌, ◌≤◌, ◌<◌}
+use native.Mathlib.Numerals.{add-one}
+use Prim.Native.Nat.{ℕ, zero, suc, ◌+◌, ◌-◌, ◌≤◌, ◌<◌}
 use native.Mathlib.Omega.{arith}
 use lib.ListN.{length}
-use borrow.Author.Tests.{not-true, not-false, eq-eqb, ne_eqb}
+use borrow.Author.Tests.{eq-eqb, ne_eqb}
 use Rattle.memory.specs.Words.{Memory}
 use Rattle.tree.specs.Lists.{range, up_to, every, first_that}
 use Rattle.tree.specs.declared.layout.Geometry.{Geometry}
@@ -16,70 +17,56 @@ use Rattle.tree.specs.Path.{levels, fanout}
 use Rattle.tree.specs.Subtree.{Visit, tree}
 use Rattle.tree.specs.Groups.{is_empty, all_empty, has_empty_group, first_group}
 use Rattle.tree.proofs.Cases.{test}
-use Rattle.tree.proofs.Lists.{range_next}
 use Rattle.visits.specs.Walk.{Stop, stops, group_stops, formed_at}
 use Rattle.visits.proofs.Stops.{stop_of, slot_stops, slot_stops_lem, group_empty, group_first, leaf, linked}
 use Rattle.visits.proofs.StopFacts.{node_next, group_formed}
-use Rattle.groups.specs.declared.search.Search.{Search}
-use Rattle.groups.specs.declared.search.Search.TheVariants.{Nothing, At}
+use Rattle.std.specs.List.{list_all, range_with_len}
+use Rattle.std.specs.Prelude.{Option, Some, None}
+use Rattle.groups.specs.declared.search.FoundGroup.{FoundGroup}
 use Rattle.groups.specs.Search.{empty_group_at, search_at, search_of}
 
 -- ---- adjacent nodes, all empty
 
-module _ (g : Geometry) (m : Memory) (start count : ℕ) where
-  -- the first c are empty: the others decide
-  pub record EmptyTo (c : ℕ) : Type 0 where
-    pub within : c ≤ count
-    pub others : every (λ c. is_empty g m (start + c)) (range c (count - c)) ≡ all_empty g m start count
+ranged : (from n : ℕ) → range_with_len from n ≡ range from n
+unfolding range
+ranged from zero = refl
+ranged from (suc n) = rw (add-one from, ranged (suc from) n) refl
 
-  pub empty_none : EmptyTo 0
-  unfolding all_empty up_to
-  empty_none = let e : count - 0 ≡ count = omega arith in record { within = omega arith; others = rw e refl }
+all_every : {A : Type 0} (p : A → Bool) (xs : List A) → list_all p xs ≡ every p xs
+unfolding every
+all_every p [] = refl
+all_every p (x ∷ xs) = ap (λ t. p x && t) (all_every p xs)
 
-  module _ {c : ℕ} (a : EmptyTo c) where
-    pub empty_all : count ≤ c → true ≡ all_empty g m start count
-    unfolding every range
-    empty_all l = let e : count - c ≡ 0 = omega arith in rw e at a.others
-
-    module _ (l : c < count) {r : Bool} (e : r ≡ is_empty g m (start + c)) where
-      next : r && every (λ c. is_empty g m (start + c)) (range (c + 1) (count - (c + 1))) ≡ all_empty g m start count
-      unfolding every
-      next = rw e (rw (range_next c count l) at a.others)
-
-      pub empty_fails : not r ≡ true → false ≡ all_empty g m start count
-      empty_fails z = rw (not-true r z) at next
-
-      pub empty_more : not r ≡ false → EmptyTo (c + 1)
-      empty_more z = record { within = omega arith; others = rw (not-false r z) at next }
+pub all_tested : (g : Geometry) (m : Memory) (start count : ℕ) {r : Bool}
+    → r ≡ list_all (λ c. is_empty g m (start + c)) (range_with_len 0 count) → r ≡ all_empty g m start count
+unfolding all_empty up_to
+all_tested g m start count h = h ∙ all_every _ _ ∙ ap (every (λ c. is_empty g m (start + c))) (ranged 0 count)
 
 -- ---- what is found in two parts
 
-pub found_not : {n d : ℕ} {X : Type 0} → At n d ≡ Nothing → X
-found_not q = let z : ◌≡◌ {A = ℕ} 0 1 = cc in absurd (omega arith)
-
 module _ (p : Stop → Bool) where
   -- in the first, where one is there; else in the second
-  pub found_first : (xs ys : List Stop) {n d : ℕ} → At n d ≡ search_at (first_that p xs) → At n d ≡ search_at (first_that p (xs ++ ys))
+  pub found_first : (xs ys : List Stop) {f : FoundGroup} → Some f ≡ search_at (first_that p xs) → Some f ≡ search_at (first_that p (xs ++ ys))
   unfolding first_that
-  found_first [] ys q = found_not q
+  found_first [] ys q = absurd (cc)
   found_first (x ∷ xs) ys q = elim (test (p x)) [ inl e ↦ rw e (rw e at q) | inr e ↦ rw e (found_first xs ys (rw e at q)) ]
 
-  pub found_second : (xs ys : List Stop) → Nothing ≡ search_at (first_that p xs) → first_that p (xs ++ ys) ≡ first_that p ys
+  pub found_second : (xs ys : List Stop) → None ≡ search_at (first_that p xs) → first_that p (xs ++ ys) ≡ first_that p ys
   unfolding first_that
   found_second [] ys q = refl
-  found_second (x ∷ xs) ys q = elim (test (p x)) [ inl e ↦ found_not (sym (rw e at q)) | inr e ↦ rw e (found_second xs ys (rw e at q)) ]
+  found_second (x ∷ xs) ys q = elim (test (p x)) [ inl e ↦ let z = rw e at q in absurd (cc) | inr e ↦ rw e (found_second xs ys (rw e at q)) ]
 
 -- ---- a group of children
 
 module _ (g : Geometry) (m : Memory) (left start count : ℕ) where
   -- what is found in the children from the c-th on, and in one of them
-  abbrev from : ℕ → Option Stop
+  abbrev from : ℕ → MathOption Stop
   from c = first_that (empty_group_at g m) (group_stops g m left (levels - left) (start + c) (count - c))
 
-  abbrev in_child : ℕ → Option Stop
+  abbrev in_child : ℕ → MathOption Stop
   in_child c = first_that (empty_group_at g m) (stops g m left (levels - left) (start + c))
 
-  abbrev whole : Option Stop
+  abbrev whole : MathOption Stop
   whole = first_that (empty_group_at g m) (group_stops g m left (levels - left) start count)
 
   -- nothing is found in the first c children: the others, well formed too, decide
@@ -95,7 +82,7 @@ module _ (g : Geometry) (m : Memory) (left start count : ℕ) where
       record { within = omega arith; formed = rw (e, f) h; others = rw (e, f) refl }
 
   module _ {c : ℕ} (a : Searched c) where
-    pub searched_all : count ≤ c → Nothing ≡ search_at whole
+    pub searched_all : count ≤ c → None ≡ search_at whole
     unfolding first_that
     searched_all l =
         let e : count - c ≡ 0 = omega arith in
@@ -117,12 +104,12 @@ module _ (g : Geometry) (m : Memory) (left start count : ℕ) where
           let q : count - (c + 1) ≡ count - c - 1 = omega arith in
           rw (p, q) (group_first g m left (levels - left) (start + c) (count - c) (λ z. omega arith))
 
-      module _ {r : Search} (e : r ≡ search_at (in_child c)) where
-        pub found_here : (n d : ℕ) → r ≡ At n d → At n d ≡ search_at whole
-        found_here n d q =
+      module _ {r : Option FoundGroup} (e : r ≡ search_at (in_child c)) where
+        pub found_here : (f : FoundGroup) → r ≡ Some f → Some f ≡ search_at whole
+        found_here f q =
             found_first (empty_group_at g m) _ _ (sym q ∙ e) ∙ ap (λ xs. search_at (first_that (empty_group_at g m) xs)) (sym parts) ∙ ap search_at a.others
 
-        pub not_here : r ≡ Nothing → Searched (c + 1)
+        pub not_here : r ≡ None → Searched (c + 1)
         not_here q = record {
           within = omega arith;
           formed = both_formed.1;
@@ -132,10 +119,10 @@ module _ (g : Geometry) (m : Memory) (left start count : ℕ) where
 -- ---- a node
 
 module _ (g : Geometry) (m : Memory) (left n : ℕ) (l : 1 ≤ left) (h : left ≤ 32) {next : ℕ} (is : next ≡ m (next_at g n)) where
-  abbrev below : Option Stop
+  abbrev below : MathOption Stop
   below = first_that (empty_group_at g m) (stops g m left (levels - left) n)
 
-  pub leaf_nothing : next ≡ 0 → Nothing ≡ search_at below
+  pub leaf_nothing : next ≡ 0 → None ≡ search_at below
   unfolding first_that empty_group_at has_empty_group
   leaf_nothing z =
       let none = sym is ∙ z in
@@ -145,11 +132,11 @@ module _ (g : Geometry) (m : Memory) (left n : ℕ) (l : 1 ≤ left) (h : left �
     some_children : m (next_at g n) ≢ 0
     some_children z = o (is ∙ z)
 
-    pub node_found : (d : ℕ) → d ≡ levels - left → r ≡ true → At n d ≡ search_at below
+    pub node_found : (d : ℕ) → d ≡ levels - left → r ≡ true → Some (record { node = n; depth = d }) ≡ search_at below
     unfolding first_that empty_group_at has_empty_group
     node_found d p t = rw (node_next g m left n l h, ne_eqb (m (next_at g n)) 0 some_children, ← q, ← is, ← e, t, p) refl
 
-    pub node_below : r ≡ false → {s : Search}
+    pub node_below : r ≡ false → {s : Option FoundGroup}
         → s ≡ search_at (first_that (empty_group_at g m) (group_stops g m (left - 1) (levels - (left - 1)) (next - 1) count)) → s ≡ search_at below
     unfolding first_that empty_group_at has_empty_group
     node_below t b =

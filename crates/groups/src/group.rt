@@ -25,14 +25,7 @@ pub fn all_empty(image: &[u64], g: Geometry, start: usize, count: usize) -> bool
     requires { Sized image.now g × (start + count ≤ g.nodes) }
     ensures { result ≡ all_empty g (reads image.now) start count }
 {
-    let mut c = 0;
-    while c < count {
-        if !is_empty(image, g, start + c) {
-            return false;
-        }
-        c += 1;
-    }
-    true
+    (0..count).all(|c| is_empty(image, g, start + c))
 }
 
 // Frees the children of a node at a depth in the map.

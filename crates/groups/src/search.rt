@@ -16,18 +16,16 @@ use crate::group::all_empty;
 use tree::layout::{Geometry, next_of, root_of};
 use tree::path::fanout;
 
-// What a search comes to.
+// A node whose children are all empty, and its depth.
 #[derive(Clone, Copy)]
-pub enum Search {
-    // No node has children that are all empty.
-    Nothing,
-    // This node has, at this depth.
-    At(usize, u64),
+pub struct FoundGroup {
+    pub node: usize,
+    pub depth: u64,
 }
 
 // Searches a node and, levels left, all below it.
 #[cycle(search_group_search_node)]
-fn search_node(image: &[u64], g: Geometry, left: u64, n: usize) -> Search
+fn search_node(image: &[u64], g: Geometry, left: u64, n: usize) -> Option<FoundGroup>
     requires { Sized image.now g
         × (1 ≤ left)
         × (left ≤ 32)
@@ -38,19 +36,25 @@ fn search_node(image: &[u64], g: Geometry, left: u64, n: usize) -> Search
 {
     let next = next_of(image, g, n) as usize;
     if next == 0 {
-        return Search::Nothing;
+        return None;
     }
     let depth = 32 - left;
     let count = fanout(depth);
     if all_empty(image, g, next - 1, count) {
-        return Search::At(n, depth);
+        return Some(FoundGroup { node: n, depth });
     }
     search_group(image, g, left - 1, next - 1, count)
 }
 
 // Searches a group of children and all below them in turn.
 #[cycle(search_group_search_node)]
-fn search_group(image: &[u64], g: Geometry, left: u64, start: usize, count: usize) -> Search
+fn search_group(
+    image: &[u64],
+    g: Geometry,
+    left: u64,
+    start: usize,
+    count: usize,
+) -> Option<FoundGroup>
     requires { Sized image.now g
         × (1 ≤ left)
         × (left ≤ 32)
@@ -61,19 +65,17 @@ fn search_group(image: &[u64], g: Geometry, left: u64, start: usize, count: usiz
         ≡ search_at (first_that (empty_group_at g (reads image.now))
         (group_stops g (reads image.now) left (levels - left) start count)) }
 {
-    let mut c = 0;
-    while c < count {
-        match search_node(image, g, left, start + c) {
-            Search::Nothing => {}
-            Search::At(n, depth) => return Search::At(n, depth),
+    for c in 0..count {
+        if let Some(found) = search_node(image, g, left, start + c) {
+            return Some(found);
         }
-        c += 1;
     }
-    Search::Nothing
+    None
 }
 
-// The first node with children that are all empty, in the order of List, of a filled slot's tree, which is known to be sound.
-pub fn search_slot(image: &[u64], g: Geometry, slot: usize) -> Search
+// The first node with children that are all empty, in the order of List, of a filled slot's tree, which is known to be sound;
+// none, where no node has such children.
+pub fn search_slot(image: &[u64], g: Geometry, slot: usize) -> Option<FoundGroup>
     requires { Sized image.now g
         × Filled g (reads image.now) slot
         × (is_sound_tree g (reads image.now) slot ≡ true) }

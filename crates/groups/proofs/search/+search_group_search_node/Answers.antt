@@ -11,11 +11,11 @@ search_group-loop-c-init t c = searched_none _ _ _ _ _ c.requires.4
 pub search_group-search_node-requires : goal.search_group-search_node-requires
 search_group-search_node-requires t c = search (rules, child_formed _ _ _ _ _ c.loop-c.invariant c.loop-c-test.true)
 
-pub search_group-returns-in-At : goal.search_group-returns-in-At
-search_group-returns-in-At t c = found_here _ _ _ _ _ c.loop-c.invariant c.loop-c-test.true c.search_node.ensures _ _ c.in-At.is
+pub search_group-returns-in-Some : goal.search_group-returns-in-Some
+search_group-returns-in-Some t c = found_here _ _ _ _ _ c.loop-c.invariant c.loop-c-test.true c.search_node.ensures _ c.in-Some.is
 
 pub search_group-loop-c-preserved : goal.search_group-loop-c-preserved
-search_group-loop-c-preserved t c = not_here _ _ _ _ _ c.loop-c.invariant c.loop-c-test.true c.search_node.ensures c.in-Nothing.is
+search_group-loop-c-preserved t c = not_here _ _ _ _ _ c.loop-c.invariant c.loop-c-test.true c.search_node.ensures c.in_default.is
 
 pub search_group-returns : goal.search_group-returns
 search_group-returns t c = searched_all _ _ _ _ _ c.loop-c.invariant c.loop-c-test.false

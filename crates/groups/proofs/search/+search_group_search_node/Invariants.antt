@@ -1,4 +1,4 @@
-use Rattle.std.proofs.Common.{◌-◌, ◌+◌, ◌*◌}
+use Rattle.std.proofs.Common.{◌+◌, ◌*◌}
 use Rattle.memory.specs.Words.{reads}
 use Rattle.groups.proofs.Searches.{Searched}
 use Rattle.groups.proofs.search.+search_group_search_node.Given as goal
@@ -12,6 +12,3 @@ decreases-search_node l = 2 * l.left
 
 abbrev pub invariant-search_group-loop-c : goal.invariant-search_group-loop-c
 invariant-search_group-loop-c l = Searched l.g (reads l.image) l.left l.start l.count l.c
-
-abbrev pub decreases-search_group-loop-c : goal.decreases-search_group-loop-c
-decreases-search_group-loop-c l = l.count - l.c

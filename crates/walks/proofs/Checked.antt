@@ -12,7 +12,8 @@ use Rattle.tree.specs.Layout.{map_words}
 use Rattle.tree.specs.Subtree.{tree, nodes_of, listing, listed}
 use Rattle.tree.specs.Check.{is_sound_tree}
 use Rattle.tree.specs.Pool.{unmark_all, map_of}
-use Rattle.walks.specs.declared.trees.Listing.TheVariants as listing-answer
+use Rattle.std.specs.Prelude.{Ok, Err}
+use Rattle.walks.specs.declared.trees.ListError.TheVariants as why
 use Rattle.walks.specs.Answers.{listing_from, list_after}
 use Rattle.visits.specs.Walk.{kept}
 use Rattle.visits.specs.Marked.{without_marked, held_below}
@@ -33,7 +34,7 @@ module _ (g : Geometry) (m : Memory) (s : ℕ) (r : Bool) (marks : List ℕ)
 
   -- or it is not, and nothing is listed or freed
   pub none_listed : not r ≡ true → (buffer : List ℕ)
-      → (listing-answer.Malformed ≡ listing_from g m s (length buffer)) × (buffer ≡ list_after g m s buffer)
+      → (Err why.Malformed ≡ listing_from g m s (length buffer)) × (buffer ≡ list_after g m s buffer)
   unfolding listing_from list_after
   none_listed e buffer = rw (unsound g m s r marks h e) (refl, refl)
 
@@ -45,11 +46,11 @@ module _ (g : Geometry) (m : Memory) (s : ℕ) (d : is_sound_tree g m s ≡ true
   all_counted = counted ∙ ap (λ p. held_below g m p g.nodes) is ∙ count_law g m s d
 
   module _ (buffer : List ℕ) where
-    pub too_short : length buffer < count → (listing-answer.Short ≡ listing_from g m s (length buffer)) × (buffer ≡ list_after g m s buffer)
+    pub too_short : length buffer < count → (Err why.Short ≡ listing_from g m s (length buffer)) × (buffer ≡ list_after g m s buffer)
     unfolding listing_from list_after
     too_short h = rw (d, lt-ltb (length buffer) (length (listing g m s)) (rw all_counted at h)) (refl, refl)
 
     pub all_listed : count ≤ length buffer → (n : ℕ) (list : List ℕ) → n ≡ length (listing g m s) → list ≡ listed (listing g m s) buffer
-        → (listing-answer.Listed n ≡ listing_from g m s (length buffer)) × (list ≡ list_after g m s buffer)
+        → (Ok n ≡ listing_from g m s (length buffer)) × (list ≡ list_after g m s buffer)
     unfolding listing_from list_after
     all_listed h n list e q = rw (d, le-ltb (length buffer) (length (listing g m s)) (rw all_counted at h), e, q) (refl, refl)

@@ -6,7 +6,9 @@ use mathlib.Core.List.{List, [], ◌∷◌, ◌++◌, map-append}
 use Prim.Native.Nat.{ℕ, zero, suc, ◌+◌, ◌-◌, ◌/◌, ◌^◌, ◌≤◌, ◌<◌}
 use native.Mathlib.Omega.{arith}
 use native.Mathlib.Nat.{mul-mod_left}
-use lib.ListN.{length, length-map}
+use lib.ListN.{length, get_or, take, drop, length-map, length-drop}
+use lib.Seq.{length-take-le}
+use Rattle.std.proofs.lemmas.List.{get_or-take, get_or-drop}
 use lib.Count.{count_trailing_zeros}
 use borrow.Author.Tests.{not-false as is_true}
 use Rattle.memory.specs.Words.{is_set, without_bit, reads}
@@ -71,7 +73,14 @@ module _ (image : List ℕ) (start : ℕ) where
   unfolding words_at
   length_words count = length-map (up_to count) _ ∙ length_up_to count
 
-  -- adjacent words: all, one more, none left
+  -- adjacent words, as a part of the image: how many, and each
+  pub run_length : (count : ℕ) → start + count ≤ length image → length (take (start + count - start) (drop start image)) ≡ count
+  run_length count h = let e : start + count - start ≡ count = omega arith in rw (e, length-take-le count (drop start image) (omega (arith, length-drop start image))) refl
+
+  pub run_read : (k count : ℕ) → k < count → get_or (take (start + count - start) (drop start image)) k 0 ≡ reads image (start + k)
+  run_read k count l = get_or-take (start + count - start) (drop start image) k 0 (omega arith) ∙ get_or-drop start image k 0
+
+  -- all, one more, none left
   pub run_all : (count : ℕ) → words_at image start (up_to count) ≡ words_at image start (range 0 (count - 0))
   unfolding up_to
   run_all count = ap (λ (k : ℕ). words_at image start (range 0 k)) (omega arith)

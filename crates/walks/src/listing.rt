@@ -20,10 +20,8 @@ fn copy_words(image: &[u64], list: &mut [u64], first: usize, count: usize)
     requires { (first + count ≤ length image.now) × (count ≤ length list.old) }
     ensures { list.new ≡ listed (words_at image.now first (up_to count)) list.old }
 {
-    let mut k = 0;
-    while k < count {
-        list[k] = image[first + k];
-        k += 1;
+    for (k, word) in image[first..first + count].iter().enumerate() {
+        list[k] = *word;
     }
 }
 
@@ -121,10 +119,8 @@ fn list_group(
         (group_stops g (reads image.now) left (levels - left) start count)) list.old) }
 {
     let mut written = 0;
-    let mut c = 0;
-    while c < count {
+    for c in 0..count {
         written += list_node(image, &mut list[written..], g, left, start + c);
-        c += 1;
     }
     written
 }

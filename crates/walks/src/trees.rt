@@ -14,49 +14,51 @@ use tree::layout::Geometry;
 use visits::marked::{count_frames, take_out};
 use visits::visit::check_tree;
 
-// What listing a tree comes to.
+// Why a tree's frames are not listed.
 #[derive(Clone, Copy)]
-pub enum Listing {
+pub enum ListError {
     // A node is malformed or met twice.
     Malformed,
     // The list has too little room.
     Short,
-    // So many frames.
-    Listed(usize),
 }
 
-// Writes the frames of a checked tree, whose nodes are marked, to a list that has room for all of them.
-fn list_checked(image: &[u64], marks: &[u64], list: &mut [u64], g: Geometry, slot: usize) -> Listing
-    requires { Sized image.now g
-        × Filled g (reads image.now) slot
-        × (is_sound_tree g (reads image.now) slot ≡ true)
-        × (marks.now ≡ map_of g (nodes_of (tree g (reads image.now) slot))) }
+// Checks a filled slot's tree, whose nodes are then marked, and writes its frames to a list that has room for all of them;
+// answers how many.
+fn list_checked(
+    image: &[u64],
+    marks: &mut [u64],
+    list: &mut [u64],
+    g: Geometry,
+    slot: usize,
+) -> Result<usize, ListError>
+    requires { Sized image.now g × Filled g (reads image.now) slot × (length marks.old ≡ map_words g) }
     ensures { (result ≡ listing_from g (reads image.now) slot (length list.old))
         × (list.new ≡ list_after g (reads image.now) slot list.old) }
 {
-    if list.len() < count_frames(image, marks, g) {
-        return Listing::Short;
+    if !check_tree(image, marks, g, slot) {
+        return Err(ListError::Malformed);
     }
-    Listing::Listed(list_slot(image, list, g, slot))
+    if list.len() < count_frames(image, marks, g) {
+        return Err(ListError::Short);
+    }
+    Ok(list_slot(image, list, g, slot))
 }
 
-// Lists a filled slot's frames. Nothing is written to the list unless all of them are; the scratch map is all 0 in the end.
+// Lists a filled slot's frames; answers how many. Nothing is written to the list unless all of them are; the scratch map is all 0
+// in the end.
 pub fn list_tree(
     image: &[u64],
     scratch: &mut [u64],
     list: &mut [u64],
     g: Geometry,
     slot: usize,
-) -> Listing
+) -> Result<usize, ListError>
     requires { Sized image.now g × Filled g (reads image.now) slot × (length scratch.old ≡ map_words g) }
     ensures { (result ≡ listing_from g (reads image.now) slot (length list.old))
         × (list.new ≡ list_after g (reads image.now) slot list.old)
         × (scratch.new ≡ clear_map (map_words g)) }
 {
-    if !check_tree(image, scratch, g, slot) {
-        clear_map(scratch);
-        return Listing::Malformed;
-    }
     let answer = list_checked(image, scratch, list, g, slot);
     clear_map(scratch);
     answer

@@ -1,4 +1,4 @@
-use Rattle.std.proofs.Common.{◌-◌, ◌+◌, ◌*◌}
+use Rattle.std.proofs.Common.{◌+◌, ◌*◌}
 use Rattle.memory.specs.Words.{reads}
 use Rattle.walks.proofs.ListingsGroups.{Group}
 use Rattle.walks.proofs.listing.+list_group_list_node.Given as goal
@@ -12,6 +12,3 @@ decreases-list_node l = 2 * l.left
 
 abbrev pub invariant-list_group-loop-c : goal.invariant-list_group-loop-c
 invariant-list_group-loop-c l = Group l.g (reads l.image) l.left l.start l.count l.fn.list l.list l.written l.c
-
-abbrev pub decreases-list_group-loop-c : goal.decreases-list_group-loop-c
-decreases-list_group-loop-c l = l.count - l.c

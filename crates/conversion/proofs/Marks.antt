@@ -1,6 +1,6 @@
 -- The map of the nodes reached: a node of the pool is marked exactly if it is reached.
 use mathlib.Core.Path.{◌≡◌, refl, sym, ◌∙◌, ap}
-use mathlib.Core.Bool.{Bool, ◌||◌, or-false}
+use mathlib.Core.Bool.{Bool, true, ◌||◌, or-false}
 use mathlib.Core.List.{List, [], ◌∷◌, map}
 use mathlib.Core.Logic.{inl}
 use Prim.Native.Nat.{ℕ, ◌*◌, ◌<◌}
@@ -10,11 +10,12 @@ use borrow.Author.Tests.{eq-eqb, ne_eqb}
 use Rattle.memory.specs.Words.{Memory}
 use Rattle.tree.specs.declared.layout.Geometry.{Geometry}
 use Rattle.tree.specs.Lists.{has_key}
-use Rattle.tree.specs.Layout.{map_words}
+use Rattle.tree.specs.Layout.{map_words, set_at}
 use Rattle.tree.specs.Subtree.{Visit, all_trees, nodes_of}
 use Rattle.tree.specs.Pool.{used, mark, mark_all, clear_map, map_of}
 use Rattle.tree.specs.Convert.{is_reached}
 use Rattle.tree.proofs.Cases.{or_right}
+use Rattle.conversion.specs.Written.{ReachedWith}
 use Rattle.tree.proofs.Pool.{pool_laws, mark_other}
 
 -- the nodes of a walk marked, inside the map or not: of a node inside it, whether it was marked or is among them
@@ -43,3 +44,7 @@ module _ (g : Geometry) (m : Memory) (n : ℕ) (h : n < g.nodes)
       ∙ ap (λ map. used map n) of
       ∙ walk_marked (all_trees g m) (clear_map (map_words g)) n (rw (pool_laws.length_clear (map_words g)) (pool_laws.inside g n h))
       ∙ rw (pool_laws.clear (map_words g) n) refl
+
+  -- a marked node is reached, with its set word
+  pub reached_with : {b : Bool} → b ≡ used marks n → b ≡ true → {set : ℕ} → set ≡ m (set_at g n) → ReachedWith g m n set
+  reached_with e t q = record { inside = h; reached = sym (marks_reached e) ∙ t; set_word = q }

@@ -21,10 +21,10 @@ use tree::layout::{
 fn other_edition(edition: u64) -> u64
     ensures { result ≡ other_edition edition }
 {
-    if edition == 1 {
-        return 2;
+    match edition {
+        1 => 2,
+        _ => 1,
     }
-    1
 }
 
 // Zeros from one word up to another: the next words of whatever array is to have zeros there.
@@ -35,11 +35,7 @@ fn put_zeros(copy: &mut [u64], from: usize, to: usize)
         → FilledTo f n copy.old from
         → FilledTo f n copy.new to }
 {
-    let mut i = from;
-    while i < to {
-        copy[i] = 0;
-        i += 1;
-    }
+    copy[from..to].fill(0);
 }
 
 // Words 0 to 63, whatever the geometry: an edition, R, N, and zeros.
@@ -67,140 +63,113 @@ fn put_slots(image: &[u64], copy: &mut [u64], g: Geometry)
         → WrittenTo e g image.now copy.old 64
         → WrittenTo e g image.now copy.new (node_at g 0) }
 {
-    let mut s = 0;
-    while s < g.slots {
+    for s in 0..g.slots {
         let root = root_of(image, g, s);
         copy[reel_at(s)] = or_zero(root != 0, reel_of(image, g, s));
         copy[root_at(s)] = root;
-        s += 1;
     }
 }
 
-// A place's fingerprint by an edition's rule where the node's set word says that a frame is held; else 0. It is made in both
-// cases: whether a place is held is hard to predict.
-fn new_print(
-    image: &[u64],
-    table: &[u8],
-    g: Geometry,
+// By what fingerprints are made: an edition, whose rule says what is folded, and the paper's table, laid out once.
+#[derive(Clone, Copy)]
+struct Rule<'a> {
     edition: u64,
-    n: usize,
+    table: &'a [u8],
+    ghost laid: { table.now ≡ the_table },
+}
+
+// A node that is reached, as it is copied: its number, and its set word, which says what places hold a frame.
+#[derive(Clone, Copy)]
+struct ReachedNode {
+    number: usize,
     set: u64,
-    p: usize,
-) -> u64
-    requires { Sized image.now g × ReachedWith g (reads image.now) n set × (table.now ≡ the_table) × (p < 64) }
-    ensures { result ≡ new_print g (reads image.now) (rule_for edition) n p }
+}
+
+// A place's fingerprint by the rule where the node's set word says that a frame is held; else 0. It is made in both
+// cases: whether a place is held is hard to predict.
+fn new_print(image: &[u64], g: Geometry, rule: &Rule, node: ReachedNode, p: usize) -> u64
+    requires { Sized image.now g × ReachedWith g (reads image.now) node.number node.set × (p < 64) }
+    ensures { result ≡ new_print g (reads image.now) (rule_for rule.now.edition) node.number p }
 {
-    let print = fold_for(edition, table, frame_of(image, g, n, p));
-    or_zero(is_set(set, p as u32), print)
+    let print = fold_for(rule.edition, rule.table, frame_of(image, g, node.number, p));
+    or_zero(is_set(node.set, p as u32), print)
 }
 
 // Those of eight places in a word, lowest byte first.
-fn new_prints(
-    image: &[u64],
-    table: &[u8],
-    g: Geometry,
-    edition: u64,
-    n: usize,
-    set: u64,
-    j: usize,
-) -> u64
-    requires { Sized image.now g × ReachedWith g (reads image.now) n set × (table.now ≡ the_table) × (j < 8) }
-    ensures { result ≡ bytes_to (λ k. new_print g (reads image.now) (rule_for edition) n (8 * j + k)) 8 }
+fn new_prints(image: &[u64], g: Geometry, rule: &Rule, node: ReachedNode, j: usize) -> u64
+    requires { Sized image.now g × ReachedWith g (reads image.now) node.number node.set × (j < 8) }
+    ensures { result ≡ bytes_to (λ k. new_print g (reads image.now) (rule_for rule.now.edition) node.number (8 * j + k)) 8 }
 {
-    let mut w: u64 = 0;
-    let mut k: usize = 0;
-    while k < 8 {
-        w = with_byte(
-            w,
-            k as u32,
-            new_print(image, table, g, edition, n, set, 8 * j + k),
-        );
-        k += 1;
+    let mut w = 0;
+    for k in 0..8 {
+        w = with_byte(w, k as u32, new_print(image, g, rule, node, 8 * j + k));
     }
     w
 }
 
-// Words 8 to 15 of a reached node: fingerprints by an edition's rule.
-fn put_prints(
-    image: &[u64],
-    table: &[u8],
-    copy: &mut [u64],
-    g: Geometry,
-    edition: u64,
-    n: usize,
-    set: u64,
-)
+// Words 8 to 15 of a reached node: fingerprints by the rule.
+fn put_prints(image: &[u64], copy: &mut [u64], g: Geometry, rule: &Rule, node: ReachedNode)
     requires { Sized image.now g
-        × ReachedWith g (reads image.now) n set
-        × (table.now ≡ the_table)
-        × WrittenTo edition g image.now copy.old (node_at g n + 8) }
-    ensures { WrittenTo edition g image.now copy.new (node_at g n + 16) }
+        × ReachedWith g (reads image.now) node.number node.set
+        × WrittenTo rule.now.edition g image.now copy.old (node_at g node.number + 8) }
+    ensures { WrittenTo rule.now.edition g image.now copy.new (node_at g node.number + 16) }
 {
-    let at = node_at(g, n) + FINGERPRINTS;
-    let mut j = 0;
-    while j < 8 {
-        copy[at + j] = new_prints(image, table, g, edition, n, set, j);
-        j += 1;
+    let at = node_at(g, node.number) + FINGERPRINTS;
+    for j in 0..8 {
+        copy[at + j] = new_prints(image, g, rule, node, j);
     }
 }
 
 // Words 16 to 79 of a reached node, whatever the edition: the frames that its set word says are held, else 0.
-fn put_frames(image: &[u64], copy: &mut [u64], g: Geometry, n: usize, set: u64)
-    requires { Sized image.now g × ReachedWith g (reads image.now) n set × (length copy.old ≡ length image.now) }
+fn put_frames(image: &[u64], copy: &mut [u64], g: Geometry, node: ReachedNode)
+    requires { Sized image.now g × ReachedWith g (reads image.now) node.number node.set × (length copy.old ≡ length image.now) }
     ensures { (e : ℕ)
-        → WrittenTo e g image.now copy.old (node_at g n + 16)
-        → WrittenTo e g image.now copy.new (node_at g n + 80) }
+        → WrittenTo e g image.now copy.old (node_at g node.number + 16)
+        → WrittenTo e g image.now copy.new (node_at g node.number + 80) }
 {
-    let at = node_at(g, n) + FRAMES;
-    let mut p = 0;
-    while p < 64 {
-        copy[at + p] = or_zero(is_set(set, p as u32), frame_of(image, g, n, p));
-        p += 1;
+    let at = node_at(g, node.number) + FRAMES;
+    for p in 0..64 {
+        copy[at + p] = or_zero(
+            is_set(node.set, p as u32),
+            frame_of(image, g, node.number, p),
+        );
     }
 }
 
 // Words 0 to 7 of a reached node, whatever the edition: the set word stands for locate too, and words 5 to 7 are 0.
-fn put_head(image: &[u64], copy: &mut [u64], g: Geometry, n: usize, set: u64)
-    requires { Sized image.now g × ReachedWith g (reads image.now) n set × (length copy.old ≡ length image.now) }
+fn put_head(image: &[u64], copy: &mut [u64], g: Geometry, node: ReachedNode)
+    requires { Sized image.now g × ReachedWith g (reads image.now) node.number node.set × (length copy.old ≡ length image.now) }
     ensures { (e : ℕ)
-        → WrittenTo e g image.now copy.old (node_at g n)
-        → WrittenTo e g image.now copy.new (node_at g n + 8) }
+        → WrittenTo e g image.now copy.old (node_at g node.number)
+        → WrittenTo e g image.now copy.new (node_at g node.number + 8) }
 {
-    let at = node_at(g, n);
-    copy[at] = next_of(image, g, n);
-    copy[at + LOCATE] = set;
-    copy[at + SET] = set;
-    copy[at + LEVEL] = word_of(image, g, n, LEVEL);
-    copy[at + SIZE] = word_of(image, g, n, SIZE);
+    let at = node_at(g, node.number);
+    copy[at] = next_of(image, g, node.number);
+    copy[at + LOCATE] = node.set;
+    copy[at + SET] = node.set;
+    copy[at + LEVEL] = word_of(image, g, node.number, LEVEL);
+    copy[at + SIZE] = word_of(image, g, node.number, SIZE);
     put_zeros(copy, at + 5, at + FINGERPRINTS);
 }
 
 // A node's 80 words: all 0 where the map does not mark it.
-fn put_node(
-    image: &[u64],
-    marks: &[u64],
-    table: &[u8],
-    copy: &mut [u64],
-    g: Geometry,
-    edition: u64,
-    n: usize,
-)
+fn put_node(image: &[u64], marks: &[u64], copy: &mut [u64], g: Geometry, rule: &Rule, n: usize)
     requires { Sized image.now g
         × (marks.now ≡ map_of g (nodes_of (all_trees g (reads image.now))))
-        × (table.now ≡ the_table)
         × (n < g.nodes)
-        × WrittenTo edition g image.now copy.old (node_at g n) }
-    ensures { WrittenTo edition g image.now copy.new (node_at g n + 80) }
+        × WrittenTo rule.now.edition g image.now copy.old (node_at g n) }
+    ensures { WrittenTo rule.now.edition g image.now copy.new (node_at g n + 80) }
 {
     if is_used(marks, n) {
         let set = word_of(image, g, n, SET);
-        put_head(image, copy, g, n, set);
-        put_prints(image, table, copy, g, edition, n, set);
-        put_frames(image, copy, g, n, set);
-        return;
+        let node = ReachedNode { number: n, set };
+        put_head(image, copy, g, node);
+        put_prints(image, copy, g, rule, node);
+        put_frames(image, copy, g, node);
+    } else {
+        let at = node_at(g, n);
+        put_zeros(copy, at, at + 80);
     }
-    let at = node_at(g, n);
-    put_zeros(copy, at, at + 80);
 }
 
 // Writes the image of the other edition over the whole of a second image of the same length. The map marks exactly the nodes
@@ -214,11 +183,13 @@ pub fn convert_image(image: &[u64], marks: &[u64], copy: &mut [u64], g: Geometry
 {
     let other = other_edition(edition(image));
     let table = table();
+    let rule = Rule {
+        edition: other,
+        table: &table,
+    };
     put_header(image, copy, other);
     put_slots(image, copy, g);
-    let mut n = 0;
-    while n < g.nodes {
-        put_node(image, marks, &table, copy, g, other, n);
-        n += 1;
+    for n in 0..g.nodes {
+        put_node(image, marks, copy, g, &rule, n);
     }
 }

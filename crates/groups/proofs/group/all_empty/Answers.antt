@@ -11,4 +11,4 @@ returns c =
     let a = c.args in
     all_tested a.g (reads a.image.now) a.start a.count
     (all_from_yields_List (λ k. is_empty a.g (reads a.image.now) (a.start + k)) _ _ c.all.result c.all.ensures.ran
-    (YieldsList-from_range 0 a.count a.count refl (omega arith)) (λ x b q k. search (rules, tests)))
+    (YieldsList-from_range 0 a.count a.count refl (omega arith)) (λ x b q k. (search (rules, tests), search (rules, tests))))

@@ -3,3 +3,4 @@ pub mod Listing
 pub mod Opening
 pub mod Retiring
 pub mod Tidying
+pub mod SlotReads

@@ -16,8 +16,9 @@ use Rattle.tree.specs.Subtree.{listing, listed}
 use Rattle.tree.specs.Check.{is_sound_tree}
 use Rattle.tree.specs.Pool.{clear_map}
 use Rattle.tree.proofs.Cases.{test}
-use Rattle.walks.specs.declared.trees.Listing.{Listing}
-use Rattle.walks.specs.declared.trees.Listing.TheVariants.{Malformed, Short, Listed}
+use Rattle.std.specs.Prelude.{Result, Ok, Err}
+use Rattle.walks.specs.declared.trees.ListError.{ListError}
+use Rattle.walks.specs.declared.trees.ListError.TheVariants.{Malformed, Short}
 use Rattle.walks.specs.Answers.{listing_from, list_after}
 use Rattle.book.specs.Refusals.{Refusal, ◌gives◌}
 use Rattle.book.specs.State.{Operation, State, query, list, scratch_after}
@@ -34,10 +35,10 @@ use Rattle.operations.proofs.Passed.{same_checks}
 use Rattle.operations.proofs.Tested.{OnReel, SlotRead, rest_bad, rest_done}
 
 -- what the code answers for what listing the tree came to
-abbrev pub answered : Listing → Answer
-answered Malformed = Refused why.Malformed
-answered Short = Refused why.ListShort
-answered (Listed n) = Done n
+abbrev pub answered : Result ℕ ListError → Answer
+answered (Err Malformed) = Refused why.Malformed
+answered (Err Short) = Refused why.ListShort
+answered (Ok n) = Done n
 
 module _ (im pool ws scratch frames : List ℕ) (reel : ℕ) where
   abbrev op : Operation
@@ -66,7 +67,7 @@ module _ (im pool ws scratch frames : List ℕ) (reel : ℕ) where
         rw (p.slot_is, p.checked.geometry) (sym (rest_done on_list borrowed p inside none ∙ no_script op _ borrowed refl))
 
     -- in one form for all that listing the tree comes to
-    pub list_ended : (r : Listing) (frames' : List ℕ) → r ≡ listing_from g (reads im) slot (length frames) → frames' ≡ list_after g (reads im) slot frames
+    pub list_ended : (r : Result ℕ ListError) (frames' : List ℕ) → r ≡ listing_from g (reads im) slot (length frames) → frames' ≡ list_after g (reads im) slot frames
         → ended (answer_of (answered r)) (count_of (answered r)) start (buffers (clear_map (length scratch)) [] frames') ≡ ends op start borrowed
     unfolding listing_from list_after
     list_ended r frames' e l =

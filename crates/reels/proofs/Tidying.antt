@@ -15,8 +15,8 @@ use Rattle.tree.specs.Subtree.{listed}
 use Rattle.tree.specs.Check.{is_sound_tree}
 use Rattle.tree.specs.Groups.{first_group}
 use Rattle.tree.specs.Pool.{unmark_all, clear_map}
-use Rattle.groups.specs.declared.search.Search.{Search}
-use Rattle.groups.specs.declared.search.Search.TheVariants as search
+use Rattle.std.specs.Prelude.{Option, Some, None}
+use Rattle.groups.specs.declared.search.FoundGroup.{FoundGroup}
 use Rattle.groups.specs.Search.{search_of}
 use Rattle.groups.proofs.Found.{Seen, no_visit, seen_visit}
 use Rattle.book.specs.declared.Head.{Head}
@@ -54,27 +54,27 @@ module _ (im pool ws scratch script : List ℕ) (reel : ℕ) where
     tree_bad taken = idle_bad on_tidy p inside heads read idle 4 (refused_here _ _ (rw (sym r-is ∙ not-true r taken) refl)) (omega arith)
 
     -- it is, and this is what the search found
-    module _ (left : not r ≡ false) {o : Search} (e : o ≡ search_of (first_group g (reads im) slot)) where
+    module _ (left : not r ≡ false) {o : Option FoundGroup} (e : o ≡ search_of (first_group g (reads im) slot)) where
       fine : is_sound_tree g (reads im) slot ≡ true
       fine = sym r-is ∙ not-false r left
 
-      pub no_group : o ≡ search.Nothing → ended 18 0 start (buffers (clear_map (length scratch)) script []) ≡ ends op start (buffers scratch script [])
+      pub no_group : o ≡ None → ended 18 0 start (buffers (clear_map (length scratch)) script []) ≡ ends op start (buffers scratch script [])
       no_group q =
           let nowhere = no_visit (first_group g (reads im) slot) (sym q ∙ e) in
           idle_bad on_tidy p inside heads read idle 18 (refused_later _ _ (rw fine refl) ∙ refused_here _ _ (rw nowhere refl)) (omega arith)
 
-      tidied_at : {n d : ℕ} → Seen (first_group g (reads im) slot) n d → (pool' : List ℕ) → pool' ≡ unmark_all pool (group (reads im (next_at g n) - 1) d)
-          → (script' : List ℕ) → script' ≡ written (store (next_at g n) 0 ∷ barrier ∷ []) script
+      tidied_at : {f : FoundGroup} → Seen (first_group g (reads im) slot) f → (pool' : List ℕ) → pool' ≡ unmark_all pool (group (reads im (next_at g f.node) - 1) f.depth)
+          → (script' : List ℕ) → script' ≡ written (store (next_at g f.node) 0 ∷ barrier ∷ []) script
           → ended 0 4 (state im pool' ws) (buffers (clear_map (length scratch)) script' []) ≡ ends op start (buffers scratch script [])
       unfolding granted scratch_after found listed tidy_script
-      tidied_at {n} v pool' pool-is script' script_is =
+      tidied_at {f} v pool' pool-is script' script_is =
           let none = passed_all (tidy_rest g slot) (rw fine refl, (rw v.is refl, tt)) in
-          let next : Store = (next_at g n, 0) in
+          let next : Store = (next_at g f.node, 0) in
           ap (λ k. ended 0 k (state im pool' ws) (buffers (clear_map (length scratch)) script' [])) (words_of ((next ∷ []) ∷ []))
           ∙ rw (pool-is, fenced_written next script script' script_is, ← v.node, ← v.depth)
           (sym (idle_done on_tidy p inside heads read idle none ∙ rw (← p.checked.geometry, ← p.slot_is, v.is) refl))
 
-      pub tidied : {n d : ℕ} → o ≡ search.At n d → (pool' : List ℕ) → pool' ≡ unmark_all pool (group (reads im (next_at g n) - 1) d) → (script' : List ℕ)
-          → script' ≡ written (store (next_at g n) 0 ∷ barrier ∷ []) script
+      pub tidied : {f : FoundGroup} → o ≡ Some f → (pool' : List ℕ) → pool' ≡ unmark_all pool (group (reads im (next_at g f.node) - 1) f.depth) → (script' : List ℕ)
+          → script' ≡ written (store (next_at g f.node) 0 ∷ barrier ∷ []) script
           → ended 0 4 (state im pool' ws) (buffers (clear_map (length scratch)) script' []) ≡ ends op start (buffers scratch script [])
-      tidied q = tidied_at (seen_visit (first_group g (reads im) slot) _ _ (sym q ∙ e))
+      tidied q = tidied_at (seen_visit (first_group g (reads im) slot) _ (sym q ∙ e))

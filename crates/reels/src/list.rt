@@ -8,7 +8,7 @@ use nodes::reels::slot_of;
 use operations::answer::{Answer, Refusal};
 use operations::checks::{Buffer, Verdict, checks, clear_on_4};
 use pool::pool_map::clear_map;
-use walks::trees::{Listing, list_tree};
+use walks::trees::{ListError, list_tree};
 
 // List a reel's frames: all of them, or the list stays as it is. Past the checks the scratch map is all 0 in the end.
 pub fn list(image: &[u64], scratch: &mut [u64], list: &mut [u64], reel: u64) -> Answer
@@ -36,8 +36,8 @@ pub fn list(image: &[u64], scratch: &mut [u64], list: &mut [u64], reel: u64) -> 
         return Answer::Refused(Refusal::NoReel);
     }
     match list_tree(image, scratch, list, g, slot) {
-        Listing::Malformed => Answer::Refused(Refusal::Malformed),
-        Listing::Short => Answer::Refused(Refusal::ListShort),
-        Listing::Listed(frames) => Answer::Done(frames as u64),
+        Err(ListError::Malformed) => Answer::Refused(Refusal::Malformed),
+        Err(ListError::Short) => Answer::Refused(Refusal::ListShort),
+        Ok(frames) => Answer::Done(frames as u64),
     }
 }

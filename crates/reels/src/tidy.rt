@@ -7,7 +7,7 @@ ghost use Rattle.operations.specs.Ends.{buffers, state, ended, ends};
 
 use book::{HEADS, Head};
 use groups::group::free_group;
-use groups::search::{Search, search_slot};
+use groups::search::search_slot;
 use nodes::reels::slot_of;
 use operations::answer::{Answer, Refusal};
 use operations::checks::{Buffer, Verdict, checks, clear_on_4};
@@ -59,10 +59,10 @@ pub fn tidy(
         return Answer::Refused(Refusal::Malformed);
     }
     match search_slot(image, g, slot) {
-        Search::Nothing => Answer::Refused(Refusal::NoGroup),
-        Search::At(n, depth) => {
-            free_group(image, pool, g, n, depth);
-            put_fenced(script, node_at(g, n) as u64, 0);
+        None => Answer::Refused(Refusal::NoGroup),
+        Some(found) => {
+            free_group(image, pool, g, found.node, found.depth);
+            put_fenced(script, node_at(g, found.node) as u64, 0);
             Answer::Done(4)
         }
     }

@@ -8,7 +8,7 @@ use Rattle.memory.specs.Words.{Memory, is_set, with_bit}
 use Rattle.memory.specs.Search.{first}
 use Rattle.memory.proofs.Laws.{bit_laws}
 use Rattle.tree.specs.declared.layout.Geometry.{Geometry}
-use Rattle.tree.specs.declared.path.ClearPlace.TheVariants.{None, At}
+use Rattle.std.specs.Prelude.{Some, None}
 use Rattle.tree.specs.Layout.{locate_at, size_at}
 use Rattle.tree.specs.Lookup.{clear_at}
 use Rattle.tree.specs.Room.{left_at, clear_place}
@@ -23,6 +23,6 @@ module _ (g : Geometry) (m : Memory) (n : ℕ) {size locate place : ℕ} (s : si
   unfolding clear_place clear_at
   none_clear h = rw (← s, ← l, ← p, le-ltb place size h) refl
 
-  pub one_clear : {word : ℕ} → word ≡ with_bit locate place → place < size → At place (size - ones word) ≡ clear_place g m n
+  pub one_clear : {word : ℕ} → word ≡ with_bit locate place → place < size → Some (record { place = place; left = size - ones word }) ≡ clear_place g m n
   unfolding clear_place clear_at left_at
   one_clear w h = rw (← s, ← l, ← p, lt-ltb place size h, w) refl

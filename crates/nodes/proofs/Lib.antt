@@ -1,4 +1,5 @@
 pub mod NodeCode
 pub mod ClearPlaces
+pub mod Ranges
 pub mod Places
 pub mod ReelCode

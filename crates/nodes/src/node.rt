@@ -68,9 +68,9 @@ pub fn well_formed(image: &[u64], g: Geometry, depth: u64, n: usize) -> bool
     children_inside(nodes, depth, next)
 }
 
-// The search for a place in a node: the lowest whose locate bit is 0, and the places left, its size minus the ones of the
+// The search for a place in a node: the lowest whose locate bit is 0, if any, and the places left, its size minus the ones of the
 // locate word as it will be.
-pub fn clear_place(image: &[u64], g: Geometry, n: usize) -> ClearPlace
+pub fn clear_place(image: &[u64], g: Geometry, n: usize) -> Option<ClearPlace>
     requires { Sized image.now g
         × (n < g.nodes)
         × (reads image.now (size_at g n) ≤ 64)
@@ -81,11 +81,11 @@ pub fn clear_place(image: &[u64], g: Geometry, n: usize) -> ClearPlace
     let locate = word_of(image, g, n, LOCATE);
     let place = lowest_clear(locate, size);
     if size <= place {
-        return ClearPlace::None;
+        return None;
     }
     let left = size - u64::count_ones(with_bit(locate, place));
-    ClearPlace::At {
+    Some(ClearPlace {
         place: place as usize,
         left: left as usize,
-    }
+    })
 }

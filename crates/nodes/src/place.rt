@@ -14,13 +14,10 @@ fn has_print(image: &[u64], g: Geometry, n: usize, print: u64) -> bool
     requires { Sized image.now g × (n < g.nodes) × (print < 256) }
     ensures { result ≡ false → (p : ℕ) → p < 64 → eqb (stored_fingerprint g (reads image.now) n p) print ≡ false }
 {
-    let mut found: u64 = 0;
-    let mut j = 0;
-    while j < 8 {
-        found = found | equal_bytes(fingerprints_of(image, g, n, j), print);
-        j += 1;
-    }
-    found != 0
+    (0..8).fold(
+        0,
+        |found, j| found | equal_bytes(fingerprints_of(image, g, n, j), print),
+    ) != 0
 }
 
 // The places of a node that have a fingerprint, a word of eight at a time and without a branch. A word's answers
@@ -32,13 +29,10 @@ fn candidates(image: &[u64], g: Geometry, n: usize, print: u64) -> u64
         → p < 64
         → is_set result (8 * (p % 8) + p / 8) ≡ eqb (stored_fingerprint g (reads image.now) n p) print }
 {
-    let mut found: u64 = 0;
-    let mut j = 0;
-    while j < 8 {
-        found = (found >> 1) | equal_bytes(fingerprints_of(image, g, n, j), print);
-        j += 1;
-    }
-    found
+    (0..8).fold(
+        0,
+        |found, j| (found >> 1) | equal_bytes(fingerprints_of(image, g, n, j), print),
+    )
 }
 
 // Does a place that has the frame's fingerprint hold the frame? The caller has read the node's set word.

@@ -46,14 +46,13 @@ fn passed_in_eights(image: &[u64], g: Geometry, reel: u64) -> usize
         × NoneBelow (λ (s : ℕ). holds
         (is (filled (reads image.now) s) and eq (reads image.now (reel_at s)) reel)) result }
 {
-    let mut s = 0;
-    while s + 8 <= g.slots {
+    for eighth in 0..g.slots / 8 {
+        let s = 8 * eighth;
         if !(none_of_four(image, g, s, reel) & none_of_four(image, g, s + 4, reel)) {
             return s;
         }
-        s += 8;
     }
-    s
+    g.slots / 8 * 8
 }
 
 // A reel's slot: the lowest that is filled with its number; the number of slots where there is none.
@@ -61,14 +60,10 @@ pub fn slot_of(image: &[u64], g: Geometry, reel: u64) -> usize
     requires { Sized image.now g }
     ensures { result ≡ slot_of g (reads image.now) reel }
 {
-    let mut s = passed_in_eights(image, g, reel);
-    while s < g.slots {
-        if is_reel(image, g, s, reel) {
-            return s;
-        }
-        s += 1;
-    }
-    s
+    let start = passed_in_eights(image, g, reel);
+    (start..g.slots)
+        .find(|s| is_reel(image, g, *s, reel))
+        .unwrap_or(g.slots)
 }
 
 // The lowest empty slot; the number of slots where there is none.
@@ -76,12 +71,7 @@ pub fn empty_slot(image: &[u64], g: Geometry) -> usize
     requires { Sized image.now g }
     ensures { result ≡ empty_slot g (reads image.now) }
 {
-    let mut s = 0;
-    while s < g.slots {
-        if !is_filled(image, g, s) {
-            return s;
-        }
-        s += 1;
-    }
-    s
+    (0..g.slots)
+        .find(|s| !is_filled(image, g, *s))
+        .unwrap_or(g.slots)
 }

@@ -12,7 +12,7 @@ use Rattle.memory.specs.Words.{Memory}
 use Rattle.tree.specs.declared.layout.Geometry.{Geometry}
 use Rattle.tree.specs.declared.path.Spot.{Spot}
 use Rattle.tree.specs.declared.path.ClearPlace.{ClearPlace}
-use Rattle.tree.specs.declared.path.ClearPlace.TheVariants.{None, At}
+use Rattle.std.specs.Prelude.{Option as Optional, Some, None}
 use Rattle.tree.specs.Layout.{locate_at, size_at}
 use Rattle.tree.specs.Lookup.{spot, clear_at}
 use Rattle.tree.specs.Room.{left_at, clear_place}
@@ -47,40 +47,40 @@ module _ (g : Geometry) (m : Memory) where
 
   module _ (n : ℕ) where
     -- what the search says of a node
-    abbrev Says : ClearPlace → Type 0
+    abbrev Says : Optional ClearPlace → Type 0
     Says None = m (size_at g n) ≤ clear_at g m n
-    Says (At p left) = (p ≡ clear_at g m n) × (p < m (size_at g n)) × (left ≡ left_at g m (spot n p))
+    Says (Some c) = (c.place ≡ clear_at g m n) × (c.place < m (size_at g n)) × (c.left ≡ left_at g m (spot n c.place))
 
-    says : {x y : ClearPlace} → x ≡ clear_place g m n → x ≡ y → Says y
+    says : {x y : Optional ClearPlace} → x ≡ clear_place g m n → x ≡ y → Says y
     unfolding clear_place
     says e q = subst Says (sym e ∙ q) (elim (test (ltb (clear_at g m n) (m (size_at g n)))) [
       | inl h ↦ rw h (refl, ltb-true _ _ h, refl)
       | inr h ↦ rw h (ltb-false _ _ h)
     ])
 
-    module _ {seek : Bool} (sought : seek ≡ true) {clear : ℕ} (z : clear ≡ 0) {x : ClearPlace} (e : x ≡ clear_place g m n) where
+    module _ {seek : Bool} (sought : seek ≡ true) {clear : ℕ} (z : clear ≡ 0) {x : Optional ClearPlace} (e : x ≡ clear_place g m n) where
       none_yet : clear / 64 ≡ 0
       none_yet = omega (arith, z)
 
       pub clear_nowhere : x ≡ None → Next seek clear n 0
       clear_nowhere q = rw sought (found_nowhere (clears g m true) none_yet n (clear_at g m n) refl (says e q), none_told)
 
-      module _ {p left : ℕ} (q : x ≡ At p left) (small : m (size_at g n) ≤ 64) (fits : m (locate_at g n) < 2 ^ m (size_at g n)) where
+      module _ {c : ClearPlace} (q : x ≡ Some c) (small : m (size_at g n) ≤ 64) (fits : m (locate_at g n) < 2 ^ m (size_at g n)) where
         -- the place and the places left are below 64
-        pub few : (p < 64) × (left < 64)
+        pub few : (c.place < 64) × (c.left < 64)
         few =
             let s = says e q in
             let all = ones_clear (m (locate_at g n)) (m (size_at g n)) fits in
             let l = (left_laws g m).clear n fits (rw s.0 at s.1) in
-            let k : left ≡ left_at g m (spot n (clear_at g m n)) = s.2 ∙ ap (λ i. left_at g m (spot n i)) s.0 in
+            let k : c.left ≡ left_at g m (spot n (clear_at g m n)) = s.2 ∙ ap (λ i. left_at g m (spot n i)) s.0 in
             (omega (arith, s.1), omega (arith, all, l, k))
 
-        pub clear_here : Next seek clear n (64 * (64 * n + p + 1) + left)
+        pub clear_here : Next seek clear n (64 * (64 * n + c.place + 1) + c.left)
         clear_here =
             let s = says e q in
-            let number : (64 * (64 * n + p + 1) + left) / 64 ≡ 64 * n + p + 1 = omega (arith, few.1) in
-            let low : (64 * (64 * n + p + 1) + left) % 64 ≡ left = omega (arith, few.1) in
+            let number : (64 * (64 * n + c.place + 1) + c.left) / 64 ≡ 64 * n + c.place + 1 = omega (arith, few.1) in
+            let low : (64 * (64 * n + c.place + 1) + c.left) % 64 ≡ c.left = omega (arith, few.1) in
             rw (sought, number, low) (
-              found_here (clears g m true) none_yet n p s.0 few.0 s.1,
-              s.2 ∙ sym (ap (left_of g m) (number_spot n p few.0)),
+              found_here (clears g m true) none_yet n c.place s.0 few.0 s.1,
+              s.2 ∙ sym (ap (left_of g m) (number_spot n c.place few.0)),
             )

@@ -1,13 +1,13 @@
 -- A frame's path a node at a time, in the terms of the code that goes along it.
 use mathlib.Core.Path.{◌≡◌, refl, sym, ◌∙◌, ap}
-use mathlib.Core.Bool.{Bool, true, false, cond, not}
+use mathlib.Core.Bool.{Bool, true, false, cond}
 use mathlib.Core.Logic.{inl, inr}
 use mathlib.Core.Option.{Option, none, some}
 use mathlib.Core.List.{List, [], ◌∷◌, ◌++◌, append_assoc}
 use Prim.Native.Nat.{ℕ, zero, suc, ◌+◌, ◌-◌, ◌*◌, ◌/◌, ◌%◌, ◌≤◌, ◌<◌}
 use native.Mathlib.Numerals.{add-one}
 use native.Mathlib.Omega.{arith}
-use borrow.Author.Tests.{eq-eqb, ne_eqb, eqb-false, lt-ltb, le-ltb, not-true}
+use borrow.Author.Tests.{eq-eqb, ne_eqb, eqb-false, lt-ltb, le-ltb}
 use lib.Dec.{eqb, ltb}
 use lib.ListN.{length-append}
 use Rattle.memory.specs.Words.{Memory}
@@ -21,8 +21,7 @@ use Rattle.tree.specs.Lookup.{spot, before, path, first_spot, clear_at, clear_sp
 use Rattle.tree.proofs.Cases.{test}
 use Rattle.tree.proofs.Nodes.{children_inside}
 use Rattle.tree.proofs.Laws.{child_laws, node_laws}
-use Rattle.paths.specs.declared.descent.Step.{Step}
-use Rattle.paths.specs.declared.descent.Step.TheVariants.{End, Down}
+use Rattle.std.specs.Prelude.{Option as Optional, Some, None}
 use Rattle.paths.specs.Descent.{step_from, numbered, or_else, passed, Along, clear_if}
 
 -- a well-formed node is inside the pool, and so is the child to which a frame goes
@@ -36,17 +35,17 @@ module _ (g : Geometry) (m : Memory) (d n : ℕ) (h : well_formed g m d n ≡ tr
       (t.0, omega (arith, e, child_laws.below d f t.0, t.1))
 
 -- a path's nodes from a node on, by the step from it
-abbrev follow : ℕ → Step → (ℕ → Option (List ℕ)) → Option (List ℕ)
-follow n End below = some (n ∷ [])
-follow n (Down c) below = before n (below c)
+abbrev follow : ℕ → Optional ℕ → (ℕ → Option (List ℕ)) → Option (List ℕ)
+follow n None below = some (n ∷ [])
+follow n (Some c) below = before n (below c)
 
 module _ (g : Geometry) (m : Memory) (f d n : ℕ) where
   -- the two steps, by next
-  pub step_end : {next : ℕ} → next ≡ m (next_at g n) → next ≡ 0 → End ≡ step_from g m d n f
+  pub step_end : {next : ℕ} → next ≡ m (next_at g n) → next ≡ 0 → None ≡ step_from g m d n f
   unfolding step_from
   step_end {next} e z = rw (← e, eq-eqb next 0 z) refl
 
-  pub step_down : {next c : ℕ} → next ≡ m (next_at g n) → (next ≡ 0 → ⊥) → c ≡ child d f → Down (next - 1 + c) ≡ step_from g m d n f
+  pub step_down : {next c : ℕ} → next ≡ m (next_at g n) → (next ≡ 0 → ⊥) → c ≡ child d f → Some (next - 1 + c) ≡ step_from g m d n f
   unfolding step_from
   step_down {next} e z q = rw (← e, ne_eqb next 0 z, q) refl
 
@@ -64,11 +63,11 @@ module _ (g : Geometry) (m : Memory) (f d n : ℕ) where
       elim (test (eqb (m (next_at g n)) 0)) [ inl q ↦ rw (h, q) refl | inr q ↦ rw (e, add-one, h, q) refl ]
 
   -- a step down is from a level above 31
-  down_level : {x : Step} {c : ℕ} → well_formed g m d n ≡ true → x ≡ step_from g m d n f → x ≡ Down c → d < 31
+  down_level : {x : Optional ℕ} {c : ℕ} → well_formed g m d n ≡ true → x ≡ step_from g m d n f → x ≡ Some c → d < 31
   unfolding step_from
   down_level {c = c} h e z = elim (test (eqb (m (next_at g n)) 0)) [
     | inl q ↦
-        let y : End ≡ Down c = rw q at (sym e ∙ z) in
+        let y : None ≡ Some c = rw q at (sym e ∙ z) in
         let x : ◌≡◌ {A = ℕ} 0 1 = cc in
         absurd (omega arith)
     | inr q ↦ (child_inside g m d n h f refl (eqb-false (m (next_at g n)) 0 q)).0
@@ -89,19 +88,19 @@ along_start g m e s f l = record { low = l; count = omega arith; rest = passed_n
 
 -- from a node on: it is malformed, the path ends, or it goes down
 module _ {g : Geometry} {m : Memory} {e₀ s f : ℕ} {ns : List ℕ} {d n : ℕ} (a : Along g m e₀ s f ns d n) where
-  pub along_malformed : {ok : Bool} → ok ≡ well_formed g m d n → not ok ≡ true → path g m (32 - e₀) e₀ s f ≡ none
-  along_malformed e z = a.rest ∙ ap (passed ns) (path_malformed g m f d n (32 - d) (omega (arith, a.low)) (sym e ∙ not-true _ z))
+  pub along_malformed : {ok : Bool} → ok ≡ well_formed g m d n → ok ≡ false → path g m (32 - e₀) e₀ s f ≡ none
+  along_malformed e z = a.rest ∙ ap (passed ns) (path_malformed g m f d n (32 - d) (omega (arith, a.low)) (sym e ∙ z))
 
-  module _ {x : Step} (h : well_formed g m d n ≡ true) (e : x ≡ step_from g m d n f) where
-    along_step : {y : Step} → x ≡ y → path g m (32 - e₀) e₀ s f ≡ passed ns (follow n y (λ c. path g m (32 - d - 1) (d + 1) c f))
+  module _ {x : Optional ℕ} (h : well_formed g m d n ≡ true) (e : x ≡ step_from g m d n f) where
+    along_step : {y : Optional ℕ} → x ≡ y → path g m (32 - e₀) e₀ s f ≡ passed ns (follow n y (λ c. path g m (32 - d - 1) (d + 1) c f))
     along_step z =
         a.rest
         ∙ ap (passed ns) (path_step g m f d n (32 - d) (omega (arith, a.low)) h ∙ ap (λ y. follow n y (λ c. path g m (32 - d - 1) (d + 1) c f)) (sym e ∙ z))
 
-    pub along_end : x ≡ End → path g m (32 - e₀) e₀ s f ≡ some (ns ++ n ∷ [])
+    pub along_end : x ≡ None → path g m (32 - e₀) e₀ s f ≡ some (ns ++ n ∷ [])
     along_end z = along_step z
 
-    pub along_down : {c : ℕ} → x ≡ Down c → Along g m e₀ s f (ns ++ n ∷ []) (d + 1) c
+    pub along_down : {c : ℕ} → x ≡ Some c → Along g m e₀ s f (ns ++ n ∷ []) (d + 1) c
     along_down {c = c} z =
         let l = down_level g m f d n h e z in
         let k : 32 - d - 1 ≡ 32 - (d + 1) = omega arith in

@@ -21,11 +21,11 @@ use Rattle.tree.proofs.Cases.{test, seen, nothing, just}
 use Rattle.tree.proofs.Nodes.{some_size}
 use Rattle.tree.proofs.Laws.{left_laws}
 use Rattle.tree.proofs.PathNodes.{PathNodes, last_formed, last_nowhere}
-use Rattle.paths.specs.declared.descent.Seen.{Seen}
-use Rattle.paths.specs.declared.descent.Seen.TheVariants.{Nothing, At}
+use Rattle.std.specs.Prelude.{Option as Optional, Some, None, Result, Ok, Err}
+use Rattle.paths.specs.declared.descent.Trail.{Trail}
 use Rattle.paths.specs.declared.descent.Vacancy.{Vacancy}
-use Rattle.paths.specs.declared.descent.Placement.{Placement}
-use Rattle.paths.specs.declared.descent.Placement.TheVariants as placement
+use Rattle.paths.specs.declared.descent.NoVacancy.{NoVacancy}
+use Rattle.paths.specs.declared.descent.NoVacancy.TheVariants as no_vacancy
 use Rattle.paths.specs.Answers.{vacancy, placement_as, placement_on, placement_from}
 use Rattle.paths.specs.Descent.{spot_of, left_of, clear_if, room_at, vacancy_in}
 use Rattle.paths.proofs.Trails.{EndsAt}
@@ -33,11 +33,11 @@ use Rattle.paths.proofs.Trails.{EndsAt}
 -- ---- the room: a clear place, or by the last node's size
 
 module _ (g : Geometry) (m : Memory) (d n : ℕ) where
-  pub room_clear : {x : Seen} {t : Spot} (left : ℕ) → x ≡ At t → vacancy (Clear t) left ≡ vacancy_in left (room_at g m d n (spot_of x))
+  pub room_clear : {x : Optional Spot} {t : Spot} (left : ℕ) → x ≡ Some t → vacancy (Clear t) left ≡ vacancy_in left (room_at g m d n (spot_of x))
   unfolding room_at
   room_clear left e = rw e refl
 
-  module _ {x : Seen} {size : ℕ} (left : ℕ) (k : x ≡ Nothing) (e : size ≡ m (size_at g n)) where
+  module _ {x : Optional Spot} {size : ℕ} (left : ℕ) (k : x ≡ None) (e : size ≡ m (size_at g n)) where
     pub room_small : size < 64 → vacancy (ScaleUp n size) (size - 1) ≡ vacancy_in left (room_at g m d n (spot_of x))
     unfolding room_at
     room_small l = rw (k, ← e, lt-ltb size 64 l) refl
@@ -48,11 +48,11 @@ module _ (g : Geometry) (m : Memory) (d n : ℕ) where
 
 -- ---- what a claim finds
 
-pub placement_free : (v : Vacancy) {last : Bool} {x : Seen} → last ≡ at_level31 v.room → last ≡ false → x ≡ Nothing → placement.Free v ≡ placement_as v (spot_of x)
+pub placement_free : (v : Vacancy) {last : Bool} {x : Optional Spot} → last ≡ at_level31 v.room → last ≡ false → x ≡ None → Ok v ≡ placement_as v (spot_of x)
 placement_free v e z k = rw (sym e ∙ z, k) refl
 
 module _ (g : Geometry) (m : Memory) (s f : ℕ) where
-  pub placement_malformed : path_from g m s f ≡ none → placement.Malformed ≡ placement_from g m s f
+  pub placement_malformed : path_from g m s f ≡ none → Err no_vacancy.Malformed ≡ placement_from g m s f
   unfolding placement_from
   placement_malformed e = rw e refl
 
@@ -77,9 +77,9 @@ module _ (g : Geometry) (m : Memory) (s f : ℕ) where
     ]
   ]
 
-  pub placement_end : {n d l : ℕ} {found clear : Seen} {r : Placement} {v : Vacancy} → EndsAt g m true s f n d found clear l
-      → v ≡ vacancy_in l (room_at g m d n (spot_of clear))
-      → r ≡ placement_as v (spot_of found)
+  pub placement_end : {t : Trail} {r : Result Vacancy NoVacancy} {v : Vacancy} → EndsAt g m true s f t
+      → v ≡ vacancy_in t.left (room_at g m t.level t.node (spot_of t.clear))
+      → r ≡ placement_as v (spot_of t.found)
       → r ≡ placement_from g m s f
   unfolding placement_from placement_on room_on clear_if
   placement_end {v = v} a c q =

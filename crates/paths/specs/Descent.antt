@@ -1,5 +1,6 @@
 -- The way along a frame's path, node by node.
 use Rattle.std.specs.Prelude.{◌≡◌, Bool, cond, List, ◌++◌, ℕ, ◌+◌, ◌-◌, ◌/◌, ◌%◌, ◌≤◌, eqb, ltb, length}
+use Rattle.std.specs.Prelude.{Option as Optional, Some, None, Result, Ok, Err}
 use Rattle.std.proofs.Math.Option.{Option, none, some}
 use Rattle.memory.specs.Words.{Memory}
 use Rattle.tree.specs.declared.layout.Geometry.{Geometry}
@@ -12,24 +13,19 @@ use Rattle.tree.specs.Node.{child_of}
 use Rattle.tree.specs.Fingerprint.{rule_of}
 use Rattle.tree.specs.Lookup.{spot, path, lookup, clear_spot}
 use Rattle.tree.specs.Room.{last_of, left_at}
-use Rattle.paths.specs.declared.descent.Step.{Step}
-use Rattle.paths.specs.declared.descent.Step.TheVariants.{End, Down}
-use Rattle.paths.specs.declared.descent.Seen.{Seen}
-use Rattle.paths.specs.declared.descent.Seen.TheVariants.{Nothing, At}
+use Rattle.paths.specs.declared.descent.Malformed.{Malformed}
 use Rattle.paths.specs.declared.descent.Trail.{Trail}
-use Rattle.paths.specs.declared.descent.Trail.TheVariants as trail
-use Rattle.paths.specs.declared.descent.Trail.TheVariants.{Ended}
 use Rattle.paths.specs.declared.descent.Vacancy.{Vacancy}
 use Rattle.paths.specs.Answers.{on_path, seen_as, vacancy}
 
--- how a frame's path goes on from a node of a level
-unfoldable pub step_from : Geometry → Memory → (level node frame : ℕ) → Step
-step_from g m d n f = cond (eqb (m (next_at g n)) 0) End (Down (child_of g m n (child d f)))
+-- the child to which a frame's path goes on from a node of a level, unless it ends there
+unfoldable pub step_from : Geometry → Memory → (level node frame : ℕ) → Optional ℕ
+step_from g m d n f = cond (eqb (m (next_at g n)) 0) None (Some (child_of g m n (child d f)))
 
 -- the spot that a search has seen
-abbrev pub spot_of : Seen → Option Spot
-spot_of Nothing = none
-spot_of (At t) = some t
+abbrev pub spot_of : Optional Spot → Option Spot
+spot_of None = none
+spot_of (Some t) = some t
 
 -- the spot that a number stands for: 0 for none, else one more than the place's among all places of the pool
 unfoldable pub numbered : ℕ → Option Spot
@@ -66,14 +62,20 @@ clear_if g m seek ns = cond seek (clear_spot g m ns) none
 
 -- how a walk along nodes ends, the first of them of level d: at the last, with the frame's place that comes first, and the clear place
 -- that does and the places left, where one is sought
-unfoldable pub trail_on : Geometry → Memory → (seek : Bool) → (level frame : ℕ) → List ℕ → Trail
+unfoldable pub trail_on : Geometry → Memory → (seek : Bool) → (level frame : ℕ) → List ℕ → Result Trail Malformed
 trail_on g m seek d f ns =
     let clear = clear_if g m seek ns in
-    Ended (last_of ns) (d + length ns - 1) (seen_as (lookup (rule_of m) g m f ns)) (seen_as clear) (left_of g m clear)
+    Ok (record {
+      node = last_of ns;
+      level = d + length ns - 1;
+      found = seen_as (lookup (rule_of m) g m f ns);
+      clear = seen_as clear;
+      left = left_of g m clear;
+    })
 
 -- and along a frame's path from a node of level d on
-unfoldable pub trail_from : Geometry → Memory → (seek : Bool) → (level node frame : ℕ) → Trail
-trail_from g m seek d n f = on_path trail.Malformed (trail_on g m seek d f) (path g m (32 - d) d n f)
+unfoldable pub trail_from : Geometry → Memory → (seek : Bool) → (level node frame : ℕ) → Result Trail Malformed
+trail_from g m seek d n f = on_path (Err (record {})) (trail_on g m seek d f) (path g m (32 - d) d n f)
 
 -- the room on a path that ends at a node of a level: what was found clear, or else by the node's size
 unfoldable pub room_at : Geometry → Memory → (level node : ℕ) → (clear : Option Spot) → Room

@@ -27,8 +27,7 @@ use Rattle.tree.proofs.Cases.{test, seen, nothing, just}
 use Rattle.tree.proofs.Lists.{up_to_members, every_at, every_flat_map}
 use Rattle.tree.proofs.Nodes.{children_inside}
 use Rattle.tree.proofs.Laws.{child_laws, node_laws}
-use Rattle.paths.specs.declared.descent.Step.{Step}
-use Rattle.paths.specs.declared.descent.Step.TheVariants.{End, Down}
+use Rattle.std.specs.Prelude.{Option as Optional, Some, None}
 use Rattle.paths.specs.Descent.{step_from, trail_on, trail_from}
 use Rattle.visits.specs.Walk.{group_stops, formed_at}
 use Rattle.settled.specs.Settled.{Formed, is_absent, absent_below, holds_at, settled_at, settled_node}
@@ -104,9 +103,9 @@ module _ (g : Geometry) (m : Memory) where
         ])
 
     -- what the step from such a node tells of those below
-    abbrev Tells : (left n : ℕ) → Step → Type 0
-    Tells left n End = true ≡ absent_below g m left (levels - left) n f
-    Tells left n (Down c) = (33 - left ≤ 31) × (is_absent (trail_from g m false (33 - left) c f) ≡ absent_below g m left (levels - left) n f)
+    abbrev Tells : (left n : ℕ) → Optional ℕ → Type 0
+    Tells left n None = true ≡ absent_below g m left (levels - left) n f
+    Tells left n (Some c) = (33 - left ≤ 31) × (is_absent (trail_from g m false (33 - left) c f) ≡ absent_below g m left (levels - left) n f)
 
     step_tells : (left : ℕ) {n : ℕ} → Formed g m left n → Tells left n (step_from g m (levels - left) n f)
     unfolding absent_below step_from
@@ -122,7 +121,7 @@ module _ (g : Geometry) (m : Memory) where
           rw z (rw (z, next) (omega (arith, below.some_left), rw rest at (trail_absent (33 - suc left) c) ∙ rw level (path_absent left below)))
     ]
 
-    pub told_below : {left n : ℕ} {x y : Step} → Formed g m left n → x ≡ step_from g m (levels - left) n f → x ≡ y → Tells left n y
+    pub told_below : {left n : ℕ} {x y : Optional ℕ} → Formed g m left n → x ≡ step_from g m (levels - left) n f → x ≡ y → Tells left n y
     told_below {left} {n} a e z = subst (Tells left n) (sym e ∙ z) (step_tells left a)
 
   -- ---- the frame of a place

@@ -1,5 +1,5 @@
 -- Recovery's test of the frames of a tree whose nodes are known to be well formed: each is settled where it is held.
-use Rattle.std.specs.Prelude.{◌≡◌, Bool, true, false, cond, ◌&&◌, List, ℕ, zero, suc, ◌+◌, ◌-◌, ◌*◌, ◌%◌, ◌^◌, ◌≤◌, ◌<◌, length, eqb, leb}
+use Rattle.std.specs.Prelude.{◌≡◌, Bool, true, false, cond, ◌&&◌, List, ℕ, zero, suc, ◌+◌, ◌-◌, ◌*◌, ◌%◌, ◌^◌, ◌≤◌, ◌<◌, length, eqb, leb, Result, Ok, Err, is_none}
 use Rattle.memory.specs.Words.{Memory}
 use Rattle.memory.specs.Search.{first}
 use Rattle.tree.specs.Test.{is, eq, ◌and◌, holds}
@@ -12,9 +12,8 @@ use Rattle.tree.specs.Node.{child_of, held, frame, stored_fingerprint}
 use Rattle.tree.specs.Lookup.{found_at}
 use Rattle.tree.specs.Pool.{used}
 use Rattle.tree.specs.Subtree.{children, held_places}
-use Rattle.paths.specs.declared.descent.Seen.TheVariants.{Nothing, At}
+use Rattle.paths.specs.declared.descent.Malformed.{Malformed}
 use Rattle.paths.specs.declared.descent.Trail.{Trail}
-use Rattle.paths.specs.declared.descent.Trail.TheVariants.{Malformed, Ended}
 use Rattle.visits.specs.Walk.{stops, formed_at}
 use Rattle.settled.specs.declared.frames.Subtree.{Subtree}
 
@@ -40,10 +39,9 @@ pub record Met (g : Geometry) (m : Memory) (n : ℕ) (passed : ℕ → Type 0) (
   pub each : (p : ℕ) → passed p → held g m n p ≡ true → used map (fingerprint (rule_of m) (frame g m n p)) ≡ true
 
 -- a walk along a frame's path ends, and without the frame
-abbrev pub is_absent : Trail → Bool
-is_absent Malformed = false
-is_absent (Ended n d Nothing clear left) = true
-is_absent (Ended n d (At t) clear left) = false
+abbrev pub is_absent : Result Trail Malformed → Bool
+is_absent (Err e) = false
+is_absent (Ok t) = is_none t.found
 
 module _ (g : Geometry) (m : Memory) where
   -- the lookup finds a frame in no node of its path below this one, levels left

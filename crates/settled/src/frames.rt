@@ -17,28 +17,16 @@ ghost use Rattle.settled.specs.Settled.{settled_at, settled_node, settled_tree, 
 
 use fingerprints::fingerprint::{fold, table_in};
 use memory::words::{byte_of, is_set, without_bit};
-use paths::descent::{Seen, Step, Trail, step_from, walk};
+use paths::descent::{Malformed, Trail, step_from, walk};
 use pool::pool_map::{is_used, mark};
 use tree::layout::{Geometry, SET, fingerprints_of, frame_of, next_of, root_of, word_of};
 use tree::path::fanout;
 
 // Does a walk end, and without the frame?
-fn is_absent(trail: Trail) -> bool
-    ensures { result ≡ is_absent trail }
+fn is_absent(end: Result<Trail, Malformed>) -> bool
+    ensures { result ≡ is_absent end }
 {
-    match trail {
-        Trail::Malformed => false,
-        Trail::Ended {
-            node: _,
-            level: _,
-            found,
-            clear: _,
-            left: _,
-        } => match found {
-            Seen::Nothing => true,
-            Seen::At(_) => false,
-        },
-    }
+    matches!(end, Ok(Trail { found: None, .. }))
 }
 
 // Does the lookup find a frame in no node of its path below this one?
@@ -49,8 +37,8 @@ fn absent_below(image: &[u64], g: Geometry, left: u64, n: usize, frame: u64, pri
     ensures { result ≡ absent_below g (reads image.now) left (levels - left) n frame }
 {
     match step_from(image, g, 32 - left, n, frame) {
-        Step::End => true,
-        Step::Down(below) => is_absent(walk(image, g, 33 - left, below, frame, print, false)),
+        None => true,
+        Some(below) => is_absent(walk(image, g, 33 - left, below, frame, print, false)),
     }
 }
 
@@ -70,14 +58,9 @@ fn first_held(image: &[u64], g: Geometry, n: usize, frame: u64, bound: usize) ->
     ensures { result ≡ first (holds_at g (reads image.now) n frame) bound }
 {
     let set = word_of(image, g, n, SET);
-    let mut q = 0;
-    while q < bound {
-        if is_set(set, q as u32) & (frame_of(image, g, n, q) == frame) {
-            return q;
-        }
-        q += 1;
-    }
-    bound
+    (0..bound)
+        .find(|q| is_set(set, *q as u32) & (frame_of(image, g, n, *q) == frame))
+        .unwrap_or(bound)
 }
 
 // Is the frame of a place settled: on its path, with its fingerprint, in no lower place of its node and in no node below? The
@@ -171,8 +154,7 @@ fn settled_group(image: &[u64], table: &[u8], g: Geometry, t: Subtree, count: us
     ensures { result ≡ settled_group g (reads image.now) t.left (levels - t.left) t.node count t.unit t.suffix }
 {
     let mut own = t.suffix;
-    let mut c = 0;
-    while c < count {
+    for c in 0..count {
         let child = Subtree {
             left: t.left,
             node: t.node + c,
@@ -183,7 +165,6 @@ fn settled_group(image: &[u64], table: &[u8], g: Geometry, t: Subtree, count: us
             return false;
         }
         own += t.unit;
-        c += 1;
     }
     true
 }

@@ -1,6 +1,7 @@
 -- Where there is room for a frame on its path: what a claim takes.
 use Rattle.std.specs.Prelude.{Bool, false, cond, not, List, [], ◌∷◌, ℕ, ◌-◌, ◌*◌, length, eqb, ltb}
 use Rattle.std.proofs.Math.Option.{Option, none, some}
+use Rattle.std.specs.Prelude.{Option as Optional, Some, None}
 use Rattle.std.specs.Int.Count.{ones}
 use Rattle.memory.specs.Words.{Memory, is_set, with_bit}
 use Rattle.tree.specs.declared.layout.Geometry.{Geometry}
@@ -11,7 +12,6 @@ use Rattle.tree.specs.Lists.{up_to, keep}
 use Rattle.tree.specs.Path.{fanout}
 use Rattle.tree.specs.declared.path.Spot.{Spot}
 use Rattle.tree.specs.declared.path.ClearPlace.{ClearPlace}
-use Rattle.tree.specs.declared.path.ClearPlace.TheVariants as clear
 use Rattle.tree.specs.Lookup.{spot, clear_at, clear_spot}
 
 -- the last node of a path
@@ -49,8 +49,10 @@ module _ (g : Geometry) (m : Memory) where
   places_left (BranchOut parent d) = 64 - ones (with_bit 0 0)
 
   -- the search for a place in a node: its lowest clear place, and the places left
-  unfoldable pub clear_place : ℕ → ClearPlace
-  clear_place n = cond (ltb (clear_at g m n) (m (size_at g n))) (clear.At (clear_at g m n) (left_at (spot n (clear_at g m n)))) clear.None
+  unfoldable pub clear_place : ℕ → Optional ClearPlace
+  clear_place n =
+      let p = clear_at g m n in
+      cond (ltb p (m (size_at g n))) (Some (record { place = p; left = left_at (spot n p) })) None
 
 -- how many nodes it takes from the pool
 abbrev pub needs : Room → ℕ

@@ -9,13 +9,11 @@ pub struct Spot {
     pub place: usize,
 }
 
-// What the search for a place finds in a node.
+// The lowest clear place of a node, and how many the node has left once it is taken.
 #[derive(Clone, Copy)]
-pub enum ClearPlace {
-    // Every place is taken.
-    None,
-    // The lowest clear place, and how many the node has left once it is taken.
-    At { place: usize, left: usize },
+pub struct ClearPlace {
+    pub place: usize,
+    pub left: usize,
 }
 
 // Where there is room for a frame on its path.

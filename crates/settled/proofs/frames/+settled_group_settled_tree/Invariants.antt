@@ -1,4 +1,4 @@
-use Rattle.std.proofs.Common.{◌-◌, ◌+◌, ◌*◌}
+use Rattle.std.proofs.Common.{◌+◌, ◌*◌}
 use Rattle.memory.specs.Words.{reads}
 use Rattle.settled.proofs.SettledGroups.{Passed}
 use Rattle.settled.proofs.frames.+settled_group_settled_tree.Given as goal
@@ -12,6 +12,3 @@ decreases-settled_tree l = 2 * l.t.left
 
 abbrev pub invariant-settled_group-loop-c : goal.invariant-settled_group-loop-c
 invariant-settled_group-loop-c l = Passed l.g (reads l.image) l.t.left l.t.node l.count l.t.unit l.t.suffix l.own l.c
-
-abbrev pub decreases-settled_group-loop-c : goal.decreases-settled_group-loop-c
-decreases-settled_group-loop-c l = l.count - l.c

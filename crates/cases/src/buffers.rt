@@ -1,101 +1,115 @@
-// Words of a buffer put and shown. A place past its end is a mistake of the line.
-use crate::command::{ALL, Command, PUT, RAMP};
-use crate::lent::least;
-use crate::print;
-use std::io;
+// The buffers of a driver, and how much of each is lent.
+ghost use Rattle.std.specs.Prelude.{◌≡◌, ◌≤◌, ◌↔◌, IsOk, length, min, replicate, take};
 
-// The most words that a line puts: its values but the first two.
-const PUTS: usize = 6;
+use crate::outcome::Mistake;
+use std::str::FromStr;
 
-pub fn run_words(rt: &impl Print, command: Command, buffer: &mut [u64]) -> io::Result<()> {
-    let name = command.name;
-    let n = buffer.len() as u64;
-    match name {
-        PUT => print::end(rt, put(buffer, command)),
-        ALL => print::end(rt, ramp(buffer, 0, 1, n, command.b, 0)),
-        RAMP => print::end(
-            rt,
-            ramp(
-                buffer, command.b, command.c, command.d, command.e, command.f,
-            ),
-        ),
-        _ => show(rt, buffer, command.b as usize, command.c as usize),
-    }
+// Words of which the first are lent to the operations.
+#[derive(Clone, Copy)]
+pub struct Buffer<const N: usize> {
+    pub words: [u64; N],
+    pub lent: usize,
+    ghost inside: { lent ≤ N },
 }
 
-// Are all of them inside?
-fn put(buffer: &mut [u64], command: Command) -> bool {
-    let words = [
-        command.c, command.d, command.e, command.f, command.g, command.h,
-    ];
-    let end = least(command.count, PUTS + 2);
-    let mut at = command.b as usize;
-    let mut i = 2;
-    while i < end {
-        if buffer.len() <= at {
-            return false;
+impl<const N: usize> Buffer<N> {
+    // All words 0, and none lent.
+    pub fn new() -> Self
+        ensures words { result.words ≡ replicate N 0 }
+        ensures lent { result.lent ≡ 0 }
+    {
+        Self {
+            words: [0; N],
+            lent: 0,
         }
-        buffer[at] = words[i - 2];
-        at += 1;
-        i += 1;
     }
-    true
-}
 
-fn ramp(buffer: &mut [u64], from: u64, step: u64, words: u64, value: u64, rise: u64) -> bool {
-    let mut at = from;
-    let mut left = words;
-    let mut word = value;
-    while left > 0 {
-        let place = at as usize;
-        if buffer.len() <= place {
-            return false;
+    // Lends so many words from now on, or all where there are not so many, which is a mistake.
+    pub fn lend(&mut self, words: usize) -> Result<(), Mistake>
+        ensures lent { self.new.lent ≡ min words N }
+        ensures variant { IsOk result ↔ (words ≤ N) }
+        ensures same_words { self.new.words ≡ self.old.words }
+    {
+        self.lent = words.min(N);
+        if words <= N {
+            Ok(())
+        } else {
+            Err(Mistake::NoSuchPlace)
         }
-        buffer[place] = word;
-        at = std::num::wrapping_add_u64(at, step);
-        word = std::num::wrapping_add_u64(word, rise);
-        left -= 1;
     }
-    true
+
+    pub fn lent(&self) -> &[u64]
+        ensures value { result.now ≡ take self.now.lent self.now.words }
+        ensures length { length result.now ≤ N }
+    {
+        &self.words[..self.lent]
+    }
+
+    pub fn lent_mut(&mut self) -> &mut [u64]
+        ensures { result.now ≡ take self.old.lent self.old.words }
+    {
+        let lent = self.lent;
+        let words = &mut self.words;
+        &mut words[..lent]
+    }
 }
 
-fn show(rt: &impl Print, buffer: &[u64], start: usize, count: usize) -> io::Result<()> {
-    let shown = part(buffer, start, count);
-    if shown.len() == count {
-        print::words(rt, shown)
-    } else {
-        print::end(rt, false)
-    }
+// The buffers by name, in the sequence of their numbers.
+#[derive(Clone, Copy)]
+pub enum Name {
+    Image,
+    Map,
+    Heads,
+    Scratch,
+    Script,
+    List,
+    Table,
+    Copy,
+    Module,
 }
 
-// Exchanges the words of two buffers of one length.
-pub fn swap(a: &mut [u64], b: &mut [u64]) -> bool {
-    if a.len() != b.len() {
-        return false;
-    }
-    let mut left = a.len();
-    while left > 0 {
-        left -= 1;
-        if a.len() <= left {
-            return false;
+impl FromStr for Name {
+    ghost use Rattle.cases.specs.Buffers.{Spelled};
+
+    type Err = Mistake;
+
+    ghost from_str_gives = { Spelled };
+
+    fn from_str(word: &str) -> Result<Self, Mistake> {
+        match word {
+            "image" => Ok(Name::Image),
+            "map" => Ok(Name::Map),
+            "heads" => Ok(Name::Heads),
+            "scratch" => Ok(Name::Scratch),
+            "script" => Ok(Name::Script),
+            "list" => Ok(Name::List),
+            "table" => Ok(Name::Table),
+            "copy" => Ok(Name::Copy),
+            "module" => Ok(Name::Module),
+            _ => Err(Mistake::Unreadable),
         }
-        if b.len() <= left {
-            return false;
-        }
-        let word = a[left];
-        a[left] = b[left];
-        b[left] = word;
     }
-    true
 }
 
-// So many words from a place on, or none where there are not so many.
-pub fn part(words: &[u64], start: usize, count: usize) -> &[u64] {
-    if words.len() < start {
-        return &words[..0];
+impl TryFrom<u64> for Name {
+    ghost use Rattle.cases.specs.Buffers.{Numbered};
+
+    type Error = Mistake;
+
+    ghost try_from_gives = { Numbered };
+
+    fn try_from(number: u64) -> Result<Self, Mistake> {
+        match number {
+            0 => Ok(Name::Image),
+            1 => Ok(Name::Map),
+            2 => Ok(Name::Heads),
+            3 => Ok(Name::Scratch),
+            4 => Ok(Name::Script),
+            5 => Ok(Name::List),
+            6 => Ok(Name::Table),
+            7 => Ok(Name::Copy),
+            8 => Ok(Name::Module),
+            _ => Err(Mistake::NoSuchPlace),
+        }
     }
-    if words.len() - start < count {
-        return &words[..0];
-    }
-    &words[start..start + count]
 }

@@ -1,136 +1,159 @@
-// The operations called, with the values behind the command.
-use crate::command::{
-    CLAIM, COMMIT, Command, FILL, FORMAT, HAS, OPEN, RECOVER, REMOVE, RETIRE, TIDY,
-};
-use crate::lent::{TABLE_WORDS, least};
-use crate::print;
+// The operations called over the words that are lent.
+use crate::command::{Frames, Operation, Scripted};
+use crate::driver::{Driver, TABLE_WORDS};
+use crate::outcome::Answer;
 use reelbook::{
-    HEAD_WORDS, reelbook_abandon, reelbook_apply, reelbook_claim, reelbook_commit, reelbook_fill,
-    reelbook_format, reelbook_has, reelbook_list, reelbook_open, reelbook_recover, reelbook_remove,
-    reelbook_retire, reelbook_tidy, reelbook_translate,
+    reelbook_abandon, reelbook_apply, reelbook_claim, reelbook_commit, reelbook_convert,
+    reelbook_fill, reelbook_format, reelbook_has, reelbook_list, reelbook_open, reelbook_recover,
+    reelbook_remove, reelbook_retire, reelbook_tidy, reelbook_translate,
 };
-use std::io;
 
 // What stands where a count is handed back, or the places left or the number of nodes on a path are, before they are.
-pub const NO_COUNT: u64 = 999;
+const NO_COUNT: u64 = 999;
 
-// Format, Recover, Carry out.
-pub fn run_whole(
-    rt: &impl Print,
-    command: Command,
-    image: &mut [u64],
-    map: &mut [u64],
-    heads: &mut [u64; HEAD_WORDS],
-    script: &[u64],
-    table: &[u64],
-) -> io::Result<()> {
-    let name = command.name;
-    match name {
-        FORMAT => print::answer(
-            rt,
-            call_format(image, map, heads, table, command.a, command.b),
-        ),
-        RECOVER => print::answer(rt, reelbook_recover(image, map, heads)),
-        _ => print::answer(rt, reelbook_apply(image, script)),
-    }
-}
-
-// The table is lent as bytes: the lowest of each word.
-fn call_format(
-    image: &mut [u64],
-    map: &mut [u64],
-    heads: &mut [u64; HEAD_WORDS],
-    table: &[u64],
-    slots: u64,
-    nodes: u64,
-) -> u64 {
-    let mut bytes = [0u8; TABLE_WORDS];
-    let n = least(table.len(), TABLE_WORDS);
-    put_low_bytes(table, &mut bytes);
-    reelbook_format(image, map, heads, &bytes[..n], slots, nodes)
-}
-
-fn put_low_bytes(words: &[u64], bytes: &mut [u8]) {
-    let end = least(words.len(), bytes.len());
-    let mut i = 0;
-    while i < end {
-        bytes[i] = (words[i] % 256) as u8;
-        i += 1;
-    }
-}
-
-// Has, List.
-pub fn run_query(
-    rt: &impl Print,
-    command: Command,
-    image: &[u64],
-    scratch: &mut [u64],
-    list: &mut [u64],
-) -> io::Result<()> {
-    let name = command.name;
-    let mut count = NO_COUNT;
-    let mut nodes = NO_COUNT;
-    match name {
-        HAS => {
-            let number = reelbook_has(image, command.a, command.b, &mut count, &mut nodes);
-            print::told(rt, number, count, nodes)
+impl Driver {
+    pub fn call(&mut self, operation: Operation) -> Answer {
+        match operation {
+            Operation::Format { slots, nodes } => self.format(slots, nodes),
+            Operation::Recover => self.recover(),
+            Operation::Apply => reelbook_apply(self.image.lent_mut(), self.script.lent()).into(),
+            Operation::Replay => reelbook_apply(self.image.lent_mut(), self.flushed.lent()).into(),
+            Operation::Scripted(operation) => self.write_script(operation),
+            Operation::Add(frames) => self.add(frames),
+            Operation::Has { reel, frame } => self.has(reel, frame),
+            Operation::List { reel } => self.list(reel),
+            Operation::Convert => self.convert(),
+            Operation::Translate { words } => self.translate(words),
         }
-        _ => print::counted(
-            rt,
-            reelbook_list(image, scratch, list, command.a, &mut count),
-            count,
-        ),
     }
-}
 
-// The script translated for an image of so many words.
-pub fn run_translate(
-    rt: &impl Print,
-    command: Command,
-    script: &[u64],
-    flushed: &mut [u64],
-) -> io::Result<()> {
-    let mut used = NO_COUNT;
-    let number = reelbook_translate(script, flushed, command.a, &mut used);
-    print::counted(rt, number, used)
-}
-
-// The others, which write a script.
-pub fn call_scripted(
-    name: u64,
-    image: &[u64],
-    map: &mut [u64],
-    heads: &mut [u64; HEAD_WORDS],
-    scratch: &mut [u64],
-    script: &mut [u64],
-    a: u64,
-    b: u64,
-    c: u64,
-    used: &mut u64,
-    left: &mut u64,
-) -> u64 {
-    match name {
-        OPEN => reelbook_open(image, map, script, a, used),
-        CLAIM => reelbook_claim(image, map, heads, script, a, b, c, used, left),
-        REMOVE => reelbook_remove(image, heads, script, a, b, used),
-        RETIRE => reelbook_retire(image, map, heads, scratch, script, a, used),
-        TIDY => reelbook_tidy(image, map, heads, scratch, script, a, used),
-        _ => call_head(name, image, heads, script, a, used),
+    // The table is lent as bytes: the lowest of each word.
+    fn format(&mut self, slots: u64, nodes: u64) -> Answer {
+        let mut bytes = [0; TABLE_WORDS];
+        let table = self.table.lent();
+        for (byte, word) in bytes.iter_mut().zip(table) {
+            *byte = (*word % 256) as u8;
+        }
+        let bytes = &bytes[..table.len()];
+        let image = self.image.lent_mut();
+        let map = self.map.lent_mut();
+        reelbook_format(image, map, &mut self.heads, bytes, slots, nodes).into()
     }
-}
 
-// Fill, Commit, Abandon.
-fn call_head(
-    name: u64,
-    image: &[u64],
-    heads: &mut [u64; HEAD_WORDS],
-    script: &mut [u64],
-    head: u64,
-    used: &mut u64,
-) -> u64 {
-    match name {
-        FILL => reelbook_fill(image, heads, script, head, used),
-        COMMIT => reelbook_commit(image, heads, script, head, used),
-        _ => reelbook_abandon(image, heads, script, head, used),
+    fn recover(&mut self) -> Answer {
+        let image = self.image.lent_mut();
+        reelbook_recover(image, self.map.lent_mut(), &mut self.heads).into()
+    }
+
+    // An operation that writes a script, which is carried out, unless it is held.
+    fn write_script(&mut self, operation: Scripted) -> Answer {
+        let mut used = NO_COUNT;
+        let mut left = NO_COUNT;
+        let number = self.call_scripted(operation, &mut used, &mut left);
+        if !self.held {
+            self.carry_out(used as usize);
+        }
+        let answer = Answer::counted(number, used);
+        match operation {
+            Scripted::Claim { .. } => Answer {
+                more: Some(left),
+                ..answer
+            },
+            _ => answer,
+        }
+    }
+
+    fn call_scripted(&mut self, operation: Scripted, used: &mut u64, left: &mut u64) -> u64 {
+        let image = self.image.lent();
+        let map = self.map.lent_mut();
+        let heads = &mut self.heads;
+        let scratch = self.scratch.lent_mut();
+        let script = self.script.lent_mut();
+        match operation {
+            Scripted::Open { reel } => reelbook_open(image, map, script, reel, used),
+            Scripted::Claim { head, reel, frame } => {
+                reelbook_claim(image, map, heads, script, head, reel, frame, used, left)
+            }
+            Scripted::Fill { head } => reelbook_fill(image, heads, script, head, used),
+            Scripted::Commit { head } => reelbook_commit(image, heads, script, head, used),
+            Scripted::Abandon { head } => reelbook_abandon(image, heads, script, head, used),
+            Scripted::Remove { reel, frame } => {
+                reelbook_remove(image, heads, script, reel, frame, used)
+            }
+            Scripted::Retire { reel } => {
+                reelbook_retire(image, map, heads, scratch, script, reel, used)
+            }
+            Scripted::Tidy { reel } => {
+                reelbook_tidy(image, map, heads, scratch, script, reel, used)
+            }
+        }
+    }
+
+    // Carries out the first words of the script.
+    fn carry_out(&mut self, used: usize) {
+        if let Some(written) = self.script.lent().get(..used) {
+            reelbook_apply(self.image.lent_mut(), written);
+        }
+    }
+
+    // Claims, fills and commits frames with head 0, up to the first answer that is not 0: what the last operation answers. How
+    // many operations that is may wrap.
+    fn add(&mut self, frames: Frames) -> Answer {
+        let mut answer = Answer::counted(0, NO_COUNT);
+        for i in 0..frames.count.wrapping_mul(3) {
+            let rise = frames.step.wrapping_mul(i / 3);
+            let operation = match i % 3 {
+                0 => Scripted::Claim {
+                    head: 0,
+                    reel: frames.reel,
+                    frame: frames.first.wrapping_add(rise),
+                },
+                1 => Scripted::Fill { head: 0 },
+                _ => Scripted::Commit { head: 0 },
+            };
+            answer = Answer {
+                more: None,
+                ..self.write_script(operation)
+            };
+            if answer.number != 0 {
+                break;
+            }
+        }
+        answer
+    }
+
+    fn has(&self, reel: u64, frame: u64) -> Answer {
+        let mut held = NO_COUNT;
+        let mut nodes = NO_COUNT;
+        let number = reelbook_has(self.image.lent(), reel, frame, &mut held, &mut nodes);
+        Answer {
+            more: Some(nodes),
+            ..Answer::counted(number, held)
+        }
+    }
+
+    fn list(&mut self, reel: u64) -> Answer {
+        let mut count = NO_COUNT;
+        let number = reelbook_list(
+            self.image.lent(),
+            self.scratch.lent_mut(),
+            self.list.lent_mut(),
+            reel,
+            &mut count,
+        );
+        Answer::counted(number, count)
+    }
+
+    fn convert(&mut self) -> Answer {
+        let copy = self.copy.lent_mut();
+        reelbook_convert(self.image.lent(), copy, self.scratch.lent_mut()).into()
+    }
+
+    // The script translated for an image of so many words.
+    fn translate(&mut self, words: u64) -> Answer {
+        let mut used = NO_COUNT;
+        let flushed = self.flushed.lent_mut();
+        let number = reelbook_translate(self.script.lent(), flushed, words, &mut used);
+        Answer::counted(number, used)
     }
 }

@@ -1,139 +1,113 @@
-// The commands.
-use crate::print;
-use crate::values::{VALUES, index_of, place_of, read_values};
-use std::io;
+// The commands, each with its values.
+use crate::buffers::Name;
+use crate::words::Words;
 
-// Their numbers, in the sequence of their names below. First the operations that write to the image, that write a script, and
-// that only read.
-pub const FORMAT: u64 = 0;
-
-pub const RECOVER: u64 = 1;
-
-pub const APPLY: u64 = 2;
-
-pub const OPEN: u64 = 3;
-
-pub const CLAIM: u64 = 4;
-
-pub const FILL: u64 = 5;
-
-pub const COMMIT: u64 = 6;
-
-pub const ABANDON: u64 = 7;
-
-pub const REMOVE: u64 = 8;
-
-pub const RETIRE: u64 = 9;
-
-pub const TIDY: u64 = 10;
-
-pub const ADD: u64 = 11;
-
-pub const HAS: u64 = 12;
-
-pub const LIST: u64 = 13;
-
-pub const CONVERT: u64 = 14;
-
-pub const TRANSLATE: u64 = 15;
-
-pub const CRASH: u64 = 16;
-
-pub const SWAP: u64 = 17;
-
-pub const REPLAY: u64 = 18;
-
-pub const PUT: u64 = 19;
-
-pub const ALL: u64 = 20;
-
-pub const RAMP: u64 = 21;
-
-pub const SHOW: u64 = 22;
-
-pub const LEND: u64 = 23;
-
-pub const HOLD: u64 = 24;
-
-pub const CARRY: u64 = 25;
-
-// An empty line or one that starts with #; and one that cannot be read.
-pub const HEADING: u64 = 26;
-
-pub const UNKNOWN: u64 = 27;
-
-// A command's number, how many values stand behind it, and the values.
 #[derive(Clone, Copy)]
-pub struct Command {
-    pub name: u64,
-    pub count: usize,
-    pub a: u64,
-    pub b: u64,
-    pub c: u64,
-    pub d: u64,
-    pub e: u64,
-    pub f: u64,
-    pub g: u64,
-    pub h: u64,
+pub enum Command<'a> {
+    Operation(Operation),
+    Crash { reel: u64, maps: [u64; 2] },
+    Words { buffer: Name, words: Words<'a> },
+    Lend { buffer: Name, words: u64 },
+    Swap,
+    Hold,
+    Carry,
 }
 
-// Reads a line, and prints it: what comes out of it is printed behind it.
-pub fn read_command(rt: &impl Print, line: &[u8]) -> io::Result<Command> {
-    print::line(rt, line)?;
-    let mut v = [0u64; VALUES];
-    let count = read_values(line, &mut v);
-    let name = name_of(line, count);
-    Ok(Command {
-        name,
-        count,
-        a: v[0],
-        b: v[1],
-        c: v[2],
-        d: v[3],
-        e: v[4],
-        f: v[5],
-        g: v[6],
-        h: v[7],
-    })
+// What comes out of these is an operation's answer.
+#[derive(Clone, Copy)]
+pub enum Operation {
+    Format { slots: u64, nodes: u64 },
+    Recover,
+    Apply,
+    Replay,
+    Scripted(Scripted),
+    Add(Frames),
+    Has { reel: u64, frame: u64 },
+    List { reel: u64 },
+    Convert,
+    Translate { words: u64 },
 }
 
-// The command of a line that has so many values.
-fn name_of(line: &[u8], count: usize) -> u64 {
-    if line.len() == 0 {
-        return HEADING;
+// The operations that write a script.
+#[derive(Clone, Copy)]
+pub enum Scripted {
+    Open { reel: u64 },
+    Claim { head: u64, reel: u64, frame: u64 },
+    Fill { head: u64 },
+    Commit { head: u64 },
+    Abandon { head: u64 },
+    Remove { reel: u64, frame: u64 },
+    Retire { reel: u64 },
+    Tidy { reel: u64 },
+}
+
+// Frames of a reel, each greater by `step` than the one before.
+#[derive(Clone, Copy)]
+pub struct Frames {
+    pub reel: u64,
+    pub first: u64,
+    pub step: u64,
+    pub count: u64,
+}
+
+impl<'a> Command<'a> {
+    // The command of a word, if it takes such values.
+    pub fn of(word: &str, values: &'a [u64]) -> Option<Self> {
+        Some(match (word, values) {
+            ("crash", &[reel, before, after]) => Command::Crash {
+                reel,
+                maps: [before, after],
+            },
+            ("put" | "all" | "ramp" | "show", [buffer, values @ ..]) => Command::Words {
+                buffer: Name::try_from(*buffer).ok()?,
+                words: Words::of(word, values)?,
+            },
+            ("lend", &[buffer, words]) => Command::Lend {
+                buffer: Name::try_from(buffer).ok()?,
+                words,
+            },
+            ("swap", []) => Command::Swap,
+            ("hold", []) => Command::Hold,
+            ("carry", []) => Command::Carry,
+            _ => Command::Operation(Operation::of(word, values)?),
+        })
     }
-    if line[0] == b'#' {
-        return HEADING;
-    }
-    let end = place_of(b' ', line, 0);
-    let name = named(&line[..end]);
-    if takes(name, count) { name } else { UNKNOWN }
 }
 
-fn named(word: &[u8]) -> u64 {
-    let operation = index_of(
-        word,
-        b"format recover apply open claim fill commit abandon remove retire tidy add has list convert translate",
-    );
-    if operation < CRASH {
-        return operation;
+impl Operation {
+    fn of(word: &str, values: &[u64]) -> Option<Self> {
+        Some(match (word, values) {
+            ("format", &[slots, nodes]) => Operation::Format { slots, nodes },
+            ("recover", []) => Operation::Recover,
+            ("apply", []) => Operation::Apply,
+            ("replay", []) => Operation::Replay,
+            ("add", &[reel, first, step, count]) => Operation::Add(Frames {
+                reel,
+                first,
+                step,
+                count,
+            }),
+            ("has", &[reel, frame]) => Operation::Has { reel, frame },
+            ("list", &[reel]) => Operation::List { reel },
+            ("convert", []) => Operation::Convert,
+            ("translate", &[words]) => Operation::Translate { words },
+            _ => Operation::Scripted(Scripted::of(word, values)?),
+        })
     }
-    std::num::wrapping_add_u64(
-        CRASH,
-        index_of(word, b"crash swap replay put all ramp show lend hold carry"),
-    )
 }
 
-// Does a command take so many values?
-fn takes(name: u64, count: usize) -> bool {
-    match name {
-        RECOVER | APPLY | CONVERT | SWAP | REPLAY | HOLD | CARRY => count == 0,
-        OPEN | FILL | COMMIT | ABANDON | RETIRE | TIDY | LIST | TRANSLATE => count == 1,
-        FORMAT | REMOVE | HAS | ALL | LEND => count == 2,
-        CLAIM | CRASH | SHOW => count == 3,
-        ADD => count == 4,
-        RAMP => count == 6,
-        PUT => (2 < count) & (count <= VALUES),
-        _ => false,
+impl Scripted {
+    fn of(word: &str, values: &[u64]) -> Option<Self> {
+        Some(match (word, values) {
+            ("open", &[reel]) => Scripted::Open { reel },
+            ("claim", &[head, reel, frame]) => Scripted::Claim { head, reel, frame },
+            ("fill", &[head]) => Scripted::Fill { head },
+            ("commit", &[head]) => Scripted::Commit { head },
+            ("abandon", &[head]) => Scripted::Abandon { head },
+            ("remove", &[reel, frame]) => Scripted::Remove { reel, frame },
+            ("retire", &[reel]) => Scripted::Retire { reel },
+            ("tidy", &[reel]) => Scripted::Tidy { reel },
+            _ => return None,
+        })
     }
 }

@@ -32,27 +32,24 @@ mod buffers;
 mod calls;
 mod command;
 mod crash;
-mod lent;
-mod print;
-mod run;
+mod driver;
+mod outcome;
 mod values;
+mod words;
 
 ghost use Rattle.std.specs.Prelude.{◌≤◌, IfOk, length};
 
-use command::read_command;
-use lent::{IMAGE_WORDS, LIST_WORDS, Lent, MAP_WORDS, MODULE_WORDS, SCRIPT_WORDS, TABLE_WORDS};
-use reelbook::HEAD_WORDS;
-use run::run_lent;
+use driver::Driver;
+use outcome::Mistake;
 use std::io;
 use std::io::Read;
-use values::place_of;
 
 fn main(rt: HostRuntime) -> io::Result<()> {
     let mut text = [0u8; 65536];
     let n = read_full(&mut rt.stdin(), &mut text)?;
     run_text(&rt, &text[..n])?;
     if n == text.len() {
-        print::end(&rt, false)?;
+        println!(rt; "{}", Mistake::Unreadable)?;
     }
     Ok(())
 }
@@ -74,36 +71,14 @@ fn read_full(input: &mut impl Read, buffer: &mut [u8]) -> io::Result<usize>
 
 // Runs the lines of a text, one after the other, over the buffers of a driver.
 fn run_text(rt: &impl Print, text: &[u8]) -> io::Result<()> {
-    let mut image = [0u64; IMAGE_WORDS];
-    let mut map = [0u64; MAP_WORDS];
-    let mut heads = [0u64; HEAD_WORDS];
-    let mut scratch = [0u64; MAP_WORDS];
-    let mut script = [0u64; SCRIPT_WORDS];
-    let mut list = [0u64; LIST_WORDS];
-    let mut table = [0u64; TABLE_WORDS];
-    let mut copy = [0u64; IMAGE_WORDS];
-    let mut flushed = [0u64; MODULE_WORDS];
-    let mut lent = Lent::nothing();
-    let mut at = 0;
-    while at < text.len() {
-        let end = place_of(b'\n', text, at);
-        let command = read_command(rt, &text[at..end])?;
-        at = end + 1;
-        lent = lent.after(command);
-        run_lent(
-            rt,
-            command,
-            &mut image,
-            &mut map,
-            &mut heads,
-            &mut scratch,
-            &mut script,
-            &mut list,
-            &mut table,
-            &mut copy,
-            &mut flushed,
-            lent,
-        )?;
+    let mut driver = Driver::new();
+    for ended in text.split_inclusive(|byte| *byte == b'\n') {
+        let line = ended.strip_suffix(b"\n").unwrap_or(ended);
+        rt.write_all(line)?;
+        match driver.run_line(line) {
+            Ok(outcome) => println!(rt; "{outcome}")?,
+            Err(mistake) => println!(rt; "{mistake}")?,
+        }
     }
     Ok(())
 }

@@ -1,13 +1,14 @@
 -- Reading a number: one law for each way that a step of it goes, and decimal numbers read back.
 use mathlib.Core.Path.{◌≡◌, refl, sym, ◌∙◌, ap}
 use mathlib.Core.Bool.{and-false}
-use mathlib.Core.Option.{none, some, none-ne-some}
 use mathlib.Core.List.{List, [], ◌∷◌, ◌++◌, append_assoc}
 use Prim.Native.Nat.{ℕ, zero, suc, ◌+◌, ◌*◌, ◌/◌, ◌%◌, ◌^◌, ◌≤◌, ◌<◌}
 use native.Mathlib.Omega.{arith}
 use native.Mathlib.Decide.{dec_le, dec_lt}
 use lib.ListN.{drop}
 use borrow.Author.Tests.{lt-ltb, le-ltb, le-leb, lt-leb}
+use Rattle.std.specs.Prelude.{Some, None}
+use Rattle.std.proofs.lemmas.Option.{none-some}
 use Rattle.lines.specs.Decimal.{decimal}
 use Rattle.lines.specs.Reading.{digit_at, number_from, number}
 use Rattle.lines.proofs.Digits.{decimal_laws}
@@ -15,7 +16,7 @@ use Rattle.lines.proofs.Digits.{decimal_laws}
 -- ---- one step
 
 -- no digit follows: the number is whole
-pub number_whole : (n : ℕ) (bs : List ℕ) → 10 ≤ digit_at bs → number_from n bs ≡ some (n, bs)
+pub number_whole : (n : ℕ) (bs : List ℕ) → 10 ≤ digit_at bs → number_from n bs ≡ Some (n, bs)
 unfolding number_from
 number_whole n [] h = refl
 number_whole n (b ∷ bs) h = rw (le-ltb (digit_at (b ∷ bs)) 10 h)
@@ -28,13 +29,13 @@ number_more n [] h p f = absurd (omega arith)
 number_more n (b ∷ bs) h p f = rw (lt-ltb (digit_at (b ∷ bs)) 10 h, lt-ltb 0 n p, lt-ltb (10 * n + digit_at (b ∷ bs)) (2 ^ 64) f)
 
 -- a digit follows a leading zero
-pub number_zero : (bs : List ℕ) → digit_at bs < 10 → number_from 0 bs ≡ none
+pub number_zero : (bs : List ℕ) → digit_at bs < 10 → number_from 0 bs ≡ None
 unfolding number_from digit_at
 number_zero [] h = absurd (omega arith)
 number_zero (b ∷ bs) h = rw (lt-ltb (digit_at (b ∷ bs)) 10 h)
 
 -- the number would be too large
-pub number_large : (n : ℕ) (bs : List ℕ) → digit_at bs < 10 → 2 ^ 64 ≤ 10 * n + digit_at bs → number_from n bs ≡ none
+pub number_large : (n : ℕ) (bs : List ℕ) → digit_at bs < 10 → 2 ^ 64 ≤ 10 * n + digit_at bs → number_from n bs ≡ None
 unfolding number_from digit_at
 number_large n [] h f = absurd (omega arith)
 number_large n (b ∷ bs) h f = rw (lt-ltb (digit_at (b ∷ bs)) 10 h, le-ltb (10 * n + digit_at (b ∷ bs)) (2 ^ 64) f, and-false)
@@ -43,7 +44,7 @@ pub number_starts : (bs : List ℕ) → digit_at bs < 10 → number bs ≡ numbe
 unfolding number
 number_starts bs h = rw (lt-ltb (digit_at bs) 10 h)
 
-pub number_none : (bs : List ℕ) → 10 ≤ digit_at bs → number bs ≡ none
+pub number_none : (bs : List ℕ) → 10 ≤ digit_at bs → number bs ≡ None
 unfolding number
 number_none bs h = rw (le-ltb (digit_at bs) 10 h)
 
@@ -83,7 +84,7 @@ read_back (suc most) n rest g h =
           ∙ let e : 10 * (n / 10) + digit_at ((48 + n % 10) ∷ rest) ≡ n = omega arith in ap (λ k. number_from k rest) e)
     ]
 
-pub decimal_read : (n : ℕ) (rest : List ℕ) → n < 2 ^ 64 → 10 ≤ digit_at rest → number (decimal n ++ rest) ≡ some (n, rest)
+pub decimal_read : (n : ℕ) (rest : List ℕ) → n < 2 ^ 64 → 10 ≤ digit_at rest → number (decimal n ++ rest) ≡ Some (n, rest)
 decimal_read n rest h e = read_back (suc n) n rest (omega arith) h ∙ number_whole n rest e
 
 -- ---- and what is read is decimal
@@ -92,7 +93,7 @@ decimal_read n rest h e = read_back (suc n) n rest (omega arith) h ∙ number_wh
 abbrev Written : ℕ → List ℕ → ℕ × List ℕ → Type 0
 Written n bs p = (decimal n ++ bs ≡ decimal p.0 ++ p.1) × (p.0 < 2 ^ 64)
 
-whole : (n : ℕ) (bs : List ℕ) (p : ℕ × List ℕ) → n < 2 ^ 64 → some (n, bs) ≡ some p → Written n bs p
+whole : (n : ℕ) (bs : List ℕ) (p : ℕ × List ℕ) → n < 2 ^ 64 → Some (n, bs) ≡ Some p → Written n bs p
 whole n bs p h e = let q : (n, bs) ≡ p = cc in rw (← q) (refl, h)
 
 more_written : (n : ℕ) (b : ℕ) (bs : List ℕ) → 0 < n → digit_at (b ∷ bs) < 10
@@ -103,26 +104,26 @@ more_written n b bs p h =
     let f : 48 + m % 10 ≡ b = omega (arith, digit_byte b bs h) in
     rw (decimal_laws.more_digits m (omega arith), e, f, append_assoc)
 
-from_written : (n : ℕ) (bs : List ℕ) (p : ℕ × List ℕ) → n < 2 ^ 64 → number_from n bs ≡ some p → Written n bs p
+from_written : (n : ℕ) (bs : List ℕ) (p : ℕ × List ℕ) → n < 2 ^ 64 → number_from n bs ≡ Some p → Written n bs p
 from_written n [] p h e = whole n [] p h (sym (number_whole n [] no_digit) ∙ e)
 from_written n (b ∷ bs) p h e =
     elim (dec_lt (digit_at (b ∷ bs)) 10) [
       | no d ↦ whole n (b ∷ bs) p h (sym (number_whole n (b ∷ bs) (omega arith)) ∙ e)
       | yes d ↦ elim (dec_lt 0 n) [
-        | no z ↦ let q : n ≡ 0 = omega arith in absurd (none-ne-some p (sym (number_zero (b ∷ bs) d) ∙ rw q at e))
+        | no z ↦ let q : n ≡ 0 = omega arith in absurd (none-some p (sym (number_zero (b ∷ bs) d) ∙ rw q at e))
         | yes z ↦ elim (dec_lt (10 * n + digit_at (b ∷ bs)) (2 ^ 64)) [
-          | no f ↦ absurd (none-ne-some p (sym (number_large n (b ∷ bs) d (omega arith)) ∙ e))
+          | no f ↦ absurd (none-some p (sym (number_large n (b ∷ bs) d (omega arith)) ∙ e))
           | yes f ↦ let w = from_written (10 * n + digit_at (b ∷ bs)) bs p f (sym (number_more n (b ∷ bs) d z f) ∙ e) in
               (sym (more_written n b bs z d) ∙ w.0, w.1)
         ]
       ]
     ]
 
-pub read_decimal : (bs : List ℕ) (p : ℕ × List ℕ) → number bs ≡ some p → (bs ≡ decimal p.0 ++ p.1) × (p.0 < 2 ^ 64)
-read_decimal [] p e = absurd (none-ne-some p (sym (number_none [] no_digit) ∙ e))
+pub read_decimal : (bs : List ℕ) (p : ℕ × List ℕ) → number bs ≡ Some p → (bs ≡ decimal p.0 ++ p.1) × (p.0 < 2 ^ 64)
+read_decimal [] p e = absurd (none-some p (sym (number_none [] no_digit) ∙ e))
 read_decimal (b ∷ bs) p e =
     elim (dec_lt (digit_at (b ∷ bs)) 10) [
-      | no d ↦ absurd (none-ne-some p (sym (number_none (b ∷ bs) (omega arith)) ∙ e))
+      | no d ↦ absurd (none-some p (sym (number_none (b ∷ bs) (omega arith)) ∙ e))
       | yes d ↦ let w = from_written (digit_at (b ∷ bs)) bs p (omega arith) (sym (number_starts (b ∷ bs) d) ∙ e) in
           let f = digit_byte b bs d in
           (ap (λ x. x ∷ bs) f ∙ sym (ap (λ ds. ds ++ bs) (decimal_laws.one_digit (digit_at (b ∷ bs)) d)) ∙ w.0, w.1)

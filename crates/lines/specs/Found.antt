@@ -1,45 +1,33 @@
 -- What the answers of the code that reads fields mean.
-use Rattle.std.specs.Prelude.{◌≡◌, List, ℕ, ◌≤◌, length, drop}
-use Rattle.std.proofs.Math.Option.{Option, none, some}
-use Rattle.lines.specs.Reading.{Awaits, read_as}
+use Rattle.std.specs.Prelude.{◌≡◌, ◌≤◌, ◌<◌, List, [], ◌∷◌, map, ℕ, ◌+◌, get_or, drop, Option, Some, None}
+use denote.Ref.{Bor}
+use Rattle.lines.specs.Reading.{digit_at, Awaits, read_as}
 use Rattle.lines.specs.declared.line.Line.{Line}
-use Rattle.lines.specs.declared.field.Field.{Field}
-use Rattle.lines.specs.declared.field.Field.TheVariants.{Number, Missing}
-use Rattle.lines.specs.declared.field.One.{One}
-use Rattle.lines.specs.declared.field.One.TheVariants.{Number as OneNumber, Missing as NoOne}
-use Rattle.lines.specs.declared.field.Two.{Two}
-use Rattle.lines.specs.declared.field.Two.TheVariants.{Numbers as TwoNumbers, Missing as NoTwo}
-use Rattle.lines.specs.declared.field.Three.{Three}
-use Rattle.lines.specs.declared.field.Three.TheVariants.{Numbers as ThreeNumbers, Missing as NoThree}
 
--- a number and the line's bytes behind it
-abbrev pub found : List ℕ → Field → Option (ℕ × List ℕ)
-found line (Number v next) = some (v, drop next line)
-found line Missing = none
+-- the digit that bytes begin with, and the bytes behind it
+abbrev pub IsDigit : List ℕ → Option (ℕ × Bor (List ℕ)) → Type 0
+IsDigit bs None = 10 ≤ digit_at bs
+IsDigit bs (Some p) = (p.0 ≡ digit_at bs) × (p.0 < 10) × (p.1.now ≡ drop 1 bs)
 
--- the place behind it
-abbrev pub behind : Field → ℕ
-behind (Number v next) = next
-behind Missing = 0
+-- a number and the bytes behind it
+abbrev pub found : Option (ℕ × Bor (List ℕ)) → Option (ℕ × List ℕ)
+found None = None
+found (Some p) = Some (p.0, p.1.now)
 
--- the answer is what is to be found, and a place of the line
-pub record Finds (line : List ℕ) (r : Field) (o : Option (ℕ × List ℕ)) : Type 0 where
-  pub same : found line r ≡ o
-  pub inside : behind r ≤ length line
+-- the texts in a slice of them
+abbrev pub texts_in : List (Bor (List ℕ)) → List (List ℕ)
+texts_in texts = map (λ t. t.now) texts
 
--- whatever line is made of the numbers behind the texts, it is made of those found
-abbrev pub ReadsAs : (texts : List (List ℕ)) → List ℕ → (Awaits texts → Option Line) → Type 0
-ReadsAs texts bs made = (f : Awaits texts) → read_as texts f bs ≡ made f
+-- the line that waits for numbers, with these from a place of them on
+abbrev pub given_from : ℕ → (texts : List (List ℕ)) → Awaits texts → List ℕ → Line
+given_from i [] l ns = l
+given_from i (t ∷ ts) f ns = given_from (i + 1) ts (f (get_or ns i 0)) ns
 
 -- the line with the numbers found, where they are
-abbrev pub with_one : One → (ℕ → Line) → Option Line
-with_one (OneNumber a) f = some (f a)
-with_one NoOne f = none
+abbrev pub with_found : (texts : List (List ℕ)) → Awaits texts → Option (List ℕ) → Option Line
+with_found texts f None = None
+with_found texts f (Some ns) = Some (given_from 0 texts f ns)
 
-abbrev pub with_two : Two → (ℕ → ℕ → Line) → Option Line
-with_two (TwoNumbers a b) f = some (f a b)
-with_two NoTwo f = none
-
-abbrev pub with_three : Three → (ℕ → ℕ → ℕ → Line) → Option Line
-with_three (ThreeNumbers a b c) f = some (f a b c)
-with_three NoThree f = none
+-- whatever line is made of the numbers behind the texts, it is made of those found
+abbrev pub ReadsAs : List (List ℕ) → List ℕ → Option (List ℕ) → Type 0
+ReadsAs texts bs r = (f : Awaits texts) → read_as texts f bs ≡ with_found texts f r

@@ -1,5 +1,5 @@
 -- What is proved of this crate's definitions: the statements alone. proofs/Laws.antt has a proof of each record.
-use Rattle.std.specs.Prelude.{◌≡◌, ◌≢◌, true, false, ℕ, suc, ◌+◌, ◌/◌, ◌%◌, ◌^◌, ◌≤◌, ◌<◌, length, take, drop}
+use Rattle.std.specs.Prelude.{◌≡◌, true, false, Some, None, ℕ, suc, ◌+◌, ◌/◌, ◌%◌, ◌^◌, ◌≤◌, ◌<◌, length, take, drop}
 use mathlib.Core.List.{List, [], ◌∷◌, ◌++◌, map, flatten}
 use Rattle.lines.specs.Decimal.{decimal}
 use Rattle.lines.specs.Line.{shown, Fits}
@@ -7,7 +7,6 @@ use Rattle.lines.specs.Reading.{longest, line_of}
 use Rattle.lines.specs.Input.{newline, lines_of, cut, Collected, nothing_yet, line_ended, with_bytes, taken, taken_all, all_lines, up_to_newline, has_newline, used, Holds, Takes}
 use Rattle.lines.specs.declared.input.Taken.{Taken}
 use Rattle.lines.specs.declared.line.Line.{Line}
-use Rattle.lines.specs.declared.line.Line.TheVariants.{Other}
 
 -- ---- numbers
 
@@ -21,8 +20,9 @@ pub record DecimalLaws : Type 0 where
 
 -- `line_of` reads the format that `shown` writes, and nothing else
 pub record LineLaws : Type 0 where
-  pub shown_is_read : (l : Line) → Fits l → length (shown l) ≤ longest → line_of (shown l) ≡ l
-  pub read_was_shown : (bs : List ℕ) → line_of bs ≢ Other → (shown (line_of bs) ≡ bs) × Fits (line_of bs) × (length bs ≤ longest)
+  pub shown_is_read : (l : Line) → Fits l → length (shown l) ≤ longest → line_of (shown l) ≡ Some l
+  pub read_was_shown : (bs : List ℕ) (l : Line) → line_of bs ≡ Some l → (shown l ≡ bs) × Fits l × (length bs ≤ longest)
+  pub empty_is_none : line_of [] ≡ None
 
 -- ---- input
 

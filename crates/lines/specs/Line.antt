@@ -4,7 +4,7 @@ use Prim.Native.Char.{code}
 use Prim.Native.String.{String, [] as []ˢ, ◌∷◌ as ◌∷ˢ◌}
 use Rattle.lines.specs.Decimal.{decimal}
 use Rattle.lines.specs.declared.line.Line.{Line}
-use Rattle.lines.specs.declared.line.Line.TheVariants.{Open, Claim, Fill, Commit, Abandon, Remove, Has, List as ListOf, Retire, Other}
+use Rattle.lines.specs.declared.line.Line.TheVariants.{Open, Claim, Fill, Commit, Abandon, Remove, Has, List as ListOf, Retire}
 
 -- a line in parts: each a text, and the number that stands behind it
 abbrev pub parts : Line → List (String × ℕ)
@@ -17,7 +17,6 @@ parts (Remove r f) = ("op=remove reel=", r) ∷ (" frame=", f) ∷ []
 parts (Has r f) = ("op=has reel=", r) ∷ (" frame=", f) ∷ []
 parts (ListOf r) = ("op=list reel=", r) ∷ []
 parts (Retire r) = ("op=retire reel=", r) ∷ []
-parts Other = []
 
 -- the bytes of a text
 abbrev pub bytes : String → List ℕ

@@ -1,10 +1,9 @@
 -- Reading a line: each kind is tried in turn. specs/Laws.antt (`LineLaws`) says that this reads the format of specs/Line.antt, and nothing else.
-use Rattle.std.specs.Prelude.{Bool, true, false, cond, ◌&&◌, List, [], ◌∷◌, map, ℕ, ◌+◌, ◌-◌, ◌*◌, ◌^◌, length, drop, eqb, leb, ltb}
-use Rattle.std.proofs.Math.Option.{Option, none, some}
+use Rattle.std.specs.Prelude.{Bool, true, false, cond, ◌&&◌, List, [], ◌∷◌, map, ℕ, ◌+◌, ◌-◌, ◌*◌, ◌^◌, length, drop, eqb, leb, ltb, Option, Some, None}
 use Prim.Native.String.{String}
 use Rattle.lines.specs.Line.{parts, bytes}
 use Rattle.lines.specs.declared.line.Line.{Line}
-use Rattle.lines.specs.declared.line.Line.TheVariants.{Open, Claim, Fill, Commit, Abandon, Remove, Has, List as ListOf, Retire, Other}
+use Rattle.lines.specs.declared.line.Line.TheVariants.{Open, Claim, Fill, Commit, Abandon, Remove, Has, List as ListOf, Retire}
 
 -- the value of the digit that bytes begin with, or 10 where they begin with none
 unfoldable pub digit_at : List ℕ → ℕ
@@ -17,14 +16,14 @@ may_follow n d = ltb 0 n && ltb (10 * n + d) (2 ^ 64)
 
 -- the number whose digits so far are n, with all the digits that bytes begin with, and the bytes behind it
 unfoldable pub number_from : ℕ → List ℕ → Option (ℕ × List ℕ)
-number_from n [] = some (n, [])
+number_from n [] = Some (n, [])
 number_from n (b ∷ bs) =
     let d = digit_at (b ∷ bs) in
-    cond (ltb d 10) (cond (may_follow n d) (number_from (10 * n + d) bs) none) (some (n, b ∷ bs))
+    cond (ltb d 10) (cond (may_follow n d) (number_from (10 * n + d) bs) None) (Some (n, b ∷ bs))
 
 -- the number that bytes begin with, and the bytes behind it
 unfoldable pub number : List ℕ → Option (ℕ × List ℕ)
-number bs = cond (ltb (digit_at bs) 10) (number_from (digit_at bs) (drop 1 bs)) none
+number bs = cond (ltb (digit_at bs) 10) (number_from (digit_at bs) (drop 1 bs)) None
 
 -- do bytes begin with a text?
 unfoldable pub begins : List ℕ → List ℕ → Bool
@@ -34,7 +33,7 @@ begins (t ∷ ts) (b ∷ bs) = eqb t b && begins ts bs
 
 -- a text and a number, and the bytes behind them
 unfoldable pub field : List ℕ → List ℕ → Option (ℕ × List ℕ)
-field text bs = cond (begins text bs) (number (drop (length text) bs)) none
+field text bs = cond (begins text bs) (number (drop (length text) bs)) None
 
 -- a line that waits for its numbers, one for each text
 abbrev pub Awaits : List (List ℕ) → Type 0
@@ -43,13 +42,13 @@ Awaits (t ∷ ts) = ℕ → Awaits ts
 
 -- what is read behind a number, where there is one
 abbrev pub and_then : Option (ℕ × List ℕ) → (ℕ → List ℕ → Option Line) → Option Line
-and_then none f = none
-and_then (some p) f = f p.0 p.1
+and_then None f = None
+and_then (Some p) f = f p.0 p.1
 
 -- the line that bytes are, with the numbers found behind the texts; nothing may follow the last
 unfoldable pub read_as : (texts : List (List ℕ)) → Awaits texts → List ℕ → Option Line
-read_as [] l [] = some l
-read_as [] l (b ∷ bs) = none
+read_as [] l [] = Some l
+read_as [] l (b ∷ bs) = None
 read_as (t ∷ ts) f bs = and_then (field t bs) (λ n rest. read_as ts (f n) rest)
 
 -- a kind of line: its texts, and the line with the numbers behind them
@@ -71,20 +70,20 @@ kinds =
     kind (Open 0) Open ∷ kind (Claim 0 0 0) Claim ∷ kind (Fill 0) Fill ∷ kind (Commit 0) Commit ∷ kind (Abandon 0) Abandon
     ∷ kind (Remove 0 0) Remove ∷ kind (Has 0 0) Has ∷ kind (ListOf 0) ListOf ∷ kind (Retire 0) Retire ∷ []
 
--- a line that was read, or another
-abbrev pub or_else : Option Line → Line → Line
-or_else none m = m
-or_else (some l) m = l
+-- a line that was read, or what another reading gives
+abbrev pub or_else : Option Line → Option Line → Option Line
+or_else None o = o
+or_else (Some l) o = Some l
 
 -- the first of some kinds that bytes can be read as
-unfoldable pub read_first : List Kind → List ℕ → Line
-read_first [] bs = Other
+unfoldable pub read_first : List Kind → List ℕ → Option Line
+read_first [] bs = None
 read_first (k ∷ ks) bs = or_else (read_as k.texts k.line bs) (read_first ks bs)
 
 -- the most bytes that a line has
 abbrev pub longest : ℕ
 longest = 80
 
--- the line that bytes without a newline are; `Other` where they are too many, or of none of the nine kinds
-unfoldable pub line_of : List ℕ → Line
-line_of bs = cond (ltb longest (length bs)) Other (read_first kinds bs)
+-- the line that bytes without a newline are; none where they are too many, or of none of the nine kinds
+unfoldable pub line_of : List ℕ → Option Line
+line_of bs = cond (ltb longest (length bs)) None (read_first kinds bs)

@@ -1,10 +1,10 @@
 // The lines that the bench program reads.
-ghost use Rattle.std.specs.Prelude.{◌≡◌, drop};
-ghost use Rattle.lines.specs.Reading.{kinds, read_first, line_of};
+ghost use Rattle.std.specs.Prelude.{◌≡◌};
+ghost use Rattle.lines.specs.Reading.{line_of};
 
-use crate::field::{One, Three, Two, read_one, read_three, read_two};
+use crate::field::read_fields;
 
-// A line, with its numbers; any that is not exactly of one of the nine kinds is `Other`.
+// A line of one of the nine kinds, with its numbers.
 #[derive(Clone, Copy)]
 pub enum Line {
     Open { reel: u64 },
@@ -16,65 +16,46 @@ pub enum Line {
     Has { reel: u64, frame: u64 },
     List { reel: u64 },
     Retire { reel: u64 },
-    Other,
 }
 
 // The most bytes that a line has.
 pub const LONGEST: usize = 80;
 
-// Reads a line without its newline. Each kind is tried in turn.
-pub fn read_line(line: &[u8]) -> Line
+// Reads a line without its newline; none, where it is not exactly of one of the nine kinds. Each is tried in turn.
+pub fn read_line(line: &[u8]) -> Option<Line>
     ensures { result ≡ line_of line.now }
 {
     if LONGEST < line.len() {
-        return Line::Other;
+        None
+    } else if let Some(n) = read_fields::<1>(line, &[b"op=open reel="]) {
+        Some(Line::Open { reel: n[0] })
+    } else if let Some(n) = read_fields::<3>(line, &[b"op=claim head=", b" reel=", b" frame="]) {
+        Some(Line::Claim {
+            head: n[0],
+            reel: n[1],
+            frame: n[2],
+        })
+    } else if let Some(n) = read_fields::<1>(line, &[b"op=fill head="]) {
+        Some(Line::Fill { head: n[0] })
+    } else if let Some(n) = read_fields::<1>(line, &[b"op=commit head="]) {
+        Some(Line::Commit { head: n[0] })
+    } else if let Some(n) = read_fields::<1>(line, &[b"op=abandon head="]) {
+        Some(Line::Abandon { head: n[0] })
+    } else if let Some(n) = read_fields::<2>(line, &[b"op=remove reel=", b" frame="]) {
+        Some(Line::Remove {
+            reel: n[0],
+            frame: n[1],
+        })
+    } else if let Some(n) = read_fields::<2>(line, &[b"op=has reel=", b" frame="]) {
+        Some(Line::Has {
+            reel: n[0],
+            frame: n[1],
+        })
+    } else if let Some(n) = read_fields::<1>(line, &[b"op=list reel="]) {
+        Some(Line::List { reel: n[0] })
+    } else if let Some(n) = read_fields::<1>(line, &[b"op=retire reel="]) {
+        Some(Line::Retire { reel: n[0] })
+    } else {
+        None
     }
-    if let One::Number(reel) = read_one(line, 0, b"op=open reel=") {
-        return Line::Open { reel };
-    }
-    read_of_head(line)
-}
-
-// The kinds that begin with a head, then the rest.
-fn read_of_head(line: &[u8]) -> Line
-    ensures { result ≡ read_first (drop 1 kinds) line.now }
-{
-    if let Three::Numbers(head, reel, frame) = read_three(
-        line,
-        0,
-        b"op=claim head=",
-        b" reel=",
-        b" frame=",
-    ) {
-        return Line::Claim { head, reel, frame };
-    }
-    if let One::Number(head) = read_one(line, 0, b"op=fill head=") {
-        return Line::Fill { head };
-    }
-    if let One::Number(head) = read_one(line, 0, b"op=commit head=") {
-        return Line::Commit { head };
-    }
-    if let One::Number(head) = read_one(line, 0, b"op=abandon head=") {
-        return Line::Abandon { head };
-    }
-    read_of_reel(line)
-}
-
-// The kinds that are left: they begin with a reel.
-fn read_of_reel(line: &[u8]) -> Line
-    ensures { result ≡ read_first (drop 5 kinds) line.now }
-{
-    if let Two::Numbers(reel, frame) = read_two(line, 0, b"op=remove reel=", b" frame=") {
-        return Line::Remove { reel, frame };
-    }
-    if let Two::Numbers(reel, frame) = read_two(line, 0, b"op=has reel=", b" frame=") {
-        return Line::Has { reel, frame };
-    }
-    if let One::Number(reel) = read_one(line, 0, b"op=list reel=") {
-        return Line::List { reel };
-    }
-    if let One::Number(reel) = read_one(line, 0, b"op=retire reel=") {
-        return Line::Retire { reel };
-    }
-    Line::Other
 }

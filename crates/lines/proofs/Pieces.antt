@@ -2,19 +2,19 @@
 use mathlib.Core.Path.{◌≡◌, refl, sym, ◌∙◌, ap}
 use mathlib.Core.Bool.{true, false, false≢true}
 use mathlib.Core.List.{List, [], ◌∷◌, ◌++◌, map, flatten, append-nil}
-use Prim.Native.Nat.{ℕ, suc, ◌≤◌, ◌<◌}
+use Prim.Native.Nat.{ℕ, suc, ◌-◌, ◌≤◌, ◌<◌}
 use native.Mathlib.Omega.{arith}
 use native.Mathlib.Decide.{dec_le, ℕ_discrete}
-use lib.ListN.{length, take, drop, length-drop}
+use lib.ListN.{length, drop, length-drop}
 use lib.Seq.{append_snoc}
 use borrow.Author.Tests.{eq-eqb, ne_eqb}
-use Rattle.std.specs.Prelude.{cond, eqb}
+use denote.Ref.{Bor}
+use Rattle.std.specs.Prelude.{cond, eqb, Option, Some, None, MatchOption, IfSome}
 use Rattle.lines.specs.Reading.{longest, line_of}
 use Rattle.lines.specs.Input.{newline, in_front, lines_of, cut, Collected, nothing_yet, line_ended, with_bytes, taken, taken_all, last_line, all_lines, up_to_newline, has_newline, used, Takes}
-use Rattle.lines.specs.declared.input.Taken.{Taken}
 use Rattle.lines.specs.Laws.{InputLaws, PieceLaws}
 use Rattle.lines.proofs.Fields.{too_long}
-use Rattle.lines.proofs.Collect.{cut_again, cut_more, cut_all, cut_length, held_bytes, holds_length, left_nothing, left_newline, left_byte}
+use Rattle.lines.proofs.Collect.{cut_again, cut_more, cut_all, cut_length, left_nothing, left_newline, left_byte}
 
 -- ---- the lines of an input
 
@@ -178,19 +178,23 @@ used_some [] h = absurd (omega arith)
 used_some (b ∷ bs) h =
     elim (ℕ_discrete b newline) [ yes q ↦ omega (arith, (left_newline b bs q).2) | no q ↦ omega (arith, (left_byte b bs q).2) ]
 
+used_less : (bs : List ℕ) → has_newline bs ≡ true → length bs - used bs < length bs
+used_less [] e = absurd (false≢true (sym left_nothing.1 ∙ e))
+used_less (b ∷ bs) e = omega (arith, used_some (b ∷ bs) (omega arith))
+
 used_all : (bs : List ℕ) → has_newline bs ≡ false → used bs ≡ length bs
 used_all [] e = left_nothing.2
 used_all (b ∷ bs) e = (left_byte b bs (first_other b bs e)).2 ∙ ap suc (used_all bs (rest_without b bs e))
 
-goes_on : (piece : List ℕ) (at : ℕ) (old : List ℕ) (held : ℕ) (r : Taken) (buffer : List ℕ)
-    → at ≤ length piece → suc longest ≤ length old → Takes piece at old held r buffer
-    → (r.next ≤ length piece) × (at < length piece → at < r.next) × (r.count ≤ suc longest) × (length buffer ≡ length old)
-goes_on piece at old held r buffer i n w =
-    let bs = drop at piece in
-    let l = length-drop at piece in
-    let kept = cut (take held old ++ up_to_newline bs) in
-    let k : r.count ≤ 81 = omega (arith, w.holds.counted, kept_length (take held old ++ up_to_newline bs)) in
-    (omega (arith, w.goes_on, used_inside bs), λ h. omega (arith, w.goes_on, used_some bs (omega arith)), k, holds_length old kept buffer r.count w.holds (omega arith))
+goes_on : (piece old : List ℕ) (rest : Option (Bor (List ℕ))) (line : List ℕ) → Takes piece old rest line
+    → IfSome rest (λ r. length r.now < length piece) × (length line ≤ suc longest)
+goes_on piece old rest line w = (shorter rest w.goes_on, rw w.holds (kept_length (old ++ up_to_newline piece)))
+  where
+    shorter : (rest : Option (Bor (List ℕ)))
+        → MatchOption rest (has_newline piece ≡ false) (λ r. (has_newline piece ≡ true) × (r.now ≡ drop (used piece) piece))
+        → IfSome rest (λ r. length r.now < length piece)
+    shorter None w = tt
+    shorter (Some r) w = rw (w.1, length-drop (used piece) piece) (used_less piece w.0)
 
 pub piece_laws : PieceLaws
 piece_laws = record {
@@ -203,7 +207,6 @@ piece_laws = record {
   used_inside = used_inside;
   used_some = used_some;
   used_all = used_all;
-  held_bytes = held_bytes;
   kept_length = kept_length;
   goes_on = goes_on;
 }

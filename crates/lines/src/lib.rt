@@ -2,6 +2,7 @@
 // `cases` too.
 #![tactic(auto)]
 
+pub mod bytes;
 pub mod field;
 pub mod input;
 pub mod line;

@@ -43,8 +43,8 @@ module _ (bs rest : List ℕ) (d : ℕ) (w : (d ≡ digit_at bs) × (d < 10) × 
   pub number_past : (n : ℕ) → 2 ^ 64 ≤ 10 * n + d → number_from n bs ≡ None
   number_past n h = number_large n bs (omega arith) (omega arith)
 
-  pub number_next : (n m : ℕ) → (n ≡ 0 → ⊥) → m ≡ 10 * n + d → m < 2 ^ 64 → number_from n bs ≡ number_from m rest
-  number_next n m z e h = rw (e, w.0, w.2) (number_more n bs (omega arith) (omega arith) (omega arith))
+  pub number_next : (n m : ℕ) → 0 < n → m ≡ 10 * n + d → m < 2 ^ 64 → number_from n bs ≡ number_from m rest
+  number_next n m p e h = rw (e, w.0, w.2) (number_more n bs (omega arith) p (omega arith))
 
   pub digit_shorter : length rest < length bs
   digit_shorter = elim (dec_lt 0 (length bs)) [

@@ -18,7 +18,8 @@ fn digit(bytes: &[u8]) -> Option<(u64, &[u8])>
 // A number that no digit may follow.
 const LEADING_ZERO: u64 = 0;
 
-// The number that bytes begin with, and the bytes behind it. No digit may stand behind a leading zero, nor one that makes it too large.
+// The number that bytes begin with, and the bytes behind it. No digit may stand behind a leading zero, nor one that makes it too
+// large.
 fn number(bytes: &[u8]) -> Option<(u64, &[u8])>
     ensures { found result ≡ number bytes.now }
 {

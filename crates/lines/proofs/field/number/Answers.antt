@@ -12,7 +12,7 @@ pub loop-d-init : goal.loop-d-init
 loop-d-init c = number_first _ _ _ c.in_ok-value.ensures
 
 pub returns-then-value-eq-LEADING_ZERO : goal.returns-then-value-eq-LEADING_ZERO
-returns-then-value-eq-LEADING_ZERO c = sym (c.loop-d.invariant ∙ number_after_zero _ _ _ c.in-Some.ensures _ c.if-value-eq-LEADING_ZERO.true)
+returns-then-value-eq-LEADING_ZERO c = sym (c.loop-d.invariant ∙ number_after_zero _ _ _ c.in-Some.ensures _ (omega arith))
 
 pub returns-in_err-checked_mul : goal.returns-in_err-checked_mul
 returns-in_err-checked_mul c =
@@ -30,7 +30,7 @@ loop-d-smaller c = digit_shorter _ _ _ c.in-Some.ensures
 pub loop-d-preserved : goal.loop-d-preserved
 loop-d-preserved c =
     c.loop-d.invariant
-    ∙ number_next _ _ _ c.in-Some.ensures _ _ c.if-value-eq-LEADING_ZERO.false
+    ∙ number_next _ _ _ c.in-Some.ensures _ _ (omega arith)
     (omega (arith, c.in_ok-checked_mul.ensures, c.in_ok-value-2.ensures))
     (omega (arith, c.in_ok-checked_mul.ensures, c.in_ok-value-2.ensures))
 

@@ -40,12 +40,12 @@ pub fn next_used(pool: &[u64], from: usize, nodes: usize) -> usize
     nodes
 }
 
-// The used nodes of a map, rising: those that `used_nodes` goes over.
+// A walk over the used nodes of a map from one on, rising.
 #[derive(Drop)]
 pub struct UsedNodes<'a> {
-    pool: &'a [u64],
-    from: usize,
-    nodes: usize,
+    pub pool: &'a [u64],
+    pub from: usize,
+    pub nodes: usize,
 }
 
 impl<'a> Iterator for UsedNodes<'a> {
@@ -67,6 +67,7 @@ impl<'a> Iterator for UsedNodes<'a> {
     }
 }
 
+// All used nodes of a map.
 pub fn used_nodes(pool: &[u64], nodes: usize) -> UsedNodes<'_>
     requires { (nodes ≤ 64 * length pool.now) × (nodes ≤ 65536) }
     ensures { (result.pool.now ≡ pool.now) × (result.from ≡ 0) × (result.nodes ≡ nodes) }

@@ -28,8 +28,9 @@ use Rattle.tree.specs.Pool.{mark_all}
 use Rattle.tree.proofs.Cases.{test}
 use Rattle.tree.proofs.Laws.{child_laws}
 use Rattle.tree.proofs.Memory.{segment_laws}
-use Rattle.paths.specs.declared.descent.Placement.{Placement}
-use Rattle.paths.specs.declared.descent.Placement.TheVariants.{Malformed, Full, Held, Free}
+use Rattle.std.specs.Prelude.{Result, Ok, Err}
+use Rattle.paths.specs.declared.descent.NoVacancy.{NoVacancy}
+use Rattle.paths.specs.declared.descent.NoVacancy.TheVariants.{Malformed, Full, Held}
 use Rattle.paths.specs.declared.descent.Vacancy.{Vacancy}
 use Rattle.paths.specs.Answers.{on_path, vacancy, placement_on, placement_from}
 use Rattle.book.specs.declared.HeadState.{HeadState}
@@ -63,13 +64,13 @@ needs_few (BranchOut parent d) = elim (test (ltb d 3)) [
 -- ---- what is found on the path
 
 -- by the tests of the path, and the room on it with the places left
-abbrev pub Says : (bad held : Bool) → Vacancy → Placement → Type 0
-Says bad held v Malformed = bad ≡ true
-Says bad held v Full = bad ≡ true
-Says bad held v Held = (bad ≡ false) × (held ≡ true)
-Says bad held v (Free v') = (bad ≡ false) × (held ≡ false) × (v' ≡ v)
+abbrev pub Says : (bad held : Bool) → Vacancy → Result Vacancy NoVacancy → Type 0
+Says bad held v (Err Malformed) = bad ≡ true
+Says bad held v (Err Full) = bad ≡ true
+Says bad held v (Err Held) = (bad ≡ false) × (held ≡ true)
+Says bad held v (Ok v') = (bad ≡ false) × (held ≡ false) × (v' ≡ v)
 
-by_tests : (full held : Bool) (v : Vacancy) → Says full held v (cond full Full (cond held Held (Free v)))
+by_tests : (full held : Bool) (v : Vacancy) → Says full held v (cond full (Err Full) (cond held (Err Held) (Ok v)))
 by_tests true held v = refl
 by_tests false true v = (refl, refl)
 by_tests false false v = (refl, refl, refl)
@@ -85,23 +86,23 @@ module _ (g : Geometry) (m : Memory) (s f : ℕ) where
   abbrev vacancy_on : Option (List ℕ) → Vacancy
   vacancy_on o = let r = room_on g m o in vacancy r (places_left g m r)
 
-  pub placement_says : (x : Placement) → x ≡ placement_from g m s f → Says path_bad frame_held (vacancy_on (path_from g m s f)) x
+  pub placement_says : (x : Result Vacancy NoVacancy) → x ≡ placement_from g m s f → Says path_bad frame_held (vacancy_on (path_from g m s f)) x
   unfolding placement_from placement_on find
   placement_says x e = rw e (on (path_from g m s f))
     where
       on : (o : Option (List ℕ))
-          → Says (holds (no_path o or is (at_level31 (room_on g m o)))) (is_some (lookup_on (rule_of m) g m f o)) (vacancy_on o) (on_path Malformed (placement_on g m f) o)
+          → Says (holds (no_path o or is (at_level31 (room_on g m o)))) (is_some (lookup_on (rule_of m) g m f o)) (vacancy_on o) (on_path (Err Malformed) (placement_on g m f) o)
       on none = refl
       on (some ns) = by_tests (at_level31 (room_on g m (some ns))) (is_some (lookup (rule_of m) g m f ns)) (vacancy_on (some ns))
 
   -- the room's numbers are inside
-  room_fits : (v : Vacancy) → Free v ≡ placement_from g m s f → RoomInside g m v.room × (at_level31 v.room ≡ false)
+  room_fits : (v : Vacancy) → Ok v ≡ placement_from g m s f → RoomInside g m v.room × (at_level31 v.room ≡ false)
   room_fits v e =
-      let p = placement_says (Free v) e in
+      let p = placement_says (Ok v) e in
       let d = denies (no_path (path_from g m s f) or is (at_level31 (room_on g m (path_from g m s f)))) p.0 in
       rw p.2 (path_room g m s f d.0, d.1)
 
-  module _ {v : Vacancy} (e : Free v ≡ placement_from g m s f) where
+  module _ {v : Vacancy} (e : Ok v ≡ placement_from g m s f) where
     pub in_pool : (start : ℕ) → start + needs v.room ≤ g.nodes → InPool g v.room start
     in_pool start l = go v.room (room_fits v e) l
       where

@@ -23,8 +23,9 @@ use Rattle.tree.specs.Pool.{mark_all}
 use Rattle.tree.specs.Subtree.{listed}
 use Rattle.tree.proofs.Cases.{test}
 use Rattle.tree.proofs.Memory.{first_laws}
-use Rattle.paths.specs.declared.descent.Placement.{Placement}
-use Rattle.paths.specs.declared.descent.Placement.TheVariants.{Malformed, Full, Held, Free}
+use Rattle.std.specs.Prelude.{Result, Ok, Err}
+use Rattle.paths.specs.declared.descent.NoVacancy.{NoVacancy}
+use Rattle.paths.specs.declared.descent.NoVacancy.TheVariants.{Malformed, Full, Held}
 use Rattle.paths.specs.declared.descent.Vacancy.{Vacancy}
 use Rattle.paths.specs.Answers.{vacancy, placement_from}
 use Rattle.book.specs.declared.Target.{Target}
@@ -195,30 +196,30 @@ module _ (im pool script ws : List ℕ) (h reel f : ℕ) where
       later = after_checks ∙ none_refused (head_tests g slot) _ (omega arith) (sym same_tests ∙ none);
     }
 
-  module _ {g : Geometry} {slot : ℕ} (p : HeadPassed g slot) {x : Placement} (e : x ≡ placement_from g (reads im) slot f) where
+  module _ {g : Geometry} {slot : ℕ} (p : HeadPassed g slot) {x : Result Vacancy NoVacancy} (e : x ≡ placement_from g (reads im) slot f) where
     path_bad : holds (no_path (path_from g (reads im) slot f) or is (at_level31 (room_in g slot))) ≡ true → EndsWith 4
     path_bad t = ends_with 4 (p.later ∙ refused_here _ _ t) (omega arith)
 
-    pub path_malformed : x ≡ Malformed → EndsWith 4
-    path_malformed q = path_bad (placement_says g (reads im) slot f Malformed (sym q ∙ e))
+    pub path_malformed : x ≡ Err Malformed → EndsWith 4
+    path_malformed q = path_bad (placement_says g (reads im) slot f (Err Malformed) (sym q ∙ e))
 
-    pub path_full : x ≡ Full → EndsWith 4
-    path_full q = path_bad (placement_says g (reads im) slot f Full (sym q ∙ e))
+    pub path_full : x ≡ Err Full → EndsWith 4
+    path_full q = path_bad (placement_says g (reads im) slot f (Err Full) (sym q ∙ e))
 
-    pub frame_held : x ≡ Held → EndsWith 9
+    pub frame_held : x ≡ Err Held → EndsWith 9
     frame_held q =
-        let s = placement_says g (reads im) slot f Held (sym q ∙ e) in
+        let s = placement_says g (reads im) slot f (Err Held) (sym q ∙ e) in
         ends_with 9 (p.later ∙ refused_later _ _ s.0 ∙ refused_here _ _ s.1) (omega arith)
 
-    module _ (v : Vacancy) (q : x ≡ Free v) (start : ℕ) (start_is : start ≡ cond (ltb 0 (needs v.room)) (free_run g (reads pool) (needs v.room)) 0) where
+    module _ (v : Vacancy) (q : x ≡ Ok v) (start : ℕ) (start_is : start ≡ cond (ltb 0 (needs v.room)) (free_run g (reads pool) (needs v.room)) 0) where
       abbrev room : Room
       room = v.room
 
-      is_free : Free v ≡ placement_from g (reads im) slot f
+      is_free : Ok v ≡ placement_from g (reads im) slot f
       is_free = sym q ∙ e
 
       vacancy_is : v ≡ vacancy (room_in g slot) (places_left g (reads im) (room_in g slot))
-      vacancy_is = (placement_says g (reads im) slot f (Free v) is_free).2
+      vacancy_is = (placement_says g (reads im) slot f (Ok v) is_free).2
 
       room_is : room ≡ room_in g slot
       room_is = ap (λ x. x.room) vacancy_is
@@ -226,7 +227,7 @@ module _ (im pool script ws : List ℕ) (h reel f : ℕ) where
       -- 13 and 8 are left
       last_tests : refusal (refusals op begun) ≡ refusal ((in_conflict g (reads pool) ws slot room f gives 13) ∷ (no_run_for g (reads pool) room gives 8) ∷ [])
       last_tests =
-          let s = placement_says g (reads im) slot f (Free v) is_free in
+          let s = placement_says g (reads im) slot f (Ok v) is_free in
           p.later ∙ refused_later _ _ s.0 ∙ refused_later _ _ s.1 ∙ rw room_is refl
 
       -- the run is missing exactly if the code's start is no node

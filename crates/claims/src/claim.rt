@@ -7,8 +7,6 @@ ghost use Rattle.tree.specs.Lookup.{free_run};
 ghost use Rattle.tree.specs.declared.path.Room.TheVariants.{BranchOut};
 ghost use Rattle.tree.specs.Room.{needs};
 ghost use Rattle.tree.specs.Pool.{mark_all};
-ghost use Rattle.paths.specs.Answers.{placement_from};
-ghost use Rattle.paths.specs.declared.descent.Placement.TheVariants.{Free};
 ghost use Rattle.book.specs.declared.HeadState.TheVariants.{Claimed};
 ghost use Rattle.book.specs.Heads.{head_count, is_idle};
 ghost use Rattle.book.specs.Refusals.{refusal, ◌gives◌};
@@ -28,7 +26,7 @@ use nodes::reels::slot_of;
 use operations::answer::{HeadAnswer, Refusal};
 use operations::checks::{Buffer, Verdict, checks};
 use operations::heads::state_in;
-use paths::descent::{Placement, room_for};
+use paths::descent::{NoVacancy, room_for};
 use pool::pool_map::{free_run, mark_run};
 use rooms::room_script::{put_branch_out, put_locate, put_scale_up};
 use tree::layout::{Geometry, LOCATE, word_of};
@@ -239,10 +237,10 @@ pub fn claim(
         return refused(why);
     }
     let vacancy = match room_for(image, g, slot, frame, fingerprint(image, frame)) {
-        Placement::Malformed => return refused(Refusal::Malformed),
-        Placement::Full => return refused(Refusal::Malformed),
-        Placement::Held => return refused(Refusal::FrameHeld),
-        Placement::Free(vacancy) => vacancy,
+        Ok(vacancy) => vacancy,
+        Err(NoVacancy::Malformed) => return refused(Refusal::Malformed),
+        Err(NoVacancy::Full) => return refused(Refusal::Malformed),
+        Err(NoVacancy::Held) => return refused(Refusal::FrameHeld),
     };
     let room = vacancy.room;
     let start = run_for(pool, g, room);

@@ -15,7 +15,7 @@ use nodes::reels::slot_of;
 use operations::answer::{Answer, Refusal};
 use operations::checks::{Buffer, Verdict, checks};
 use operations::heads::is_busy;
-use paths::descent::{Found, Seen, find};
+use paths::descent::find;
 use tree::layout::{Geometry, LOCATE, SET, node_at, word_of};
 use tree::path::Spot;
 use tree::persistent::{put_fenced_pair, without_bit};
@@ -59,14 +59,12 @@ pub fn has(image: &[u64], reel: u64, frame: u64) -> HasAnswer
     if g.slots <= slot {
         return refused(Refusal::NoReel);
     }
-    match find(image, g, slot, frame, fingerprint(image, frame)) {
-        Found::Malformed => refused(Refusal::Malformed),
-        Found::Ended { found, nodes } => {
-            match found {
-                Seen::Nothing => said(0, nodes),
-                Seen::At(_) => said(1, nodes),
-            }
-        }
+    let Ok(lookup) = find(image, g, slot, frame, fingerprint(image, frame)) else {
+        return refused(Refusal::Malformed);
+    };
+    match lookup.found {
+        None => said(0, lookup.nodes),
+        Some(_) => said(1, lookup.nodes),
     }
 }
 
@@ -116,16 +114,12 @@ pub fn remove(
     if is_busy(heads, slot) {
         return Answer::Refused(Refusal::Busy);
     }
-    match find(image, g, slot, frame, fingerprint(image, frame)) {
-        Found::Malformed => Answer::Refused(Refusal::Malformed),
-        Found::Ended { found, nodes: _ } => {
-            match found {
-                Seen::Nothing => Answer::Refused(Refusal::FrameNotHeld),
-                Seen::At(t) => {
-                    put_remove(image, g, script, t);
-                    Answer::Done(8)
-                }
-            }
-        }
-    }
+    let Ok(lookup) = find(image, g, slot, frame, fingerprint(image, frame)) else {
+        return Answer::Refused(Refusal::Malformed);
+    };
+    let Some(t) = lookup.found else {
+        return Answer::Refused(Refusal::FrameNotHeld);
+    };
+    put_remove(image, g, script, t);
+    Answer::Done(8)
 }

@@ -1,6 +1,7 @@
 -- The head number of an operation that is answered 0 is one of the heads': its record may be written.
 use mathlib.Core.Path.{◌≡◌, refl, sym, ◌∙◌}
 use Prim.Native.Nat.{ℕ, ◌<◌}
+use Rattle.std.specs.Prelude.{Result, Ok, Err}
 use native.Mathlib.Omega.{arith}
 use Rattle.book.specs.Heads.{head_count}
 use Rattle.book.specs.Refusals.{refusal}
@@ -8,8 +9,8 @@ use Rattle.book.specs.Checks.{refusals}
 use Rattle.book.specs.State.{State, Operation, claim, fill, commit, abandon}
 use Rattle.book.proofs.Refusals.{passes}
 use Rattle.book.proofs.Performed.{answer_is}
-use Rattle.operations.specs.declared.answer.HeadAnswer.{HeadAnswer}
-use Rattle.operations.specs.declared.answer.HeadAnswer.TheVariants.{Done, Refused}
+use Rattle.operations.specs.declared.answer.Refusal.{Refusal}
+use Rattle.operations.specs.declared.answer.HeadDone.{HeadDone}
 use Rattle.operations.specs.HeadLists.{head_answer_of, HeadInside}
 use Rattle.operations.specs.Ends.{Buffers, found, ends}
 
@@ -35,10 +36,10 @@ ends_answer op s b = answer_is op s
 pub head_below : {h : ℕ} {op : Operation} → OfHead h op → (s : State) (b : Buffers) → (ends op s b).answer ≡ 0 → h < head_count
 head_below {op = op} o s b e = passed_11 o s (sym (ends_answer op s b) ∙ e)
 
-pub head_inside : (h : ℕ) (r : HeadAnswer) → (head_answer_of r ≡ 0 → h < head_count) → HeadInside h r
-head_inside h (Done n x) below = below refl
-head_inside h (Refused why) below = tt
+pub head_inside : (h : ℕ) (r : Result HeadDone Refusal) → (head_answer_of r ≡ 0 → h < head_count) → HeadInside h r
+head_inside h (Ok d) below = below refl
+head_inside h (Err why) below = tt
 
 -- an answer that is what the operation answers: what handing it over asks
-pub inside : {h : ℕ} {op : Operation} → OfHead h op → (s : State) (b : Buffers) (r : HeadAnswer) → head_answer_of r ≡ (ends op s b).answer → HeadInside h r
+pub inside : {h : ℕ} {op : Operation} → OfHead h op → (s : State) (b : Buffers) (r : Result HeadDone Refusal) → head_answer_of r ≡ (ends op s b).answer → HeadInside h r
 inside {h} o s b r e = head_inside h r (λ z. head_below o s b (sym e ∙ z))

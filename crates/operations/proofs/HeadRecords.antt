@@ -4,6 +4,8 @@ use mathlib.Core.Bool.{Bool, true, false}
 use mathlib.Core.List.{List, map}
 use Prim.Native.Nat.{ℕ, zero, suc, ◌+◌, ◌≤◌, ◌<◌}
 use native.Mathlib.Omega.{arith}
+use Rattle.std.specs.Bool.{MatchBool}
+use Rattle.std.specs.List.{AllWithin, HoldsAt}
 use native.Mathlib.Decide.{ℕ_discrete}
 use lib.ListN.{length, get_or, set, get_or-eq_default}
 use lib.Seq.{ext_get_or, get_or-set_same, get_or-set_other}
@@ -71,7 +73,7 @@ any_read passes ws heads e =
     ((first_laws (λ h. passes (state_in heads h)) head_count).equal_tests (λ h. passes (head_at ws h)) (λ h l.
     ap passes (state_read ws heads h e l)))
 
--- ---- a loop over the heads
+-- ---- a search over the heads
 
 pub any_at : (passes : HeadState → Bool) (heads : List Head) (h : ℕ) → h < head_count → passes (state_in heads h) ≡ true → true ≡ any_in passes heads
 unfolding any_in
@@ -82,3 +84,12 @@ unfolding any_in
 any_nowhere passes heads none =
     let all = (first_laws (λ h. passes (state_in heads h)) head_count).stops head_count (omega arith) none (λ l. absurd (omega arith)) in
     sym (rw (← all) (le-ltb head_count head_count (omega arith)))
+
+-- what `any` says of the array: some head passes the test, or none does
+pub any_told : (passes : HeadState → Bool) (heads : List Head) (r : Bool) → length heads ≡ head_count
+    → MatchBool r ((k : ℕ) × (k < length heads) × HoldsAt (λ (x : Head). passes x.state ≡ true) heads k)
+    (AllWithin (λ (x : Head). passes x.state ≡ false) heads 0 (length heads))
+    → r ≡ any_in passes heads
+unfolding state_in
+any_told passes heads true e t = any_at passes heads t.0 (omega (arith, t.1)) (t.2 (head_of Idle))
+any_told passes heads false e t = any_nowhere passes heads (λ k l. t k (head_of Idle) (omega arith) (omega arith))

@@ -1,8 +1,10 @@
 -- The checks that come first, passed or not: 1, 2, 3 and 4 for the table, as every operation but Format makes them.
-use mathlib.Core.Path.{◌≡◌, refl, sym, ◌∙◌, ap, subst}
-use mathlib.Core.Bool.{Bool, true, false}
+use mathlib.Core.Path.{◌≡◌, refl, sym, ◌∙◌, ap}
+use mathlib.Core.Bool.{false}
 use mathlib.Core.Logic.{inl, inr, ◌≢◌}
 use mathlib.Core.Option.{Option, none, some}
+use Rattle.std.specs.Prelude as std
+use Rattle.std.specs.Prelude.{Result, Ok, Err, Some, None}
 use mathlib.Core.List.{List, ◌∷◌}
 use Prim.Native.Nat.{ℕ, ◌≤◌}
 use native.Mathlib.Omega.{arith}
@@ -22,10 +24,6 @@ use Rattle.book.specs.Checks.{first_three, checked, refusals}
 use Rattle.book.specs.Perform.{leaves, past_checks, clears}
 use Rattle.book.proofs.Refusals.{Denies, denies}
 use Rattle.book.proofs.Inside.{sized}
-use Rattle.operations.specs.declared.checks.Buffer.{Buffer}
-use Rattle.operations.specs.declared.checks.Buffer.TheVariants.{Absent, Words}
-use Rattle.operations.specs.declared.checks.Verdict.{Verdict}
-use Rattle.operations.specs.declared.checks.Verdict.TheVariants.{Passed, Refused}
 use Rattle.operations.specs.declared.answer.Refusal as enums
 use Rattle.operations.specs.declared.answer.Refusal.TheVariants as enum
 use Rattle.operations.specs.Answers.{number_of}
@@ -33,13 +31,17 @@ use Rattle.operations.specs.Checked.{map_bad, script_bad, first_checks}
 use Rattle.operations.specs.Ends.{Buffers, all_buffers, ended, ends}
 use Rattle.operations.proofs.Endings.{refused_any}
 
-passed_refused : {X : Type 0} {g : Geometry} {why : enums.Refusal} → Passed g ≡ Refused why → X
-passed_refused q = let z : ◌≡◌ {A = ℕ} 0 1 = cc in absurd (omega arith)
+-- what the checks come to: the geometry of an image that passes, or why it is refused
+abbrev Verdict : Type 0
+Verdict = Result Geometry enums.Refusal
 
-passed_same : {g g' : Geometry} → Passed g ≡ Passed g' → g ≡ g'
+passed_refused : {X : Type 0} {g : Geometry} {why : enums.Refusal} → ◌≡◌ {A = Verdict} (Ok g) (Err why) → X
+passed_refused q = cc
+
+passed_same : {g g' : Geometry} → ◌≡◌ {A = Verdict} (Ok g) (Ok g') → g ≡ g'
 passed_same q = cc
 
-refused_same : {why why' : enums.Refusal} → Refused why ≡ Refused why' → why ≡ why'
+refused_same : {why why' : enums.Refusal} → ◌≡◌ {A = Verdict} (Err why) (Err why') → why ≡ why'
 refused_same q = cc
 
 -- every refusal has a number of its own
@@ -77,7 +79,7 @@ sized_image image g h =
 abbrev shape_of : List ℕ → Geometry
 shape_of image = geometry_of (reads image)
 
-module _ (image : List ℕ) (map scratch script : Buffer) where
+module _ (image : List ℕ) (map scratch script : std.Option ℕ) where
   -- 3, for all three buffers
   abbrev pub buffers_bad : Test
   buffers_bad = map_bad (shape_of image) map or map_bad (shape_of image) scratch or script_bad script
@@ -90,7 +92,7 @@ module _ (image : List ℕ) (map scratch script : Buffer) where
     pub buffers_fine : holds buffers_bad ≡ false
     pub table_fine : holds (bad_own (reads image)) ≡ false
 
-  pub passed : {g : Geometry} → Passed g ≡ first_checks image map scratch script → PassedAll g
+  pub passed : {g : Geometry} → Ok g ≡ first_checks image map scratch script → PassedAll g
   unfolding first_checks
   passed {g} q = elim (test (holds (bad_image (length image) (shape_of image)))) [
     | inl a ↦ passed_refused (rw a at q)
@@ -115,7 +117,7 @@ module _ (image : List ℕ) (map scratch script : Buffer) where
     pub number : (rest : List Refusal) → refusal (checked image buffers_bad rest) ≡ number_of why
     pub most : number_of why ≤ 4
 
-  pub refused_first : {why : enums.Refusal} → Refused why ≡ first_checks image map scratch script → RefusedFirst why
+  pub refused_first : {why : enums.Refusal} → Err why ≡ first_checks image map scratch script → RefusedFirst why
   unfolding first_checks refusal
   refused_first q = elim (test (holds (bad_image (length image) (shape_of image)))) [
     | inl a ↦ rw (refused_same (rw a at q)) (record { number = λ rest. rw a refl; most = omega arith })
@@ -134,9 +136,9 @@ module _ (image : List ℕ) (map scratch script : Buffer) where
 -- ---- what the checks leave
 
 -- a buffer that is borrowed, or none, as the checks see it
-abbrev pub by_length : Option (List ℕ) → Buffer
-by_length none = Absent
-by_length (some words) = Words (length words)
+abbrev pub by_length : Option (List ℕ) → std.Option ℕ
+by_length none = None
+by_length (some words) = Some (length words)
 
 abbrev pub checks_on : List ℕ → (map scratch script : Option (List ℕ)) → Verdict
 checks_on im map scratch script = first_checks im (by_length map) (by_length scratch) (by_length script)
@@ -151,7 +153,7 @@ pub record Checked (im : List ℕ) (map scratch script : Option (List ℕ)) (g :
   pub script_words : Denies (script_bad (by_length script))
 
 module _ (im : List ℕ) (map scratch script : Option (List ℕ)) {g : Geometry} where
-  pub all_checked : {v : Verdict} → v ≡ checks_on im map scratch script → v ≡ Passed g → Checked im map scratch script g
+  pub all_checked : {v : Verdict} → v ≡ checks_on im map scratch script → v ≡ Ok g → Checked im map scratch script g
   all_checked q told =
       let p = passed im (by_length map) (by_length scratch) (by_length script) (sym told ∙ q) in
       let fine = denies (buffers_bad im (by_length map) (by_length scratch) (by_length script)) p.buffers_fine in
@@ -174,55 +176,16 @@ module _ (im : List ℕ) (map scratch script : Option (List ℕ)) {g : Geometry}
 abbrev pub OpenChecked : (im pool script : List ℕ) → Geometry → Type 0
 OpenChecked im pool script = Checked im (some pool) none (some script)
 
-pub open_checked : (im pool script : List ℕ) {g : Geometry} {v : Verdict} → v ≡ checks_on im (some pool) none (some script) → v ≡ Passed g
+pub open_checked : (im pool script : List ℕ) {g : Geometry} {v : Verdict} → v ≡ checks_on im (some pool) none (some script) → v ≡ Ok g
     → OpenChecked im pool script g
 open_checked im pool script = all_checked im (some pool) none (some script)
-
--- ---- the checks as the code makes them, with the geometry that it has read
-
-module _ (image : List ℕ) (map scratch script : Buffer) (g : Geometry) (is : g ≡ geometry_of (reads image)) where
-  pub image_bad : holds (bad_image (length image) g) ≡ true → Refused enum.Image ≡ first_checks image map scratch script
-  unfolding first_checks
-  image_bad a = rw (← is, a) refl
-
-  pub edition_bad : holds (bad_image (length image) g) ≡ false → holds (bad_edition (reads image)) ≡ true
-      → Refused enum.Edition ≡ first_checks image map scratch script
-  unfolding first_checks
-  edition_bad a b = rw (← is, a, b) refl
-
-  buffers_at : {v : Bool} → holds (map_bad g map or map_bad g scratch or script_bad script) ≡ v
-      → holds (map_bad (geometry_of (reads image)) map or map_bad (geometry_of (reads image)) scratch or script_bad script) ≡ v
-  buffers_at {v} = subst (λ (x : Geometry). holds (map_bad x map or map_bad x scratch or script_bad script) ≡ v) is
-
-  pub buffer_bad : holds (bad_image (length image) g) ≡ false → holds (bad_edition (reads image)) ≡ false
-      → holds (map_bad g map or map_bad g scratch or script_bad script) ≡ true → Refused enum.Buffer ≡ first_checks image map scratch script
-  unfolding first_checks
-  buffer_bad a b c =
-      let c' = buffers_at c in
-      rw (← is, a, b, c') refl
-
-  pub table_bad : holds (bad_image (length image) g) ≡ false → holds (bad_edition (reads image)) ≡ false
-      → holds (map_bad g map or map_bad g scratch or script_bad script) ≡ false → holds (bad_own (reads image)) ≡ true
-      → Refused enum.Malformed ≡ first_checks image map scratch script
-  unfolding first_checks
-  table_bad a b c d =
-      let c' = buffers_at c in
-      rw (← is, a, b, c', d) refl
-
-  pub none_bad : holds (bad_image (length image) g) ≡ false → holds (bad_edition (reads image)) ≡ false
-      → holds (map_bad g map or map_bad g scratch or script_bad script) ≡ false → holds (bad_own (reads image)) ≡ false
-      → Passed g ≡ first_checks image map scratch script
-  unfolding first_checks
-  none_bad a b c d =
-      let c' = buffers_at c in
-      rw (← is, a, b, c', d) refl
 
 -- ---- an operation that ends with one of the four
 
 -- as the code ends there: v is the checks' verdict, and it refuses
-pub ended_early : (op : Operation) (s : State) (b : Buffers) (map scratch script : Buffer) (rest : List Refusal) {v : Verdict} {why : enums.Refusal}
+pub ended_early : (op : Operation) (s : State) (b : Buffers) (map scratch script : std.Option ℕ) (rest : List Refusal) {v : Verdict} {why : enums.Refusal}
     → refusal (refusals op s) ≡ refusal (checked s.image (buffers_bad s.image map scratch script) rest)
-    → v ≡ first_checks s.image map scratch script → v ≡ Refused why
+    → v ≡ first_checks s.image map scratch script → v ≡ Err why
     → ended (number_of why) 0 (leaves op s (number_of why)) (all_buffers (scratch_after (clears op (number_of why)) b.scratch) b.script b.list b.copy)
     ≡ ends op s b
 ended_early op s b map scratch script rest {why = why} same is told =

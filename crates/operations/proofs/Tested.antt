@@ -3,6 +3,7 @@ use mathlib.Core.Path.{◌≡◌, refl, sym, ◌∙◌, ap}
 use mathlib.Core.Bool.{Bool, true, cond, ◌&&◌, and-true}
 use mathlib.Core.Option.{Option}
 use mathlib.Core.List.{List, ◌∷◌}
+use Rattle.std.specs.Prelude.{Result, Err}
 use Prim.Native.Nat.{ℕ, ◌≤◌, ◌<◌}
 use native.Mathlib.Omega.{arith}
 use lib.ListN.{length}
@@ -20,8 +21,6 @@ use Rattle.book.specs.State.{Operation, State, scratch_after}
 use Rattle.book.specs.Checks.{checked, refusals}
 use Rattle.book.specs.Perform.{granted, leaves, past_checks, clears, left_by}
 use Rattle.book.proofs.Refusals.{refused_here, refused_later}
-use Rattle.operations.specs.declared.checks.Verdict.{Verdict}
-use Rattle.operations.specs.declared.checks.Verdict.TheVariants.{Refused}
 use Rattle.operations.specs.declared.answer.Refusal as enums
 use Rattle.operations.specs.Answers.{number_of}
 use Rattle.operations.specs.Ends.{Buffers, all_buffers, ended, found, ends}
@@ -42,7 +41,7 @@ left_as cleared b = all_buffers (cond cleared (clear_map (length b.scratch)) b.s
 module _ {op : Operation} {s : State} {map scratch script : Option (List ℕ)} {cleared : Bool} {rest : Geometry → List Refusal}
     (o : Tested op s map scratch script cleared rest) (b : Buffers) where
   -- 1, 2, 3, or 4 for the table, which clears a scratch map
-  pub check_bad : {v : Verdict} {why : enums.Refusal} → v ≡ checks_on s.image map scratch script → v ≡ Refused why
+  pub check_bad : {v : Result Geometry enums.Refusal} {why : enums.Refusal} → v ≡ checks_on s.image map scratch script → v ≡ Err why
       → ended (number_of why) 0 s (left_as (cleared && eqb (number_of why) 4) b) ≡ ends op s b
   unfolding scratch_after
   check_bad {why = why} is told =

@@ -1,9 +1,7 @@
 -- The paper's numbers for what an operation answers.
-use Rattle.std.specs.Prelude.{ℕ}
+use Rattle.std.specs.Prelude.{ℕ, Result, Ok, Err}
 use Rattle.operations.specs.declared.answer.Refusal.{Refusal}
 use Rattle.operations.specs.declared.answer.Refusal.TheVariants.{Image, Edition, Buffer, Malformed, NoReel, AlreadyOpen, NoSlot, NoRun, FrameHeld, FrameNotHeld, HeadNumber, HeadState, Busy, ListShort, GivenTable, OwnTable, NoGroup}
-use Rattle.operations.specs.declared.answer.Answer.{Answer}
-use Rattle.operations.specs.declared.answer.Answer.TheVariants.{Done, Refused}
 
 -- the paper's refusals
 abbrev pub number_of : Refusal → ℕ
@@ -26,10 +24,10 @@ number_of OwnTable = 17
 number_of NoGroup = 18
 
 -- the answer's number, and the count handed back: 0 on a refusal
-abbrev pub answer_of : Answer → ℕ
-answer_of (Done n) = 0
-answer_of (Refused why) = number_of why
+abbrev pub answer_of : Result ℕ Refusal → ℕ
+answer_of (Ok n) = 0
+answer_of (Err why) = number_of why
 
-abbrev pub count_of : Answer → ℕ
-count_of (Done n) = n
-count_of (Refused why) = 0
+abbrev pub count_of : Result ℕ Refusal → ℕ
+count_of (Ok n) = n
+count_of (Err why) = 0

@@ -1,15 +1,13 @@
 -- The heads as the code has them: an array of records, read from the driver's words.
-use Rattle.std.specs.Prelude.{Bool, List, map, ℕ, ◌<◌, get_or, ltb}
+use Rattle.std.specs.Prelude.{Bool, List, map, ℕ, ◌<◌, get_or, ltb, Result, Ok, Err}
 use Rattle.tree.specs.Memory.{first}
 use Rattle.tree.specs.Lists.{up_to}
 use Rattle.book.specs.declared.HeadState.{HeadState}
 use Rattle.book.specs.declared.HeadState.TheVariants.{Idle}
 use Rattle.book.specs.declared.Head.{Head}
 use Rattle.book.specs.Heads.{head_count, head_at, names, with_head, idle_heads}
-use Rattle.operations.specs.declared.answer.Answer.{Answer}
-use Rattle.operations.specs.declared.answer.Answer.TheVariants as answer
-use Rattle.operations.specs.declared.answer.HeadAnswer.{HeadAnswer}
-use Rattle.operations.specs.declared.answer.HeadAnswer.TheVariants as head-answer
+use Rattle.operations.specs.declared.answer.Refusal.{Refusal}
+use Rattle.operations.specs.declared.answer.HeadDone.{HeadDone}
 use Rattle.operations.specs.Answers.{number_of}
 
 abbrev pub head_of : HeadState → Head
@@ -30,25 +28,25 @@ any_in passes heads = ltb (first (λ h. passes (state_in heads h)) head_count) h
 abbrev pub busy_in : List Head → ℕ → Bool
 busy_in heads s = any_in (names s) heads
 
-abbrev pub head_answer_of : HeadAnswer → ℕ
-head_answer_of (head-answer.Done n x) = 0
-head_answer_of (head-answer.Refused why) = number_of why
+abbrev pub head_answer_of : Result HeadDone Refusal → ℕ
+head_answer_of (Ok d) = 0
+head_answer_of (Err why) = number_of why
 
-abbrev pub head_count_of : HeadAnswer → ℕ
-head_count_of (head-answer.Done n x) = n
-head_count_of (head-answer.Refused why) = 0
+abbrev pub head_count_of : Result HeadDone Refusal → ℕ
+head_count_of (Ok d) = d.count
+head_count_of (Err why) = 0
 
 -- the driver's words once the answer is known: head h's record is written, or nothing
-abbrev pub heads_after : List ℕ → ℕ → HeadAnswer → List ℕ
-heads_after ws h (head-answer.Done n x) = with_head ws h x
-heads_after ws h (head-answer.Refused why) = ws
+abbrev pub heads_after : List ℕ → ℕ → Result HeadDone Refusal → List ℕ
+heads_after ws h (Ok d) = with_head ws h d.state
+heads_after ws h (Err why) = ws
 
 -- and after a Format or Recover: every record is written idle, or nothing
-abbrev pub heads_fresh : List ℕ → Answer → List ℕ
-heads_fresh ws (answer.Done n) = idle_heads
-heads_fresh ws (answer.Refused why) = ws
+abbrev pub heads_fresh : List ℕ → Result ℕ Refusal → List ℕ
+heads_fresh ws (Ok n) = idle_heads
+heads_fresh ws (Err why) = ws
 
 -- a record that is to be written is one of the heads'
-abbrev pub HeadInside : ℕ → HeadAnswer → Type 0
-HeadInside h (head-answer.Done n x) = h < head_count
-HeadInside h (head-answer.Refused why) = Unit {0}
+abbrev pub HeadInside : ℕ → Result HeadDone Refusal → Type 0
+HeadInside h (Ok d) = h < head_count
+HeadInside h (Err why) = Unit {0}

@@ -10,60 +10,47 @@ use fingerprints::own_table::bad_own;
 use pool::pool_map::clear_map;
 use tree::layout::{Geometry, bad_edition, bad_image, geometry_in, map_words};
 
-// A buffer that an operation borrows, by its length, or does not borrow.
-#[derive(Clone, Copy)]
-pub enum Buffer {
-    Absent,
-    Words(usize),
-}
-
-// Is a map or scratch map not of the map's length?
-fn map_bad(g: Geometry, b: Buffer) -> bool
+// Is a map or scratch map that is borrowed not of the map's length?
+fn map_bad(g: Geometry, words: Option<usize>) -> bool
     requires { g.nodes ≤ 65536 }
-    ensures { result ≡ holds (map_bad g b) }
+    ensures { result ≡ holds (map_bad g words) }
 {
-    match b {
-        Buffer::Absent => false,
-        Buffer::Words(n) => n != map_words(g),
-    }
+    words.is_some_and(|n| n != map_words(g))
 }
 
-// Is a script too short?
-fn script_bad(b: Buffer) -> bool
-    ensures { result ≡ holds (script_bad b) }
+// Is a script that is borrowed too short?
+fn script_bad(words: Option<usize>) -> bool
+    ensures { result ≡ holds (script_bad words) }
 {
-    match b {
-        Buffer::Absent => false,
-        Buffer::Words(n) => n < 50,
-    }
+    words.is_some_and(|n| n < 50)
 }
 
-// What the checks come to: the geometry of an image that passes, or why it is refused.
-#[derive(Clone, Copy)]
-pub enum Verdict {
-    Passed(Geometry),
-    Refused(Refusal),
-}
-
-// 1, 2, 3 and 4, in this sequence.
-pub fn checks(image: &[u64], map: Buffer, scratch: Buffer, script: Buffer) -> Verdict
+// 1, 2, 3 and 4, in this sequence: the geometry of an image that passes, or why it is refused. Of each buffer that the operation
+// borrows it is told the length.
+#[tactic(auto, unfolding(crate::specs::Checked::first_checks))]
+pub fn checks(
+    image: &[u64],
+    map: Option<usize>,
+    scratch: Option<usize>,
+    script: Option<usize>,
+) -> Result<Geometry, Refusal>
     ensures { result ≡ first_checks image.now map scratch script }
 {
     let g = geometry_in(image);
     if bad_image(image.len(), g) {
-        return Verdict::Refused(Refusal::Image);
+        return Err(Refusal::Image);
     }
     if bad_edition(image) {
-        return Verdict::Refused(Refusal::Edition);
+        return Err(Refusal::Edition);
     }
     let buffer_bad = map_bad(g, map) | (map_bad(g, scratch) | script_bad(script));
     if buffer_bad {
-        return Verdict::Refused(Refusal::Buffer);
+        return Err(Refusal::Buffer);
     }
     if bad_own(image) {
-        return Verdict::Refused(Refusal::Malformed);
+        return Err(Refusal::Malformed);
     }
-    Verdict::Passed(g)
+    Ok(g)
 }
 
 // What a refusal of the checks leaves of a map that a 4 clears: the scratch map of List, Retire, Tidy and Convert, and
@@ -72,7 +59,7 @@ pub fn clear_on_4(map: &mut [u64], why: Refusal)
     ensures { map.new
         ≡ cond (eqb (number_of why) 4) (clear_map (length map.old)) map.old }
 {
-    if let Refusal::Malformed = why {
+    if why == Refusal::Malformed {
         clear_map(map);
     }
 }

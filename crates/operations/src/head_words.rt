@@ -6,6 +6,7 @@ ghost use Rattle.operations.specs.HeadLists.{heads_in, state_in};
 use book::{HEAD_WORDS, HEADS, Head, HeadState, Target};
 
 // Record h; any state word but 1 and 2 reads as idle.
+#[tactic(auto, unfolding(book::specs::Heads::head_at, book::specs::Heads::state_of))]
 fn read_head(words: &[u64; HEAD_WORDS], h: usize) -> HeadState
     requires { h < head_count }
     ensures { result ≡ head_at words.now h }
@@ -44,12 +45,8 @@ pub fn read_heads(words: &[u64; HEAD_WORDS]) -> [Head; HEADS]
     let mut heads = [Head {
         state: HeadState::Idle,
     }; HEADS];
-    let mut h = 0;
-    while h < HEADS {
-        heads[h] = Head {
-            state: read_head(words, h),
-        };
-        h += 1;
+    for (h, head) in heads.iter_mut().enumerate() {
+        head.state = read_head(words, h);
     }
     heads
 }
@@ -70,6 +67,7 @@ fn write_words(words: &mut [u64], h: usize, state: u64, t: Target)
 }
 
 // Writes record h, and no word of another.
+#[tactic(auto, unfolding(book::specs::Heads::with_head, book::specs::Heads::words_of))]
 pub fn write_head(words: &mut [u64; HEAD_WORDS], h: usize, state: HeadState)
     requires { h < head_count }
     ensures { words.new ≡ with_head words.old h state }

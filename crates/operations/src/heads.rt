@@ -29,12 +29,5 @@ fn names(slot: usize, state: HeadState) -> bool
 pub fn is_busy(heads: [Head; HEADS], slot: usize) -> bool
     ensures { result ≡ busy_in heads slot }
 {
-    let mut h = 0;
-    while h < HEADS {
-        if names(slot, state_in(heads, h)) {
-            return true;
-        }
-        h += 1;
-    }
-    false
+    heads.iter().any(|head| names(slot, head.state))
 }

@@ -23,7 +23,7 @@ use Rattle.book.specs.State.{Operation, State, query, convert, scratch_after}
 use Rattle.book.specs.Checks.{first_three, bad_map, not_sound, refusals}
 use Rattle.book.specs.Perform.{granted, leaves, clears}
 use Rattle.book.proofs.Refusals.{passed_all, refused_here, refused_later}
-use Rattle.operations.specs.declared.checks.Buffer.TheVariants.{Absent, Words}
+use Rattle.std.specs.Prelude.{Some, None}
 use Rattle.operations.specs.Ends.{Buffers, all_buffers, state, ended, ends}
 use Rattle.operations.proofs.Endings.{no_script, refused}
 use Rattle.operations.proofs.Passed.{buffers_bad, Checked, past_three, in_turn}
@@ -59,7 +59,7 @@ module _ (im pool ws scratch copy : List ℕ) where
     pub tested : Tested op start none (some scratch) none true rest
     unfolding refusals leaves clears
     tested = record {
-      tests = right_length ∙ past_three im _ (buffers_bad im Absent (Words (length scratch)) Absent) _ _ (sym (or-false _))
+      tests = right_length ∙ past_three im _ (buffers_bad im None (Some (length scratch)) None) _ _ (sym (or-false _))
           (in_turn (bad_own (reads im)) (is (not (is_sound (rule_of (reads im)) (geometry_of (reads im)) (reads im)))) 4 _);
       leaves_all = λ n. refl;
       clears_past = λ n. refl;

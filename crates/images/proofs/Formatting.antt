@@ -2,11 +2,13 @@
 use mathlib.Core.Path.{◌≡◌, refl, sym, ◌∙◌, ap}
 use mathlib.Core.Bool.{true, false}
 use mathlib.Core.Logic.{◌≢◌}
-use mathlib.Core.List.{List, [], ◌∷◌, map}
-use Prim.Native.Nat.{ℕ, zero, suc, ◌+◌}
+use mathlib.Core.List.{List, [], ◌∷◌, ◌++◌, map, append_assoc}
+use Prim.Native.Nat.{ℕ, zero, suc, ◌+◌, ◌≤◌}
 use native.Mathlib.Omega.{arith}
 use native.Mathlib.Numerals.{add-one}
-use lib.ListN.{length, set}
+use lib.ListN.{length, set, take, drop, replicate, length-set, length-take, length-drop}
+use lib.Seq.{sets-eq}
+use Rattle.std.proofs.Common.{drop-drop}
 use borrow.Author.Tests.{lt-ltb}
 use Rattle.tree.specs.Memory.{Store, stores, apply, set_all}
 use Rattle.tree.specs.Test.{holds}
@@ -65,11 +67,26 @@ module _ (at word : ℕ → ℕ) where
 abbrev pub header_stores : Geometry → List Store
 header_stores g = (0, 2) ∷ (1, g.slots) ∷ (2, g.nodes) ∷ zeros (λ i. i) (range 3 61)
 
-pub header_first : (g : Geometry) (im : List ℕ)
+header_first : (g : Geometry) (im : List ℕ)
     → apply (set (set (set im 0 2) 1 g.slots) 2 g.nodes) (stores (zeros (λ i. i) (range 3 61))) ≡ apply im (stores (header_stores g))
 header_first g im =
     segment_laws.apply_stores (set (set (set im 0 2) 1 g.slots) 2 g.nodes) (zeros (λ i. i) (range 3 61))
     ∙ sym (segment_laws.apply_stores im (header_stores g))
+
+-- words 3 to 63 filled with 0, after the first three were set
+pub header_filled : (g : Geometry) (im ys : List ℕ) → 64 ≤ length im
+    → let xs = set (set (set im 0 2) 1 g.slots) 2 g.nodes in
+    ys ≡ replicate (length (take 61 (drop 3 xs))) 0
+    → take 3 xs ++ (ys ++ drop 61 (drop 3 xs)) ≡ apply im (stores (header_stores g))
+unfolding range
+header_filled g im ys long e =
+    let xs = set (set (set im 0 2) 1 g.slots) 2 g.nodes in
+    let same : length xs ≡ length im = simp length-set in
+    let count : length (take 61 (drop 3 xs)) ≡ 61 = simp (length-take, length-drop) (omega arith) in
+    let rest : drop 61 (drop 3 xs) ≡ drop 64 xs = drop-drop 61 3 xs in
+    let filled : take 3 xs ++ (replicate 61 0 ++ drop 64 xs) ≡ set_all xs (zeros (λ i. i) (range 3 61)) =
+    sym (sets-eq (replicate 61 0) xs 3 (omega arith) ∙ append_assoc (take 3 xs) (replicate 61 0) (drop 64 xs)) in
+    rw (e, count, rest) (filled ∙ sym (segment_laws.apply_stores xs (zeros (λ i. i) (range 3 61))) ∙ header_first g im)
 
 pub header_then_roots : (g : Geometry) (im : List ℕ)
     → apply (apply im (stores (header_stores g))) (stores (zeros root_at (up_to g.slots))) ≡ apply im (stores (format_stores g))

@@ -8,7 +8,6 @@ use Prim.Native.Nat.{ℕ}
 use native.Mathlib.Omega.{arith}
 use lib.ListN.{length}
 use lib.Dec.{eqb}
-use borrow.Author.Tests.{not-true, not-false}
 use Rattle.tree.specs.Memory.{reads, stores, apply}
 use Rattle.tree.specs.Test.{is}
 use Rattle.tree.specs.declared.layout.Geometry.{Geometry}
@@ -25,9 +24,7 @@ use Rattle.book.specs.State.{Operation, State, recover, scratch_after}
 use Rattle.book.specs.Checks.{checked, refusals}
 use Rattle.book.specs.Perform.{granted, leaves, clears}
 use Rattle.book.proofs.Refusals.{passed_all, refused_here}
-use Rattle.operations.specs.declared.checks.Buffer.TheVariants.{Absent, Words}
-use Rattle.operations.specs.declared.checks.Verdict.{Verdict}
-use Rattle.operations.specs.declared.checks.Verdict.TheVariants.{Refused}
+use Rattle.std.specs.Prelude.{Some, None, Result, Err}
 use Rattle.operations.specs.declared.answer.Refusal as enums
 use Rattle.operations.specs.Answers.{number_of}
 use Rattle.operations.specs.Ends.{no_buffers, state, ended, ends}
@@ -46,19 +43,19 @@ module _ (im pool heads : List ℕ) where
   later_tests g = (is (not (is_sound (rule_of (reads im)) g (reads im))) gives 4) ∷ []
 
   tests : refusal (refusals op start)
-      ≡ refusal (checked im (buffers_bad im (Words (length pool)) Absent Absent) (later_tests (geometry_of (reads im))))
+      ≡ refusal (checked im (buffers_bad im (Some (length pool)) None None) (later_tests (geometry_of (reads im))))
   unfolding refusals
   tests =
-      past_three im _ (buffers_bad im (Words (length pool)) Absent Absent) _ _ (sym (or-false _))
+      past_three im _ (buffers_bad im (Some (length pool)) None None) _ _ (sym (or-false _))
       (in_turn (bad_own (reads im)) (is (not (is_sound (rule_of (reads im)) (geometry_of (reads im)) (reads im)))) 4 [])
 
   -- 1, 2, 3, or 4 for the table, which clears the map
-  pub recover_early : {v : Verdict} {why : enums.Refusal} → v ≡ checks_on im (some pool) none none → v ≡ Refused why
+  pub recover_early : {v : Result Geometry enums.Refusal} {why : enums.Refusal} → v ≡ checks_on im (some pool) none none → v ≡ Err why
       → (pool' : List ℕ) → pool' ≡ cond (eqb (number_of why) 4) (clear_map (length pool)) pool
       → ended (number_of why) 0 (state im pool' heads) no_buffers ≡ ends op start no_buffers
   unfolding leaves clears scratch_after
   recover_early {why = why} q told pool' left =
-      let e = ended_early op start no_buffers (Words (length pool)) Absent Absent (later_tests (geometry_of (reads im))) tests q told in
+      let e = ended_early op start no_buffers (Some (length pool)) None None (later_tests (geometry_of (reads im))) tests q told in
       let same : state im (cond (eqb (number_of why) 4) (clear_map (length pool)) pool) heads ≡ leaves op start (number_of why) =
       elim (test (eqb (number_of why) 4)) [ inl h ↦ rw h refl | inr h ↦ rw h refl ] in
       ap (λ x. ended (number_of why) 0 (state im x heads) no_buffers) left ∙ ap (λ x. ended (number_of why) 0 x no_buffers) same ∙ e
@@ -71,16 +68,16 @@ module _ (im pool heads : List ℕ) where
     later = tests ∙ tests_left im (some pool) none none p later_tests
 
     -- the map is cleared, and nothing else is changed
-    pub unsound : not r ≡ true → ended 4 0 (state im' pool' heads) no_buffers ≡ ends op start no_buffers
+    pub unsound : r ≡ false → ended 4 0 (state im' pool' heads) no_buffers ≡ ends op start no_buffers
     unfolding leaves clears scratch_after listed
-    unsound taken =
-        let bad = sym r-is ∙ not-true r taken in
+    unsound told =
+        let bad = sym r-is ∙ told in
         let why : refusal (refusals op start) ≡ 4 = later ∙ refused_here _ _ (rw bad refl) in
         rw (image-is, pool-is, bad, ← p.map_words_lem) (sym (refused_with op start no_buffers 4 why (omega arith) ∙ no_script op _ no_buffers refl))
 
-    pub recovered : not r ≡ false → ended 0 0 (state im' pool' idle_heads) no_buffers ≡ ends op start no_buffers
+    pub recovered : r ≡ true → ended 0 0 (state im' pool' idle_heads) no_buffers ≡ ends op start no_buffers
     unfolding granted clears scratch_after listed
-    recovered left =
-        let fine = sym r-is ∙ not-false r left in
+    recovered told =
+        let fine = sym r-is ∙ told in
         let none : refusal (refusals op start) ≡ 0 = later ∙ passed_all (later_tests g) (rw fine refl, tt) in
         rw (image-is, pool-is, fine, p.geometry) (sym (done op start no_buffers none ∙ no_script op _ no_buffers refl))

@@ -8,15 +8,16 @@ use tree::layout::{bad_image, geometry_in};
 use tree::persistent::carry_out;
 
 // Applies a script of whole entries to the image, or refuses it and writes nothing.
+#[tactic(auto, unfolding(book::specs::CarryOut::carry))]
 pub fn apply(image: &mut [u64], script: &[u64]) -> Answer
     ensures { carried (answer_of result) image.new ≡ carry image.old script.now }
 {
     let g = geometry_in(image);
     if bad_image(image.len(), g) {
-        return Answer::Refused(Refusal::Image);
+        return Err(Refusal::Image);
     }
     if !carry_out(image, script) {
-        return Answer::Refused(Refusal::Buffer);
+        return Err(Refusal::Buffer);
     }
-    Answer::Done(0)
+    Ok(0)
 }

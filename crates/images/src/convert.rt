@@ -7,7 +7,7 @@ ghost use Rattle.operations.specs.Ends.{all_buffers, state, ended, ends};
 use conversion::conversion::convert_image;
 use fingerprints::own_table::has_own;
 use operations::answer::{Answer, Refusal};
-use operations::checks::{Buffer, Verdict, checks, clear_on_4};
+use operations::checks::{checks, clear_on_4};
 use pool::pool_map::clear_map;
 use recovery::recovery::check_image;
 
@@ -21,28 +21,23 @@ pub fn convert(image: &[u64], copy: &mut [u64], scratch: &mut [u64]) -> Answer
         (state image.now pool ws) (all_buffers scratch.old [] [] copy.old) }
 {
     if copy.len() != image.len() {
-        return Answer::Refused(Refusal::Image);
+        return Err(Refusal::Image);
     }
-    let g = match checks(
-        image,
-        Buffer::Absent,
-        Buffer::Words(scratch.len()),
-        Buffer::Absent,
-    ) {
-        Verdict::Passed(g) => g,
-        Verdict::Refused(why) => {
+    let g = match checks(image, None, Some(scratch.len()), None) {
+        Ok(g) => g,
+        Err(why) => {
             clear_on_4(scratch, why);
-            return Answer::Refused(why);
+            return Err(why);
         }
     };
     if !check_image(image, scratch, g) {
-        return Answer::Refused(Refusal::Malformed);
+        return Err(Refusal::Malformed);
     }
     if has_own(image) {
         clear_map(scratch);
-        return Answer::Refused(Refusal::OwnTable);
+        return Err(Refusal::OwnTable);
     }
     convert_image(image, scratch, copy, g);
     clear_map(scratch);
-    Answer::Done(0)
+    Ok(0)
 }

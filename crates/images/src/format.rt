@@ -26,11 +26,7 @@ fn put_header(image: &mut [u64], g: Geometry)
     image[0] = 2;
     image[1] = g.slots as u64;
     image[2] = g.nodes as u64;
-    let mut i = 3;
-    while i < 64 {
-        image[i] = 0;
-        i += 1;
-    }
+    image[3..64].fill(0);
 }
 
 // A table that is given: word 3 is 1, and words 8 to 39 have it.
@@ -39,14 +35,12 @@ fn put_table(image: &mut [u64], table: &[u8])
     ensures { image.new
         ≡ apply image.old (stores (given_stores table.now)) }
 {
-    if table.len() == 0 {
+    if table.is_empty() {
         return;
     }
     image[OWN_AT] = 1;
-    let mut j: usize = 0;
-    while j < 32 {
+    for j in 0..32 {
         image[TABLE_AT + j] = packed(table, j);
-        j += 1;
     }
 }
 
@@ -56,10 +50,8 @@ fn clear_roots(image: &mut [u64], g: Geometry)
     ensures { image.new
         ≡ apply image.old (stores (map (λ s. (root_at s, 0)) (up_to g.slots))) }
 {
-    let mut s = 0;
-    while s < g.slots {
+    for s in 0..g.slots {
         image[root_at(s)] = 0;
-        s += 1;
     }
 }
 
@@ -76,17 +68,17 @@ pub fn format(image: &mut [u64], pool: &mut [u64], table: &[u8], slots: u64, nod
         nodes: nodes as usize,
     };
     if bad_image(image.len(), g) {
-        return Answer::Refused(Refusal::Image);
+        return Err(Refusal::Image);
     }
     if pool.len() != map_words(g) {
-        return Answer::Refused(Refusal::Buffer);
+        return Err(Refusal::Buffer);
     }
     if bad_given(table) {
-        return Answer::Refused(Refusal::GivenTable);
+        return Err(Refusal::GivenTable);
     }
     put_header(image, g);
     clear_roots(image, g);
     put_table(image, table);
     clear_map(pool);
-    Answer::Done(0)
+    Ok(0)
 }

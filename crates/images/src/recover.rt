@@ -6,7 +6,7 @@ ghost use Rattle.operations.specs.HeadLists.{heads_fresh};
 ghost use Rattle.operations.specs.Ends.{no_buffers, state, ended, ends};
 
 use operations::answer::{Answer, Refusal};
-use operations::checks::{Buffer, Verdict, checks, clear_on_4};
+use operations::checks::{checks, clear_on_4};
 use recovery::recovery::recover_image;
 
 // Recover: an image that is not sound stays as it is, and its map is all 0.
@@ -16,20 +16,15 @@ pub fn recover(image: &mut [u64], pool: &mut [u64]) -> Answer
         ≡ ends (recover (length pool.old)) (state image.old pool.old heads)
         no_buffers }
 {
-    let g = match checks(
-        image,
-        Buffer::Words(pool.len()),
-        Buffer::Absent,
-        Buffer::Absent,
-    ) {
-        Verdict::Passed(g) => g,
-        Verdict::Refused(why) => {
+    let g = match checks(image, Some(pool.len()), None, None) {
+        Ok(g) => g,
+        Err(why) => {
             clear_on_4(pool, why);
-            return Answer::Refused(why);
+            return Err(why);
         }
     };
     if !recover_image(image, pool, g) {
-        return Answer::Refused(Refusal::Malformed);
+        return Err(Refusal::Malformed);
     }
-    Answer::Done(0)
+    Ok(0)
 }

@@ -14,7 +14,7 @@ pub fn translate(script: &[u64], flushed: &mut [u64], words: usize) -> Answer
 {
     let mut used: u64 = 0;
     if !translate_script(script, flushed, words, &mut used) {
-        return Answer::Refused(Refusal::Buffer);
+        return Err(Refusal::Buffer);
     }
-    Answer::Done(used)
+    Ok(used)
 }

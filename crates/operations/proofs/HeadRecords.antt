@@ -6,9 +6,8 @@ use Prim.Native.Nat.{ℕ, zero, suc, ◌+◌, ◌≤◌, ◌<◌}
 use native.Mathlib.Omega.{arith}
 use Rattle.std.specs.Bool.{MatchBool}
 use Rattle.std.specs.List.{AllWithin, HoldsAt}
-use native.Mathlib.Decide.{ℕ_discrete}
-use lib.ListN.{length, get_or, set, get_or-eq_default}
-use lib.Seq.{ext_get_or, get_or-set_same, get_or-set_other}
+use lib.ListN.{length, get_or, get_or-eq_default}
+use lib.Seq.{ext_get_or}
 use lib.Dec.{ltb}
 use borrow.Author.Tests.{le-ltb}
 use Rattle.tree.specs.Memory.{NoneBelow}
@@ -46,15 +45,6 @@ records_count ws = length_mapped (λ k. head_of (head_at ws k)) 0 head_count
 pub all_read : (ws : List ℕ) (heads : List Head) → length heads ≡ head_count
     → ((k : ℕ) → k < head_count → get_or heads k (head_of Idle) ≡ head_of (head_at ws k)) → heads ≡ heads_in ws
 all_read ws heads e h = ext_get_or (head_of Idle) heads (heads_in ws) (e ∙ sym (records_count ws)) (λ i l. h i (rw e at l) ∙ sym (record_in ws i (rw e at l)))
-
--- and one more with each step
-pub one_more : (ws : List ℕ) (heads : List Head) (h : ℕ) (x : HeadState) → h < length heads → x ≡ head_at ws h
-    → ((k : ℕ) → k < h → get_or heads k (head_of Idle) ≡ head_of (head_at ws k))
-    → (k : ℕ) → k < h + 1 → get_or (set heads h (head_of x)) k (head_of Idle) ≡ head_of (head_at ws k)
-one_more ws heads h x low q below k l = elim (ℕ_discrete k h) [
-  | yes e ↦ rw (e, get_or-set_same heads h (head_of x) (head_of Idle) low, q) refl
-  | no e ↦ get_or-set_other heads h k (head_of x) (head_of Idle) e ∙ below k (omega arith)
-]
 
 -- a head's state in the array is the one that its words have
 pub state_read : (ws : List ℕ) (heads : List Head) (h : ℕ) → heads_in ws ≡ heads → h < head_count → state_in heads h ≡ head_at ws h

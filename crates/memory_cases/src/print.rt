@@ -1,10 +1,16 @@
-// Lines of output: a label, then numbers.
-pub use printing::{number, words};
-use std::io;
+// What lines of output show beside numbers.
+use std::fmt;
+use std::fmt::{Display, Formatter, Write};
 
-// A label, an answer and the words of an image, all on one line.
-pub fn outcome(rt: &impl Print, label: &[u8], answer: &[u8], image: &[u64]) -> io::Result<()> {
-    rt.write_all(label)?;
-    rt.write_all(answer)?;
-    words(rt, b", image", image)
+// Words, a space before each.
+#[derive(Clone, Copy)]
+pub struct Words<'a>(pub &'a [u64]);
+
+impl Display for Words<'_> {
+    fn fmt<W: Write>(&self, f: &mut Formatter<W>) -> fmt::Result {
+        for word in self.0 {
+            write!(f, " {word}")?;
+        }
+        Ok(())
+    }
 }

@@ -19,15 +19,23 @@ fn put_part(line: &mut Bytes<PRINTED>, text: &[u8], n: u64)
     put_decimal(line, n);
 }
 
-// The answer to a line.
-pub fn answer_line(answer: u64, stores: u64, value: u64) -> Bytes<PRINTED>
-    ensures holds { result ≡ answer_line answer stores value }
+// The answer to a line: its number, how many stores its script had, and a value.
+#[derive(Clone, Copy)]
+pub struct Answer {
+    pub number: u64,
+    pub stores: u64,
+    pub value: u64,
+}
+
+// The line of an answer.
+pub fn answer_line(answer: Answer) -> Bytes<PRINTED>
+    ensures holds { result ≡ answer_line answer.number answer.stores answer.value }
     ensures upper_bound { length result ≤ 83 }
 {
     let mut line = Bytes::new();
-    put_part(&mut line, b"answer=", answer);
-    put_part(&mut line, b" stores=", stores);
-    put_part(&mut line, b" value=", value);
+    put_part(&mut line, b"answer=", answer.number);
+    put_part(&mut line, b" stores=", answer.stores);
+    put_part(&mut line, b" value=", answer.value);
     line.push(b'\n');
     line
 }

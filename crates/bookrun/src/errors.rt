@@ -2,13 +2,25 @@
 use std::io::{Cursor, Write};
 use std::{io, str};
 
+// A stream that failed, and why.
+#[derive(Drop)]
+pub enum Failure {
+    Input(io::Error),
+    Output(io::Error),
+}
+
 // Room for the system's words and the error's number.
 const ROOM: usize = 320;
 
-// Says on standard error, in one line, which stream failed and why. Where that cannot be written either, nobody is left to be
-// told.
-pub fn fail(rt: &impl Eprint, stream: &str, error: io::Error) {
-    let _ = say(rt, stream, error);
+impl Failure {
+    // Says on standard error, in one line, which stream failed and why. Where that cannot be written either, nobody is left to be
+    // told.
+    pub fn tell(self, rt: &impl Eprint) {
+        let _ = match self {
+            Failure::Input(error) => say(rt, "standard input", error),
+            Failure::Output(error) => say(rt, "standard output", error),
+        };
+    }
 }
 
 fn say(rt: &impl Eprint, stream: &str, error: io::Error) -> io::Result<()> {

@@ -3,99 +3,55 @@
 // the same.
 #![tactic(auto)]
 
-mod answer;
+mod book;
 mod errors;
 mod run;
 
-ghost use Rattle.std.specs.Prelude.{◌≤◌, length};
-
-use errors::fail;
-use lines::input::take_piece;
-use reelbook::{HEAD_WORDS, reelbook_format};
+use book::Book;
+use errors::Failure;
+use lines::bytes::Bytes;
+use lines::input::{KEPT, take_piece};
+use run::run_line;
 use std::io::Read;
 
-// What a piece of input came to: how many bytes are held of a line that has not ended, and whether every answer was written.
-#[derive(Drop)]
-struct Rest {
-    held: usize,
-    written: bool,
-}
-
-// Runs the lines that end in a piece of input, up to the first whose answer is not written. The first bytes of `line` are those
-// of the line that has not ended.
-fn run_piece(
-    rt: &(impl Print + Eprint),
-    image: &mut [u64],
-    map: &mut [u64],
-    heads: &mut [u64; HEAD_WORDS],
-    piece: &[u8],
-    line: &mut [u8],
-    held: usize,
-) -> Rest
-    requires { (held ≤ 81) × (81 ≤ length line.old) }
-    ensures { result.held ≤ 81 }
-{
-    let mut count = held;
-    let mut at = 0;
-    while at < piece.len() {
-        let taken = take_piece(piece, at, line, count);
-        at = taken.next;
-        if taken.ended {
-            if !run::run_line(rt, image, map, heads, &line[..taken.count]) {
-                return Rest {
-                    held: 0,
-                    written: false,
-                };
-            }
-            count = 0;
-        } else {
-            count = taken.count;
-        }
-    }
-    Rest {
-        held: count,
-        written: true,
-    }
-}
-
-// Nothing says that an input ends, and a proved loop has to: it counts its turns down from a number that no run uses up.
-// A line that no newline ends is run at the end of the input.
 fn main(rt: HostRuntime) {
-    let mut image = [0u64; 1352];
-    let mut map = [0u64; 1];
-    let mut heads = [0u64; HEAD_WORDS];
-    let mut line = [0u8; 81];
-    reelbook_format(&mut image, &mut map, &mut heads, &[], 4, 16);
-    let mut held = 0;
-    let mut turns = u64::MAX;
-    while turns > 0 {
-        let mut piece = [0u8; 4096];
-        let n = match rt.stdin().read(&mut piece) {
-            Ok(n) => n,
-            Err(error) => {
-                fail(&rt, "standard input", error);
-                return;
-            }
-        };
+    if let Err(failure) = run_input(&rt) {
+        failure.tell(&rt);
+    }
+}
+
+// Runs the lines of standard input. Nothing says that an input ends, and a proved loop has to: it counts its turns up to a number
+// that no run uses up. A line that no newline ends is run at the end of the input.
+fn run_input(rt: &HostRuntime) -> Result<(), Failure> {
+    let mut book = Book::new();
+    let mut line = Bytes::new();
+    for _ in 0..u64::MAX {
+        let mut piece = [0; 4096];
+        let n = rt.stdin().read(&mut piece).map_err(Failure::Input)?;
         if n == 0 {
             break;
         }
-        let rest = run_piece(
-            &rt,
-            &mut image,
-            &mut map,
-            &mut heads,
-            &piece[..n],
-            &mut line,
-            held,
-        );
-        if !rest.written {
-            return;
-        }
-        held = rest.held;
-        turns -= 1;
+        run_piece(rt, &mut book, &mut line, &piece[..n])?;
     }
-    if held > 0 {
-        run::run_line(&rt, &mut image, &mut map, &mut heads, &line[..held]);
+    if line.as_slice().is_empty() {
+        Ok(())
+    } else {
+        run_line(rt, &mut book, line.as_slice())
     }
+}
+
+// Runs the lines that end in a piece of input, up to the first whose answer is not written.
+fn run_piece(
+    rt: &impl Print,
+    book: &mut Book,
+    line: &mut Bytes<KEPT>,
+    piece: &[u8],
+) -> Result<(), Failure> {
+    let mut rest = piece;
+    while let Some(behind) = take_piece(line, rest) {
+        run_line(rt, book, line.as_slice())?;
+        line.clear();
+        rest = behind;
+    }
+    Ok(())
 }

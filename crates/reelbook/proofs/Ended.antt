@@ -2,13 +2,15 @@
 use mathlib.Core.Path.{◌≡◌, refl, sym, ◌∙◌, ap}
 use mathlib.Core.List.{List}
 use Prim.Native.Nat.{ℕ}
+use Rattle.std.specs.Prelude.{Result}
 use Rattle.book.specs.State.{State, Operation, format, recover}
-use Rattle.operations.specs.declared.answer.HeadAnswer.{HeadAnswer}
+use Rattle.operations.specs.declared.answer.Refusal.{Refusal}
+use Rattle.operations.specs.declared.answer.HeadDone.{HeadDone}
 use Rattle.operations.specs.HeadLists.{head_answer_of, HeadInside}
 use Rattle.operations.specs.Ends.{Buffers, Ends, ended_telling, ended, found, ends}
 use Rattle.operations.proofs.HandedOver.{OfHead, inside}
 
-pub head_inside : {h : ℕ} {op : Operation} → OfHead h op → (s : State) (b : Buffers) (r : HeadAnswer)
+pub head_inside : {h : ℕ} {op : Operation} → OfHead h op → (s : State) (b : Buffers) (r : Result HeadDone Refusal)
     {k l d : ℕ} {s' : State} {b' : Buffers}
     → ended_telling (head_answer_of r) k l d s' b' ≡ ends op s b → HeadInside h r
 head_inside o s b r e = inside o s b r (ap (λ (x : Ends). x.answer) e)

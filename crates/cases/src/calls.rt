@@ -1,4 +1,7 @@
 // The operations called over the words that are lent.
+ghost use Rattle.std.specs.Prelude.{◌≡◌};
+ghost use Rattle.cases.specs.Outcomes.{OnlyReads};
+
 use crate::command::{Frames, Operation, Scripted};
 use crate::driver::{Driver, TABLE_WORDS};
 use crate::outcome::Answer;
@@ -12,7 +15,9 @@ use reelbook::{
 const NO_COUNT: u64 = 999;
 
 impl Driver {
-    pub fn call(&mut self, operation: Operation) -> Answer {
+    pub fn call(&mut self, operation: Operation) -> Answer
+        ensures { OnlyReads operation → self.new.image ≡ self.old.image }
+    {
         match operation {
             Operation::Format { slots, nodes } => self.format(slots, nodes),
             Operation::Recover => self.recover(),
@@ -96,8 +101,8 @@ impl Driver {
         }
     }
 
-    // Claims, fills and commits frames with head 0, up to the first answer that is not 0: what the last operation answers. How
-    // many operations that is may wrap.
+    // Claims, fills and commits frames with head 0, up to the first answer that is not 0: what the last operation answers. The
+    // number of operations, three for each frame, wraps.
     fn add(&mut self, frames: Frames) -> Answer {
         let mut answer = Answer::counted(0, NO_COUNT);
         for i in 0..frames.count.wrapping_mul(3) {
@@ -132,7 +137,9 @@ impl Driver {
         }
     }
 
-    fn list(&mut self, reel: u64) -> Answer {
+    fn list(&mut self, reel: u64) -> Answer
+        ensures { self.new.image ≡ self.old.image }
+    {
         let mut count = NO_COUNT;
         let number = reelbook_list(
             self.image.lent(),
@@ -144,13 +151,17 @@ impl Driver {
         Answer::counted(number, count)
     }
 
-    fn convert(&mut self) -> Answer {
+    fn convert(&mut self) -> Answer
+        ensures { self.new.image ≡ self.old.image }
+    {
         let copy = self.copy.lent_mut();
         reelbook_convert(self.image.lent(), copy, self.scratch.lent_mut()).into()
     }
 
     // The script translated for an image of so many words.
-    fn translate(&mut self, words: u64) -> Answer {
+    fn translate(&mut self, words: u64) -> Answer
+        ensures { self.new.image ≡ self.old.image }
+    {
         let mut used = NO_COUNT;
         let flushed = self.flushed.lent_mut();
         let number = reelbook_translate(self.script.lent(), flushed, words, &mut used);

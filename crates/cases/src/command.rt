@@ -1,4 +1,7 @@
 // The commands, each with its values.
+ghost use Rattle.std.specs.Prelude.{◌≡◌, IfSome};
+ghost use Rattle.cases.specs.Commands.{text, scripted_text, operation_text, command_text};
+
 use crate::buffers::Name;
 use crate::words::Words;
 
@@ -52,7 +55,9 @@ pub struct Frames {
 
 impl<'a> Command<'a> {
     // The command of a word, if it takes such values.
-    pub fn of(word: &str, values: &'a [u64]) -> Option<Self> {
+    pub fn of(word: &str, values: &'a [u64]) -> Option<Self>
+        ensures { IfSome result (λ command. command_text command ≡ text word.now values.now) }
+    {
         Some(match (word, values) {
             ("crash", &[reel, before, after]) => Command::Crash {
                 reel,
@@ -75,7 +80,9 @@ impl<'a> Command<'a> {
 }
 
 impl Operation {
-    fn of(word: &str, values: &[u64]) -> Option<Self> {
+    fn of(word: &str, values: &[u64]) -> Option<Self>
+        ensures { IfSome result (λ operation. operation_text operation ≡ text word.now values.now) }
+    {
         Some(match (word, values) {
             ("format", &[slots, nodes]) => Operation::Format { slots, nodes },
             ("recover", []) => Operation::Recover,
@@ -97,7 +104,9 @@ impl Operation {
 }
 
 impl Scripted {
-    fn of(word: &str, values: &[u64]) -> Option<Self> {
+    fn of(word: &str, values: &[u64]) -> Option<Self>
+        ensures { IfSome result (λ operation. scripted_text operation ≡ text word.now values.now) }
+    {
         Some(match (word, values) {
             ("open", &[reel]) => Scripted::Open { reel },
             ("claim", &[head, reel, frame]) => Scripted::Claim { head, reel, frame },

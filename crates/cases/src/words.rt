@@ -1,4 +1,8 @@
 // Words of a buffer put and shown. A place past its end is a mistake of the line.
+ghost use Rattle.std.specs.Prelude.{◌≡◌, IfOk, IfSome, drop, take};
+ghost use Rattle.cases.specs.Commands.{text, words_text};
+ghost use Rattle.cases.specs.Outcomes.{shown, shows};
+
 use crate::outcome::{Mistake, Outcome};
 
 // What is done with a buffer's words.
@@ -21,8 +25,10 @@ pub struct Ramp {
 }
 
 impl<'a> Words<'a> {
-    pub fn of(name: &str, values: &'a [u64]) -> Option<Self> {
-        match (name, values) {
+    pub fn of(word: &str, values: &'a [u64]) -> Option<Self>
+        ensures { IfSome result (λ words. words_text words ≡ text word.now values.now) }
+    {
+        match (word, values) {
             ("put", [place, words @ ..]) if !words.is_empty() => {
                 Some(Words::Put {
                     place: *place,
@@ -42,7 +48,9 @@ impl<'a> Words<'a> {
         }
     }
 
-    pub fn run<'b>(self, buffer: &'b mut [u64]) -> Result<Outcome<'b>, Mistake> {
+    pub fn run<'b>(self, buffer: &'b mut [u64]) -> Result<Outcome<'b>, Mistake>
+        ensures { IfOk result (λ outcome. shown outcome ≡ shows self.entry buffer.old) }
+    {
         match self {
             Words::Put { place, words } => put(buffer, place as usize, words)?,
             Words::All { word } => buffer.fill(word),
@@ -82,7 +90,9 @@ impl Ramp {
 }
 
 // No words can be shown at any place, also past the end.
-fn show(buffer: &[u64], place: usize, count: usize) -> Result<Outcome<'_>, Mistake> {
+fn show(buffer: &[u64], place: usize, count: usize) -> Result<Outcome<'_>, Mistake>
+    ensures { IfOk result (λ outcome. shown outcome ≡ take count (drop place buffer.now)) }
+{
     let rest = buffer.get(place..).unwrap_or(&[]);
     let shown = rest.get(..count).ok_or(Mistake::NoSuchPlace)?;
     Ok(Outcome::Words(shown))

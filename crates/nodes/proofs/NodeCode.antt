@@ -1,14 +1,10 @@
 -- What the code of nodes computes, step by step, in the code's own terms.
-use mathlib.Core.Path.{◌≡◌, refl, sym, ◌∙◌}
-use mathlib.Core.Bool.{Bool, true, false, ◌&&◌, and_assoc, or-false}
+use mathlib.Core.Path.{◌≡◌, refl, sym}
+use mathlib.Core.Bool.{Bool, false, and_assoc, or-false}
 use mathlib.Core.Logic.{inl, inr}
-use Prim.Native.Nat.{ℕ, ◌+◌, ◌-◌, ◌*◌, ◌/◌, ◌^◌, ◌≤◌, ◌<◌}
+use Prim.Native.Nat.{ℕ, ◌+◌, ◌-◌, ◌^◌, ◌≤◌, ◌<◌}
 use native.Mathlib.Omega.{arith}
-use native.Mathlib.Nat.{div-eq_of_lt, div-lt_iff_lt-mul, one-mul}
-use native.Mathlib.Decide.{dec_lt}
-use borrow.Author.Tests.{lt-ltb, le-ltb, le-leb, lt-leb, eq-eqb, ne_eqb}
-use lib.Dec.{eqb, ltb, leb}
-use lib.Pow.{pow_pos}
+use borrow.Author.Tests.{lt-ltb, le-ltb, eq-eqb, ne_eqb}
 use Rattle.memory.specs.Words.{Memory}
 use Rattle.tree.specs.declared.layout.Geometry.{Geometry}
 use Rattle.tree.specs.Test.{Test, lt, le, eq, ◌and◌, ◌or◌, holds}
@@ -19,22 +15,10 @@ use Rattle.tree.proofs.Cases.{not-false}
 use Rattle.tree.proofs.Tests.{says}
 use Rattle.tree.proofs.Ways.{child_lt}
 
--- a bitmap has no bit at or above a size, by a shift
-pub shifted_out : (w size : ℕ) → eqb (w / 2 ^ size) 0 ≡ ltb w (2 ^ size)
-shifted_out w size = elim (dec_lt w (2 ^ size)) [
-  | yes l ↦ eq-eqb (w / 2 ^ size) 0 (div-eq_of_lt l) ∙ sym (lt-ltb w (2 ^ size) l)
-  | no h ↦
-      ne_eqb (w / 2 ^ size) 0 (λ z. let l : w < 1 * 2 ^ size = (div-lt_iff_lt-mul (pow_pos size)).0 (omega arith) in h (rw one-mul at l))
-      ∙ sym (le-ltb w (2 ^ size) (omega arith))
-]
-
 -- a root of a size below 64
 module _ (size : ℕ) where
   abbrev small_size : Test
   small_size = eq size 16 or eq size 32
-
-  pub small_size_lem : holds small_size ≡ true → size < 64
-  small_size_lem h = elim (says small_size h) [ inl e ↦ omega arith | inr e ↦ omega arith ]
 
   abbrev pub small_root : (d locate set next : ℕ) → Test
   small_root d locate set next = eq d 0 and small_size and lt locate (2 ^ size) and lt set (2 ^ size) and eq next 0
@@ -44,22 +28,9 @@ module _ (nodes d next : ℕ) where
   abbrev pub children_inside : Test
   children_inside = eq next 0 or (lt d 31 and le (next - 1 + fanout d) nodes)
 
-  pub no_children : next ≡ 0 → true ≡ holds children_inside
-  no_children z = simp (eq-eqb next 0 z)
-
   pub children_past : (next ≡ 0 → ⊥) → nodes ≤ next - 1 → false ≡ holds children_inside
   children_past z l =
       sym (not-false (λ h. elim (says children_inside h) [ inl q ↦ z q | inr t ↦ omega (arith, child_lt d 0 t.0) ]))
-
-  pub children_within : {r : ℕ} → (next ≡ 0 → ⊥) → next - 1 < nodes → r ≡ fanout d
-      → ltb d 31 && leb r (nodes - (next - 1)) ≡ holds children_inside
-  children_within z l e = let q = less_by (next - 1) (fanout d) nodes (omega arith) in rw (e, ne_eqb next 0 z, q) refl
-    where
-      less_by : (b f n : ℕ) → b ≤ n → leb f (n - b) ≡ leb (b + f) n
-      less_by b f n h = elim (dec_lt n (b + f)) [
-        | yes l ↦ lt-leb f (n - b) (omega arith) ∙ sym (lt-leb (b + f) n l)
-        | no l ↦ le-leb f (n - b) (omega arith) ∙ sym (le-leb (b + f) n (omega arith))
-      ]
 
 module _ (g : Geometry) (m : Memory) (d n : ℕ) where
   pub formed_outside : g.nodes ≤ n → false ≡ well_formed g m d n

@@ -1,6 +1,6 @@
 -- What a claim finds at the end of a frame's path, in the terms of the code that walks it.
-use mathlib.Core.Path.{◌≡◌, refl, sym, ◌∙◌, ap}
-use mathlib.Core.Bool.{Bool, true, false}
+use mathlib.Core.Path.{◌≡◌, refl, ◌∙◌, ap}
+use mathlib.Core.Bool.{true}
 use mathlib.Core.Logic.{inl, inr}
 use mathlib.Core.Option.{Option, none, some}
 use mathlib.Core.List.{List}
@@ -16,12 +16,12 @@ use Rattle.tree.specs.Path.{levels}
 use Rattle.tree.specs.declared.path.Spot.{Spot}
 use Rattle.tree.specs.declared.path.Room.TheVariants.{Clear, ScaleUp, BranchOut}
 use Rattle.tree.specs.Lookup.{path_from, clear_at, clear_spot}
-use Rattle.tree.specs.Room.{last_of, full_room, room_for, room_on, places_left, at_level31}
+use Rattle.tree.specs.Room.{last_of, full_room, room_for, room_on, places_left}
 use Rattle.tree.proofs.Cases.{test, seen, nothing, just}
 use Rattle.tree.proofs.Nodes.{some_size}
 use Rattle.tree.proofs.Laws.{left_laws}
 use Rattle.tree.proofs.PathNodes.{PathNodes, last_formed, last_nowhere}
-use Rattle.std.specs.Prelude.{Option as Optional, Some, None, Result, Ok, Err}
+use Rattle.std.specs.Prelude.{Option as Optional, Some, None, Result, Err}
 use Rattle.paths.specs.declared.descent.Trail.{Trail}
 use Rattle.paths.specs.declared.descent.Vacancy.{Vacancy}
 use Rattle.paths.specs.declared.descent.NoVacancy.{NoVacancy}
@@ -47,9 +47,6 @@ module _ (g : Geometry) (m : Memory) (d n : ℕ) where
     room_large l = rw (k, ← e, le-ltb size 64 l) refl
 
 -- ---- what a claim finds
-
-pub placement_free : (v : Vacancy) {last : Bool} {x : Optional Spot} → last ≡ at_level31 v.room → last ≡ false → x ≡ None → Ok v ≡ placement_as v (spot_of x)
-placement_free v e z k = rw (sym e ∙ z, k) refl
 
 module _ (g : Geometry) (m : Memory) (s f : ℕ) where
   pub placement_malformed : path_from g m s f ≡ none → Err no_vacancy.Malformed ≡ placement_from g m s f

@@ -2,7 +2,7 @@ pub mod Digits
 mod Numbers
 mod Places
 mod Fields
-pub mod Collect
+mod Collect
 mod Pieces
 mod Format
 pub mod Laws

@@ -16,8 +16,8 @@ pub fn apply(image: &mut [u64], script: &[u64]) -> Answer
     if bad_image(image.len(), g) {
         return Err(Refusal::Image);
     }
-    if !carry_out(image, script) {
-        return Err(Refusal::Buffer);
+    match carry_out(image, script) {
+        Ok(()) => Ok(0),
+        Err(_) => Err(Refusal::Buffer),
     }
-    Ok(0)
 }

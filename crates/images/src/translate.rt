@@ -12,9 +12,8 @@ pub fn translate(script: &[u64], flushed: &mut [u64], words: usize) -> Answer
     ensures { translation (answer_of result) (count_of result) flushed.new
         ≡ translate_words words script.now flushed.old }
 {
-    let mut used: u64 = 0;
-    if !translate_script(script, flushed, words, &mut used) {
-        return Err(Refusal::Buffer);
+    match translate_script(script, flushed, words) {
+        Ok(used) => Ok(used as u64),
+        Err(_) => Err(Refusal::Buffer),
     }
-    Ok(used)
 }

@@ -4,7 +4,7 @@ ghost use Rattle.memory.specs.Apply.{is_entry, is_script, made_stores, number_of
 
 use crate::script::{BARRIER, FLUSH};
 
-// What refuses words that are no script.
+// A script is refused, or the buffer that its translation was to go to.
 #[derive(Clone, Copy, Debug, PartialEq, Eq)]
 pub struct Refused;
 

@@ -11,8 +11,8 @@ pub fn lowest_clear(w: u64, n: u32) -> u32
     u32::min(w.trailing_ones(), n)
 }
 
-// The lowest clear bit below n of a bitmap, or n: a step for each word. The last step may pass n, and
-// does not wrap.
+// The lowest clear bit below n of a bitmap, or n: a step for each word. The last word may have one past n, whose number does not
+// wrap.
 pub fn lowest_unmarked(bitmap: &[u64], n: usize) -> usize
     requires { (n ≤ 64 * length bitmap.now) × (n + 64 < 2 ^ 64) }
     ensures { result ≡ first (λ (k : ℕ). not (marked (reads bitmap.now) k)) n }

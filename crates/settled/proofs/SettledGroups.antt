@@ -1,12 +1,11 @@
 -- The test of a node's subtree and of a group's, in the terms of the code that makes it.
 use mathlib.Core.Path.{◌≡◌, refl, sym, ◌∙◌}
-use mathlib.Core.Bool.{Bool, true, false, not, ◌&&◌}
+use mathlib.Core.Bool.{Bool, true, false, ◌&&◌}
 use mathlib.Core.Logic.{◌≢◌}
 use Prim.Native.Nat.{ℕ, zero, suc, ◌+◌, ◌-◌, ◌*◌, ◌^◌, ◌≤◌, ◌<◌}
 use native.Mathlib.Nat.{add-mul, suc-mul, mul-le-mul_right}
 use native.Mathlib.Omega.{arith}
 use lib.Pow.{pow_mono}
-use borrow.Author.Tests.{not-true, not-false}
 use Rattle.memory.specs.Words.{Memory}
 use Rattle.tree.specs.Lists.{range, up_to, every}
 use Rattle.tree.specs.declared.layout.Geometry.{Geometry}
@@ -58,14 +57,14 @@ module _ (g : Geometry) (m : Memory) where
         unfolding every
         next = rw (e, a.suffix) (rw (range_next c count l) at a.others)
 
-        pub child_fails : not r ≡ true → false ≡ settled_group g m left (levels - left) start count unit x
-        child_fails z = rw (not-true r z) at next
+        pub child_fails : r ≡ false → false ≡ settled_group g m left (levels - left) start count unit x
+        child_fails z = rw z at next
 
-        pub child_passes : not r ≡ false → Passed (own + unit) (c + 1)
+        pub child_passes : r ≡ true → Passed (own + unit) (c + 1)
         child_passes z = record {
           within = omega arith;
           suffix = omega (arith, a.suffix, add-mul c 1 unit);
-          others = rw (not-false r z) at next;
+          others = rw z at next;
         }
 
   -- ---- a node
@@ -78,13 +77,13 @@ module _ (g : Geometry) (m : Memory) where
   tree_first (suc left) d n x h = let p : suc left - 1 ≡ left = omega arith in rw p refl
 
   module _ (left n x : ℕ) (h : 1 ≤ left) (k : left ≤ levels) {r : Bool} (e : r ≡ settled_node g m left (levels - left) n x) where
-    pub own_fails : not r ≡ true → false ≡ settled_tree g m left (levels - left) n x
-    own_fails z = rw (tree_first left (levels - left) n x h, ← e, not-true r z) refl
+    pub own_fails : r ≡ false → false ≡ settled_tree g m left (levels - left) n x
+    own_fails z = rw (tree_first left (levels - left) n x h, ← e, z) refl
 
-    module _ (z : not r ≡ false) where
+    module _ (z : r ≡ true) where
       pub leaf_passes : {next : ℕ} → next ≡ m (next_at g n) → next ≡ 0 → true ≡ settled_tree g m left (levels - left) n x
       unfolding settled_group up_to range every
-      leaf_passes t o = rw (tree_first left (levels - left) n x h, ← e, not-false r z, leaf g m (levels - left) n (sym t ∙ o)) refl
+      leaf_passes t o = rw (tree_first left (levels - left) n x h, ← e, z, leaf g m (levels - left) n (sym t ∙ o)) refl
 
       pub below_passes : {next count unit : ℕ} {b : Bool} → next ≡ m (next_at g n) → next ≢ 0 → count ≡ fanout (levels - left)
           → unit ≡ 2 ^ bits_to (levels - left)
@@ -92,4 +91,4 @@ module _ (g : Geometry) (m : Memory) where
           → b ≡ settled_tree g m left (levels - left) n x
       below_passes t o p q below =
           let deeper : suc (levels - left) ≡ levels - (left - 1) = omega arith in
-          below ∙ rw (tree_first left (levels - left) n x h, ← e, not-false r z, linked g m (levels - left) n (rw t at o), ← p, ← q, ← t, deeper) refl
+          below ∙ rw (tree_first left (levels - left) n x h, ← e, z, linked g m (levels - left) n (rw t at o), ← p, ← q, ← t, deeper) refl

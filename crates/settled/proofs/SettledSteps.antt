@@ -10,7 +10,7 @@ use native.Mathlib.Decide.{dec_lt}
 use lib.Bits.{bit_and, and_mask}
 use lib.Count.{count_trailing_zeros}
 use lib.Dec.{eqb, leb}
-use borrow.Author.Tests.{eqb-false, eq-eqb, ne_eqb, le-leb, lt-leb, le-ltb, lt-ltb, not-true, not-false}
+use borrow.Author.Tests.{eqb-false, eq-eqb, ne_eqb, le-leb, lt-leb, le-ltb, lt-ltb}
 use Rattle.memory.specs.Words.{Memory, without_bit}
 use Rattle.memory.specs.Search.{first}
 use Rattle.memory.specs.Apply.{is_some}
@@ -133,6 +133,10 @@ module _ (g : Geometry) (m : Memory) where
     pub stored_is : stored ≡ stored_fingerprint g m n p
     pub print_is : print ≡ fingerprint (rule_of m) f
 
+  pub read : {d n p unit f stored print : ℕ} → unit ≡ 2 ^ bits_to d → f ≡ frame g m n p → stored ≡ stored_fingerprint g m n p
+      → print ≡ fingerprint (rule_of m) f → Place d n p unit f stored print
+  read u f s k = record { unit_is = u; frame_is = f; stored_is = s; print_is = k }
+
   module _ (left x : ℕ) {d n p unit f stored print : ℕ} (a : Place d n p unit f stored print) where
     tested : settled_at g m left d n x p
         ≡ eqb (bit_and f (unit - 1)) x && (eqb stored print && (eqb (first (holds_at g m n f) p) p && absent_below g m left d n f))
@@ -164,13 +168,13 @@ module _ (good : ℕ → Bool) (w : ℕ) where
   bits_end z = rw (places_none w z) refl
 
   module _ (o : w ≢ 0) (h : w < 2 ^ 64) {r : Bool} (e : r ≡ good (count_trailing_zeros 64 w)) where
-    pub bits_stop : not r ≡ true → false ≡ every good (set_places w)
+    pub bits_stop : r ≡ false → false ≡ every good (set_places w)
     unfolding every
-    bits_stop z = rw (places_next w o h, ← e, not-true r z) refl
+    bits_stop z = rw (places_next w o h, ← e, z) refl
 
-    pub bits_on : not r ≡ false → every good (set_places w) ≡ every good (set_places (without_bit w (count_trailing_zeros 64 w)))
+    pub bits_on : r ≡ true → every good (set_places w) ≡ every good (set_places (without_bit w (count_trailing_zeros 64 w)))
     unfolding every
-    bits_on z = rw (places_next w o h, ← e, not-false r z) refl
+    bits_on z = rw (places_next w o h, ← e, z) refl
 
 pub settled_places : (g : Geometry) (m : Memory) (left d n x : ℕ) {set : ℕ} → set ≡ m (set_at g n)
     → settled_node g m left d n x ≡ every (settled_at g m left d n x) (set_places set)

@@ -27,7 +27,7 @@ settled_group-settled_tree-requires t c =
     (search rules, (pre.0, record { formed = pre.1.formed _ taken; unit = pre.1.unit }, omega (arith, units, pre.2, c.loop-c.invariant.suffix), pre.3))
 
 pub settled_group-returns-then-not-settled_tree : goal.settled_group-returns-then-not-settled_tree
-settled_group-returns-then-not-settled_tree t c = child_fails _ _ _ _ _ _ _ c.loop-c.invariant c.loop-c-test.true c.settled_tree.ensures c.if-not-settled_tree.true-raw
+settled_group-returns-then-not-settled_tree t c = child_fails _ _ _ _ _ _ _ c.loop-c.invariant c.loop-c-test.true c.settled_tree.ensures c.if-not-settled_tree.true
 
 pub settled_group-overflow_add-own : goal.settled_group-overflow_add-own
 settled_group-overflow_add-own t c =
@@ -37,7 +37,7 @@ settled_group-overflow_add-own t c =
     search (rules, units, c.requires.2, c.loop-c.invariant.suffix)
 
 pub settled_group-loop-c-preserved : goal.settled_group-loop-c-preserved
-settled_group-loop-c-preserved t c = child_passes _ _ _ _ _ _ _ c.loop-c.invariant c.loop-c-test.true c.settled_tree.ensures c.if-not-settled_tree.false-raw
+settled_group-loop-c-preserved t c = child_passes _ _ _ _ _ _ _ c.loop-c.invariant c.loop-c-test.true c.settled_tree.ensures c.if-not-settled_tree.false
 
 pub settled_group-returns : goal.settled_group-returns
 settled_group-returns t c = passed_all _ _ _ _ _ _ _ c.loop-c.invariant c.loop-c-test.false
@@ -45,7 +45,7 @@ settled_group-returns t c = passed_all _ _ _ _ _ _ _ c.loop-c.invariant c.loop-c
 pub settled_tree-returns-then-not-settled_node : goal.settled_tree-returns-then-not-settled_node
 settled_tree-returns-then-not-settled_node t c =
     let formed = c.requires.1.formed in
-    own_fails _ _ _ _ _ formed.some_left formed.all_left c.settled_node.ensures c.if-not-settled_node.true-raw
+    own_fails _ _ _ _ _ formed.some_left formed.all_left c.settled_node.ensures c.if-not-settled_node.true
 
 pub settled_tree-next_of-next-requires : goal.settled_tree-next_of-next-requires
 settled_tree-next_of-next-requires t c = search (rules, (known_facts _ _ c.requires.1.formed).inside)
@@ -53,7 +53,7 @@ settled_tree-next_of-next-requires t c = search (rules, (known_facts _ _ c.requi
 pub settled_tree-returns-then-next-eq0 : goal.settled_tree-returns-then-next-eq0
 settled_tree-returns-then-next-eq0 t c =
     let formed = c.requires.1.formed in
-    leaf_passes _ _ _ _ _ formed.some_left formed.all_left c.settled_node.ensures c.if-not-settled_node.false-raw c.next_of-next.ensures c.if-next-eq0.true
+    leaf_passes _ _ _ _ _ formed.some_left formed.all_left c.settled_node.ensures c.if-not-settled_node.false c.next_of-next.ensures c.if-next-eq0.true
 
 pub settled_tree-settled_group-requires : goal.settled_tree-settled_group-requires
 settled_tree-settled_group-requires t c =
@@ -76,5 +76,5 @@ settled_tree-settled_group-requires t c =
 pub settled_tree-returns : goal.settled_tree-returns
 settled_tree-returns t c =
     let known = c.requires.1 in
-    below_passes _ _ _ _ _ known.formed.some_left known.formed.all_left c.settled_node.ensures c.if-not-settled_node.false-raw
+    below_passes _ _ _ _ _ known.formed.some_left known.formed.all_left c.settled_node.ensures c.if-not-settled_node.false
     c.next_of-next.ensures c.if-next-eq0.false c.fanout.ensures known.unit c.settled_group.ensures

@@ -38,10 +38,8 @@ fn put_nodes(script: &mut [u64], g: Geometry, start: usize, count: usize, level:
     ensures { script.new
         ≡ written (stores (flat_map (λ n. new_node g n level 64) (range start count))) script.old }
 {
-    let mut i = 0;
-    while i < count {
+    for i in 0..count {
         put_node(&mut script[10 * i..], g, start + i, level, 64);
-        i += 1;
     }
 }
 

@@ -1,13 +1,11 @@
 -- Claim: the room for its frame, and how each way through the code ends.
 use mathlib.Core.Path.{◌≡◌, refl, sym}
 use mathlib.Core.Bool.{Bool, true, false, cond, not}
-use mathlib.Core.Logic.{inl, inr, ⊎_elim}
+use mathlib.Core.Logic.{inl, inr}
 use mathlib.Core.Option.{Option, none, some}
 use mathlib.Core.List.{List, [], ◌∷◌}
 use Prim.Native.Nat.{ℕ, suc, ◌+◌, ◌-◌, ◌*◌, ◌≤◌, ◌<◌}
 use native.Mathlib.Omega.{arith}
-use types.Run.{OneOf}
-use denote.Enum.Declared.{tag_of}
 use lib.ListN.{length}
 use lib.Dec.{ltb}
 use borrow.Author.Tests.{eqb-false}
@@ -38,7 +36,6 @@ use Rattle.book.specs.declared.HeadState.TheVariants.{Idle, Claimed, Filled}
 use Rattle.book.specs.Heads.{is_idle}
 use Rattle.book.specs.Checks.{no_path, place_in}
 use Rattle.book.specs.Perform.{room_script, locate_then}
-use Rattle.book.specs.contracts.HeadState.{the_type}
 use Rattle.book.proofs.Refusals.{denies}
 use Rattle.book.proofs.Inside.{RoomInside, path_room, fanout_few}
 use Rattle.operations.proofs.ScriptWords.{words_of}
@@ -46,8 +43,8 @@ use Rattle.claims.specs.Rooms.{depth_of, InPool, RoomMade, Taken}
 use Rattle.rooms.proofs.ClaimingScripts.{branched, branched_words, located_words, located_written}
 
 -- a state that the code did not take apart as idle
-pub not_idle : (y : HeadState) → OneOf (1 ∷ 2 ∷ []) (tag_of the_type y) → not (is_idle y) ≡ true
-not_idle Idle k = absurd (⊎_elim (λ w. omega arith) (λ w. omega arith) k)
+pub not_idle : (y : HeadState) → (y ≡ Idle → ⊥) → not (is_idle y) ≡ true
+not_idle Idle k = absurd (k refl)
 not_idle (Claimed t) k = refl
 not_idle (Filled t) k = refl
 

@@ -23,7 +23,7 @@ use Rattle.tree.specs.Pool.{mark_all}
 use Rattle.tree.specs.Subtree.{listed}
 use Rattle.tree.proofs.Cases.{test}
 use Rattle.tree.proofs.Memory.{first_laws}
-use Rattle.std.specs.Prelude.{Result, Ok, Err}
+use Rattle.std.specs.Prelude.{Result, Ok, Err, Some, None}
 use Rattle.paths.specs.declared.descent.NoVacancy.{NoVacancy}
 use Rattle.paths.specs.declared.descent.NoVacancy.TheVariants.{Malformed, Full, Held}
 use Rattle.paths.specs.declared.descent.Vacancy.{Vacancy}
@@ -38,17 +38,15 @@ use Rattle.book.specs.Checks.{no_path, target_in, no_run_for, in_conflict, refus
 use Rattle.book.specs.Perform.{room_script, claim_script, taken, writing, granted, leaves, clears, left_by}
 use Rattle.book.proofs.Refusals.{Named, denies, passes, passed_all, refused_here, refused_later}
 use Rattle.book.proofs.Inside.{run_inside}
-use Rattle.operations.specs.declared.checks.Buffer.TheVariants.{Absent, Words}
 use Rattle.operations.specs.Checked.{first_checks}
 use Rattle.operations.specs.HeadLists.{heads_in, state_in, any_in}
-use Rattle.operations.specs.declared.checks.Verdict.{Verdict}
-use Rattle.operations.specs.declared.checks.Verdict.TheVariants as verdict
 use Rattle.operations.specs.declared.answer.Refusal as enums
 use Rattle.operations.specs.Answers.{number_of}
 use Rattle.operations.specs.Ends.{Buffers, buffers, state, ended_left, ended, found, ends}
 use Rattle.operations.proofs.Endings.{refused, done}
-use Rattle.operations.proofs.Passed.{same_checks, buffers_bad, past_checks_lem, OpenChecked, ended_early}
+use Rattle.operations.proofs.Passed.{same_checks, buffers_bad, past_checks_lem, OpenChecked, open_checked, ended_early}
 use Rattle.operations.proofs.HeadRecords.{state_read, any_read}
+use Rattle.claims.specs.Answers.{admission_number, refusal_of}
 use Rattle.claims.specs.Rooms.{Taken}
 use Rattle.claims.proofs.Claiming.{placement_says, takes_nodes}
 
@@ -149,11 +147,11 @@ module _ (im pool script ws : List ℕ) (h reel f : ℕ) where
   all_tests g slot = head_tests g slot ++ room_tests g slot (room_in g slot)
 
   -- 1, 2, 3, or 4 for the table
-  pub claim_early : {v : Verdict} {why : enums.Refusal} → v ≡ first_checks im (Words (length pool)) Absent (Words (length script)) → v ≡ verdict.Refused why
-      → EndsWith (number_of why)
+  pub claim_early : {v : Result Geometry enums.Refusal} {why : enums.Refusal} → v ≡ first_checks im (Some (length pool)) None (Some (length script))
+      → v ≡ Err why → EndsWith (number_of why)
   unfolding refusals leaves clears scratch_after
   claim_early =
-      ended_early op begun borrowed (Words (length pool)) Absent (Words (length script))
+      ended_early op begun borrowed (Some (length pool)) None (Some (length script))
       (all_tests (geometry_of (reads im)) (slot_of (geometry_of (reads im)) (reads im) reel)) (same_checks im _ _ _ refl)
 
   -- a refusal leaves everything as it was
@@ -173,8 +171,8 @@ module _ (im pool script ws : List ℕ) (h reel f : ℕ) where
     after_checks : refusal (refusals op begun) ≡ refusal (all_tests g slot)
     unfolding refusals
     after_checks =
-        same_checks im _ (buffers_bad im (Words (length pool)) Absent (Words (length script))) _ refl
-        ∙ past_checks_lem im (Words (length pool)) Absent (Words (length script)) p.all
+        same_checks im _ (buffers_bad im (Some (length pool)) None (Some (length script))) _ refl
+        ∙ past_checks_lem im (Some (length pool)) None (Some (length script)) p.all
         (all_tests (geometry_of (reads im)) (slot_of (geometry_of (reads im)) (reads im) reel))
         ∙ rw (slot_is, p.geometry) refl
 
@@ -196,18 +194,21 @@ module _ (im pool script ws : List ℕ) (h reel f : ℕ) where
       later = after_checks ∙ none_refused (head_tests g slot) _ (omega arith) (sym same_tests ∙ none);
     }
 
+  -- in the terms of the calls: the checks passed, the slot read, and the claim admitted
+  pub admitted : (heads : List Head) → heads_in ws ≡ heads → {v : Result Geometry enums.Refusal} {g : Geometry} {slot : ℕ} {a : Result (Unit {0}) enums.Refusal} {u : Unit {0}}
+      → v ≡ first_checks im (Some (length pool)) None (Some (length script)) → v ≡ Ok g → slot ≡ slot_of g (reads im) reel
+      → admission_number a ≡ refusal (head_tests_in heads h g slot) → a ≡ Ok u → HeadPassed g slot
+  admitted heads read v-is told slot_is tests none =
+      head_passed heads read _ (open_checked im pool script v-is told) _ slot_is _ tests (ap admission_number none)
+
   module _ {g : Geometry} {slot : ℕ} (p : HeadPassed g slot) {x : Result Vacancy NoVacancy} (e : x ≡ placement_from g (reads im) slot f) where
     path_bad : holds (no_path (path_from g (reads im) slot f) or is (at_level31 (room_in g slot))) ≡ true → EndsWith 4
     path_bad t = ends_with 4 (p.later ∙ refused_here _ _ t) (omega arith)
 
-    pub path_malformed : x ≡ Err Malformed → EndsWith 4
-    path_malformed q = path_bad (placement_says g (reads im) slot f (Err Malformed) (sym q ∙ e))
-
-    pub path_full : x ≡ Err Full → EndsWith 4
-    path_full q = path_bad (placement_says g (reads im) slot f (Err Full) (sym q ∙ e))
-
-    pub frame_held : x ≡ Err Held → EndsWith 9
-    frame_held q =
+    pub no_room : (why : NoVacancy) → x ≡ Err why → EndsWith (number_of (refusal_of why))
+    no_room Malformed q = path_bad (placement_says g (reads im) slot f (Err Malformed) (sym q ∙ e))
+    no_room Full q = path_bad (placement_says g (reads im) slot f (Err Full) (sym q ∙ e))
+    no_room Held q =
         let s = placement_says g (reads im) slot f (Err Held) (sym q ∙ e) in
         ends_with 9 (p.later ∙ refused_later _ _ s.0 ∙ refused_here _ _ s.1) (omega arith)
 

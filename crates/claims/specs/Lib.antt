@@ -1,2 +1,2 @@
-pub mod Admissions
+pub mod Answers
 pub mod Rooms

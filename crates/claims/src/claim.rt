@@ -13,18 +13,17 @@ ghost use Rattle.book.specs.Refusals.{refusal, ◌gives◌};
 ghost use Rattle.book.specs.Checks.{target_in};
 ghost use Rattle.book.specs.Perform.{locate_then, claim_script, taken};
 ghost use Rattle.book.specs.State.{claim};
-ghost use Rattle.operations.specs.declared.answer.HeadAnswer.TheVariants.{Done, Refused};
 ghost use Rattle.operations.specs.HeadLists.{heads_in, state_in, head_answer_of, head_count_of, heads_after};
 ghost use Rattle.operations.specs.Ends.{buffers, state, ended_left, ends};
-ghost use Rattle.claims.specs.Admissions.{admission_number};
+ghost use Rattle.claims.specs.Answers.{admission_number, refusal_of, head_done, left_of};
 ghost use Rattle.claims.specs.Rooms.{depth_of, RoomFits, RoomMade, Taken};
 
 use crate::conflicts::has_conflict;
 use book::{HEADS, Head, HeadState, Target};
 use fingerprints::fingerprint::fingerprint;
 use nodes::reels::slot_of;
-use operations::answer::{HeadAnswer, Refusal};
-use operations::checks::{Buffer, Verdict, checks};
+use operations::answer::{HeadDone, Refusal};
+use operations::checks::checks;
 use operations::heads::state_in;
 use paths::descent::{NoVacancy, room_for};
 use pool::pool_map::{free_run, mark_run};
@@ -32,29 +31,22 @@ use rooms::room_script::{put_branch_out, put_locate, put_scale_up};
 use tree::layout::{Geometry, LOCATE, word_of};
 use tree::path::{Room, Spot, child, fanout};
 
-// Whether a claim may go on.
-#[derive(Clone, Copy)]
-pub enum Admission {
-    Admitted,
-    Refused(Refusal),
-}
-
 // 11 and 12 for the head, 5 for the reel's slot, in this sequence.
-fn admit(heads: [Head; HEADS], head: u64, g: Geometry, slot: usize) -> Admission
+fn admit(heads: [Head; HEADS], head: u64, g: Geometry, slot: usize) -> Result<(), Refusal>
     ensures { admission_number result
         ≡ refusal ((le head_count head gives 11) ∷ (is (not (is_idle (state_in heads head))) gives 12) ∷
         (le g.slots slot gives 5) ∷ []) }
 {
     if HEADS as u64 <= head {
-        return Admission::Refused(Refusal::HeadNumber);
+        return Err(Refusal::HeadNumber);
     }
     let HeadState::Idle = state_in(heads, head as usize) else {
-        return Admission::Refused(Refusal::HeadState);
+        return Err(Refusal::HeadState);
     };
     if g.slots <= slot {
-        return Admission::Refused(Refusal::NoReel);
+        return Err(Refusal::NoReel);
     }
-    Admission::Admitted
+    Ok(())
 }
 
 // How many nodes a room takes from the pool.
@@ -99,12 +91,15 @@ fn target_in(slot: usize, room: Room, start: usize, frame: u64) -> Target
             place: size,
             frame,
         },
-        Room::BranchOut { parent: _, depth } => Target {
-            slot: slot as u64,
-            node: (start + child(depth, frame) as usize) as u64,
-            place: 0,
-            frame,
-        },
+        Room::BranchOut { parent: _, depth } => {
+            let below = start + child(depth, frame) as usize;
+            Target {
+                slot: slot as u64,
+                node: below as u64,
+                place: 0,
+                frame,
+            }
+        }
     }
 }
 
@@ -189,19 +184,21 @@ fn take_room(
     words + 4
 }
 
-// Claim's answer carries the places left through; a refusal has none to tell of.
+// What a claim has done: the head's part, and the places left.
 #[derive(Clone, Copy)]
-pub struct ClaimAnswer {
-    pub answer: HeadAnswer,
+pub struct ClaimDone {
+    pub head: HeadDone,
     pub left: u64,
 }
 
-fn refused(why: Refusal) -> ClaimAnswer
-    ensures { result ≡ record { answer = Refused why; left = 0 } }
+// The number of a claim that finds no room on its frame's path.
+fn refusal_of(why: NoVacancy) -> Refusal
+    ensures { result ≡ refusal_of why }
 {
-    ClaimAnswer {
-        answer: HeadAnswer::Refused(why),
-        left: 0,
+    match why {
+        NoVacancy::Malformed => Refusal::Malformed,
+        NoVacancy::Full => Refusal::Malformed,
+        NoVacancy::Held => Refusal::FrameHeld,
     }
 }
 
@@ -214,50 +211,43 @@ pub fn claim(
     head: u64,
     reel: u64,
     frame: u64,
-) -> ClaimAnswer
+) -> Result<ClaimDone, Refusal>
     ensures { (ws : List ℕ)
         → heads_in ws ≡ heads
-        → ended_left (head_answer_of result.answer) (head_count_of result.answer) result.left
-        (state image.now pool.new (heads_after ws head result.answer))
+        → ended_left (head_answer_of (head_done result)) (head_count_of (head_done result)) (left_of result)
+        (state image.now pool.new (heads_after ws head (head_done result)))
         (buffers [] script.new [])
         ≡ ends (claim (length pool.old) (length script.old) head reel frame)
         (state image.now pool.old ws) (buffers [] script.old []) }
 {
-    let g = match checks(
-        image,
-        Buffer::Words(pool.len()),
-        Buffer::Absent,
-        Buffer::Words(script.len()),
-    ) {
-        Verdict::Passed(g) => g,
-        Verdict::Refused(why) => return refused(why),
-    };
+    let g = checks(image, Some(pool.len()), None, Some(script.len()))?;
     let slot = slot_of(image, g, reel);
-    if let Admission::Refused(why) = admit(heads, head, g, slot) {
-        return refused(why);
-    }
-    let vacancy = match room_for(image, g, slot, frame, fingerprint(image, frame)) {
+    admit(heads, head, g, slot)?;
+    let print = fingerprint(image, frame);
+    let vacancy = match room_for(image, g, slot, frame, print) {
         Ok(vacancy) => vacancy,
-        Err(NoVacancy::Malformed) => return refused(Refusal::Malformed),
-        Err(NoVacancy::Full) => return refused(Refusal::Malformed),
-        Err(NoVacancy::Held) => return refused(Refusal::FrameHeld),
+        Err(why) => return Err(refusal_of(why)),
     };
     let room = vacancy.room;
     let start = run_for(pool, g, room);
     let target = target_in(slot, room, start, frame);
     if has_conflict(heads, target, start < g.nodes) {
-        return refused(Refusal::Busy);
+        return Err(Refusal::Busy);
     }
     if g.nodes <= start {
-        return refused(Refusal::NoRun);
+        return Err(Refusal::NoRun);
     }
     let t = Spot {
         node: target.node as usize,
         place: target.place as usize,
     };
     let words = take_room(image, pool, script, g, room, start, t);
-    ClaimAnswer {
-        answer: HeadAnswer::Done(words as u64, HeadState::Claimed(target)),
+    let head = HeadDone {
+        count: words as u64,
+        state: HeadState::Claimed(target),
+    };
+    Ok(ClaimDone {
+        head,
         left: vacancy.left,
-    }
+    })
 }

@@ -4,7 +4,6 @@ ghost use Rattle.book.specs.Heads.{conflicts};
 ghost use Rattle.operations.specs.HeadLists.{any_in};
 
 use book::{HEADS, Head, HeadState, Target};
-use operations::heads::state_in;
 
 // Is a target in the claim's slot, with the same frame or, if the claim uses a node, at that very one?
 fn meets(claim: Target, uses: bool, t: Target) -> bool
@@ -29,12 +28,5 @@ fn conflicts(claim: Target, uses: bool, state: HeadState) -> bool
 pub fn has_conflict(heads: [Head; HEADS], claim: Target, uses: bool) -> bool
     ensures { result ≡ any_in (conflicts claim uses) heads }
 {
-    let mut h = 0;
-    while h < HEADS {
-        if conflicts(claim, uses, state_in(heads, h)) {
-            return true;
-        }
-        h += 1;
-    }
-    false
+    heads.iter().any(|head| conflicts(claim, uses, head.state))
 }

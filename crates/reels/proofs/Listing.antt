@@ -25,8 +25,7 @@ use Rattle.book.specs.State.{Operation, State, query, list, scratch_after}
 use Rattle.book.specs.Checks.{refusals}
 use Rattle.book.specs.Perform.{granted, leaves, clears}
 use Rattle.book.proofs.Refusals.{passed_all, refused_here, refused_later}
-use Rattle.operations.specs.declared.answer.Answer.{Answer}
-use Rattle.operations.specs.declared.answer.Answer.TheVariants.{Done, Refused}
+use Rattle.operations.specs.declared.answer.Refusal as enums
 use Rattle.operations.specs.declared.answer.Refusal.TheVariants as why
 use Rattle.operations.specs.Answers.{answer_of, count_of}
 use Rattle.operations.specs.Ends.{Buffers, buffers, state, ended, ends}
@@ -35,10 +34,10 @@ use Rattle.operations.proofs.Passed.{same_checks}
 use Rattle.operations.proofs.Tested.{OnReel, SlotRead, rest_bad, rest_done}
 
 -- what the code answers for what listing the tree came to
-abbrev pub answered : Result ℕ ListError → Answer
-answered (Err Malformed) = Refused why.Malformed
-answered (Err Short) = Refused why.ListShort
-answered (Ok n) = Done n
+abbrev pub answered : Result ℕ ListError → Result ℕ enums.Refusal
+answered (Err Malformed) = Err why.Malformed
+answered (Err Short) = Err why.ListShort
+answered (Ok n) = Ok n
 
 module _ (im pool ws scratch frames : List ℕ) (reel : ℕ) where
   abbrev op : Operation

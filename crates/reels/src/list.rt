@@ -6,7 +6,7 @@ ghost use Rattle.operations.specs.Ends.{buffers, state, ended, ends};
 
 use nodes::reels::slot_of;
 use operations::answer::{Answer, Refusal};
-use operations::checks::{Buffer, Verdict, checks, clear_on_4};
+use operations::checks::{checks, clear_on_4};
 use pool::pool_map::clear_map;
 use walks::trees::{ListError, list_tree};
 
@@ -18,26 +18,21 @@ pub fn list(image: &[u64], scratch: &mut [u64], list: &mut [u64], reel: u64) -> 
         ≡ ends (query (list-reel (length scratch.old) (length list.old) reel))
         (state image.now pool ws) (buffers scratch.old [] list.old) }
 {
-    let g = match checks(
-        image,
-        Buffer::Absent,
-        Buffer::Words(scratch.len()),
-        Buffer::Absent,
-    ) {
-        Verdict::Passed(g) => g,
-        Verdict::Refused(why) => {
+    let g = match checks(image, None, Some(scratch.len()), None) {
+        Ok(g) => g,
+        Err(why) => {
             clear_on_4(scratch, why);
-            return Answer::Refused(why);
+            return Err(why);
         }
     };
     let slot = slot_of(image, g, reel);
     if g.slots <= slot {
         clear_map(scratch);
-        return Answer::Refused(Refusal::NoReel);
+        return Err(Refusal::NoReel);
     }
     match list_tree(image, scratch, list, g, slot) {
-        Err(ListError::Malformed) => Answer::Refused(Refusal::Malformed),
-        Err(ListError::Short) => Answer::Refused(Refusal::ListShort),
-        Ok(frames) => Answer::Done(frames as u64),
+        Err(ListError::Malformed) => Err(Refusal::Malformed),
+        Err(ListError::Short) => Err(Refusal::ListShort),
+        Ok(frames) => Ok(frames as u64),
     }
 }

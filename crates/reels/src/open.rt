@@ -8,7 +8,7 @@ ghost use Rattle.operations.specs.Ends.{buffers, state, ended, ends};
 
 use nodes::reels::{empty_slot, slot_of};
 use operations::answer::{Answer, Refusal};
-use operations::checks::{Buffer, Verdict, checks};
+use operations::checks::checks;
 use operations::node_script::put_node;
 use pool::pool_map::{free_node, mark};
 use tree::layout::{Geometry, reel_at, root_at};
@@ -33,27 +33,19 @@ pub fn open(image: &[u64], pool: &mut [u64], script: &mut [u64], reel: u64) -> A
         ≡ ends (open_reel (length pool.old) (length script.old) reel)
         (state image.now pool.old heads) (buffers [] script.old []) }
 {
-    let g = match checks(
-        image,
-        Buffer::Words(pool.len()),
-        Buffer::Absent,
-        Buffer::Words(script.len()),
-    ) {
-        Verdict::Passed(g) => g,
-        Verdict::Refused(why) => return Answer::Refused(why),
-    };
+    let g = checks(image, Some(pool.len()), None, Some(script.len()))?;
     if slot_of(image, g, reel) < g.slots {
-        return Answer::Refused(Refusal::AlreadyOpen);
+        return Err(Refusal::AlreadyOpen);
     }
     let slot = empty_slot(image, g);
     if g.slots <= slot {
-        return Answer::Refused(Refusal::NoSlot);
+        return Err(Refusal::NoSlot);
     }
     let n = free_node(pool, g);
     if g.nodes <= n {
-        return Answer::Refused(Refusal::NoRun);
+        return Err(Refusal::NoRun);
     }
     put_open(script, g, slot, n, reel);
     mark(pool, n);
-    Answer::Done(18)
+    Ok(18)
 }

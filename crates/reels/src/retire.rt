@@ -8,7 +8,7 @@ ghost use Rattle.operations.specs.Ends.{buffers, state, ended, ends};
 use book::{HEADS, Head};
 use nodes::reels::slot_of;
 use operations::answer::{Answer, Refusal};
-use operations::checks::{Buffer, Verdict, checks, clear_on_4};
+use operations::checks::{checks, clear_on_4};
 use operations::heads::is_busy;
 use pool::pool_map::clear_map;
 use tree::layout::root_at;
@@ -34,28 +34,28 @@ pub fn retire(
 {
     let g = match checks(
         image,
-        Buffer::Words(pool.len()),
-        Buffer::Words(scratch.len()),
-        Buffer::Words(script.len()),
+        Some(pool.len()),
+        Some(scratch.len()),
+        Some(script.len()),
     ) {
-        Verdict::Passed(g) => g,
-        Verdict::Refused(why) => {
+        Ok(g) => g,
+        Err(why) => {
             clear_on_4(scratch, why);
-            return Answer::Refused(why);
+            return Err(why);
         }
     };
     let slot = slot_of(image, g, reel);
     if g.slots <= slot {
         clear_map(scratch);
-        return Answer::Refused(Refusal::NoReel);
+        return Err(Refusal::NoReel);
     }
     if is_busy(heads, slot) {
         clear_map(scratch);
-        return Answer::Refused(Refusal::Busy);
+        return Err(Refusal::Busy);
     }
     if !free_tree(image, pool, scratch, g, slot) {
-        return Answer::Refused(Refusal::Malformed);
+        return Err(Refusal::Malformed);
     }
     put_fenced(script, root_at(slot) as u64, 0);
-    Answer::Done(4)
+    Ok(4)
 }

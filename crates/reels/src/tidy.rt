@@ -10,7 +10,7 @@ use groups::group::free_group;
 use groups::search::search_slot;
 use nodes::reels::slot_of;
 use operations::answer::{Answer, Refusal};
-use operations::checks::{Buffer, Verdict, checks, clear_on_4};
+use operations::checks::{checks, clear_on_4};
 use operations::heads::is_busy;
 use pool::pool_map::clear_map;
 use tree::layout::node_at;
@@ -36,34 +36,34 @@ pub fn tidy(
 {
     let g = match checks(
         image,
-        Buffer::Words(pool.len()),
-        Buffer::Words(scratch.len()),
-        Buffer::Words(script.len()),
+        Some(pool.len()),
+        Some(scratch.len()),
+        Some(script.len()),
     ) {
-        Verdict::Passed(g) => g,
-        Verdict::Refused(why) => {
+        Ok(g) => g,
+        Err(why) => {
             clear_on_4(scratch, why);
-            return Answer::Refused(why);
+            return Err(why);
         }
     };
     let slot = slot_of(image, g, reel);
     if g.slots <= slot {
         clear_map(scratch);
-        return Answer::Refused(Refusal::NoReel);
+        return Err(Refusal::NoReel);
     }
     if is_busy(heads, slot) {
         clear_map(scratch);
-        return Answer::Refused(Refusal::Busy);
+        return Err(Refusal::Busy);
     }
     if !sound_tree(image, scratch, g, slot) {
-        return Answer::Refused(Refusal::Malformed);
+        return Err(Refusal::Malformed);
     }
     match search_slot(image, g, slot) {
-        None => Answer::Refused(Refusal::NoGroup),
+        None => Err(Refusal::NoGroup),
         Some(found) => {
             free_group(image, pool, g, found.node, found.depth);
             put_fenced(script, node_at(g, found.node) as u64, 0);
-            Answer::Done(4)
+            Ok(4)
         }
     }
 }

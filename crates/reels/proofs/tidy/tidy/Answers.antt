@@ -9,41 +9,41 @@ use Rattle.reels.proofs.SlotReads.{slot_read}
 use Rattle.reels.proofs.Tidying.{on_tidy, tree_bad, no_group, tidied}
 use Rattle.reels.proofs.tidy.tidy.Goals as goal
 
-pub returns-in-Refused : goal.returns-in-Refused
-returns-in-Refused c ws e =
+pub returns-in-Err : goal.returns-in-Err
+returns-in-Err c ws e =
     let a = c.args in
     rw c.clear_on_4.ensures
     (check_bad (on_tidy a.image.now a.pool.now ws a.scratch.now a.script.now a.reel).tested (buffers a.scratch.now a.script.now [])
-    c.checks.ensures c.in-Refused.is)
+    c.checks.ensures c.in-Err.is)
 
 pub slot_of-slot-requires : goal.slot_of-slot-requires
 slot_of-slot-requires c =
-    (all_checked c.args.image.now (some c.args.pool.now) (some c.args.scratch.now) (some c.args.script.now) c.checks.ensures c.in-Passed.is).sized
+    (all_checked c.args.image.now (some c.args.pool.now) (some c.args.scratch.now) (some c.args.script.now) c.checks.ensures c.in-Ok.is).sized
 
 pub returns-then-g-slot : goal.returns-then-g-slot
 returns-then-g-slot c ws e =
     let a = c.args in
-    let p = slot_read a.image.now (some a.pool.now) (some a.scratch.now) (some a.script.now) a.reel c.checks.ensures c.in-Passed.is c.slot_of-slot.ensures in
+    let p = slot_read a.image.now (some a.pool.now) (some a.scratch.now) (some a.script.now) a.reel c.checks.ensures c.in-Ok.is c.slot_of-slot.ensures in
     rw c.clear_map.ensures
     (no_reel (on_tidy a.image.now a.pool.now ws a.scratch.now a.script.now a.reel) (buffers a.scratch.now a.script.now []) p c.if-g-slot.true)
 
 pub returns-then-is_busy : goal.returns-then-is_busy
 returns-then-is_busy c ws e =
     let a = c.args in
-    let p = slot_read a.image.now (some a.pool.now) (some a.scratch.now) (some a.script.now) a.reel c.checks.ensures c.in-Passed.is c.slot_of-slot.ensures in
+    let p = slot_read a.image.now (some a.pool.now) (some a.scratch.now) (some a.script.now) a.reel c.checks.ensures c.in-Ok.is c.slot_of-slot.ensures in
     rw c.clear_map-then-is_busy.ensures
     (slot_busy (on_tidy a.image.now a.pool.now ws a.scratch.now a.script.now a.reel) p c.if-g-slot.false _ e (sym c.is_busy.ensures ∙ c.if-is_busy.true))
 
 pub sound_tree-requires : goal.sound_tree-requires
 sound_tree-requires c =
     let a = c.args in
-    let p = slot_read a.image.now (some a.pool.now) (some a.scratch.now) (some a.script.now) a.reel c.checks.ensures c.in-Passed.is c.slot_of-slot.ensures in
+    let p = slot_read a.image.now (some a.pool.now) (some a.scratch.now) (some a.script.now) a.reel c.checks.ensures c.in-Ok.is c.slot_of-slot.ensures in
     (p.checked.sized, filled_slot p c.if-g-slot.false, p.checked.scratch_words)
 
 pub returns-then-not-sound_tree : goal.returns-then-not-sound_tree
 returns-then-not-sound_tree c ws e =
     let a = c.args in
-    let p = slot_read a.image.now (some a.pool.now) (some a.scratch.now) (some a.script.now) a.reel c.checks.ensures c.in-Passed.is c.slot_of-slot.ensures in
+    let p = slot_read a.image.now (some a.pool.now) (some a.scratch.now) (some a.script.now) a.reel c.checks.ensures c.in-Ok.is c.slot_of-slot.ensures in
     let f = c.sound_tree.ensures in
     rw (f.1, ← p.checked.scratch_words)
     (tree_bad _ _ ws _ _ _ p c.if-g-slot.false _ e (sym c.is_busy.ensures ∙ c.if-is_busy.false) c.sound_tree.result f.0 (ap not c.if-not-sound_tree.true))
@@ -51,33 +51,33 @@ returns-then-not-sound_tree c ws e =
 pub search_slot-requires : goal.search_slot-requires
 search_slot-requires c =
     let a = c.args in
-    let p = slot_read a.image.now (some a.pool.now) (some a.scratch.now) (some a.script.now) a.reel c.checks.ensures c.in-Passed.is c.slot_of-slot.ensures in
+    let p = slot_read a.image.now (some a.pool.now) (some a.scratch.now) (some a.script.now) a.reel c.checks.ensures c.in-Ok.is c.slot_of-slot.ensures in
     (p.checked.sized, filled_slot p c.if-g-slot.false, sym c.sound_tree.ensures.0 ∙ c.if-not-sound_tree.false)
 
 pub free_group-requires : goal.free_group-requires
 free_group-requires c =
     let a = c.args in
-    let p = slot_read a.image.now (some a.pool.now) (some a.scratch.now) (some a.script.now) a.reel c.checks.ensures c.in-Passed.is c.slot_of-slot.ensures in
+    let p = slot_read a.image.now (some a.pool.now) (some a.scratch.now) (some a.script.now) a.reel c.checks.ensures c.in-Ok.is c.slot_of-slot.ensures in
     let q = parent_found (filled_slot p c.if-g-slot.false) (sym c.sound_tree.ensures.0 ∙ c.if-not-sound_tree.false) c.search_slot.ensures c.in-Some.is in
     (p.checked.sized, q.inside, q.linked, q.children, search (rules, p.checked.map_words_lem))
 
 pub node_at-requires : goal.node_at-requires
 node_at-requires c =
     let a = c.args in
-    let p = slot_read a.image.now (some a.pool.now) (some a.scratch.now) (some a.script.now) a.reel c.checks.ensures c.in-Passed.is c.slot_of-slot.ensures in
+    let p = slot_read a.image.now (some a.pool.now) (some a.scratch.now) (some a.script.now) a.reel c.checks.ensures c.in-Ok.is c.slot_of-slot.ensures in
     let q = parent_found (filled_slot p c.if-g-slot.false) (sym c.sound_tree.ensures.0 ∙ c.if-not-sound_tree.false) c.search_slot.ensures c.in-Some.is in
     (p.checked.sized.slots_limit, omega (arith, q.inside, p.checked.sized.nodes_limit))
 
 pub put_fenced-requires : goal.put_fenced-requires
 put_fenced-requires c =
     let a = c.args in
-    let p = slot_read a.image.now (some a.pool.now) (some a.scratch.now) (some a.script.now) a.reel c.checks.ensures c.in-Passed.is c.slot_of-slot.ensures in
+    let p = slot_read a.image.now (some a.pool.now) (some a.scratch.now) (some a.script.now) a.reel c.checks.ensures c.in-Ok.is c.slot_of-slot.ensures in
     search (rules, p.checked.script_words)
 
 pub returns-in-None : goal.returns-in-None
 returns-in-None c ws e =
     let a = c.args in
-    let p = slot_read a.image.now (some a.pool.now) (some a.scratch.now) (some a.script.now) a.reel c.checks.ensures c.in-Passed.is c.slot_of-slot.ensures in
+    let p = slot_read a.image.now (some a.pool.now) (some a.scratch.now) (some a.script.now) a.reel c.checks.ensures c.in-Ok.is c.slot_of-slot.ensures in
     let f = c.sound_tree.ensures in
     rw (f.1, ← p.checked.scratch_words)
     (no_group _ _ ws _ _ _ p c.if-g-slot.false _ e (sym c.is_busy.ensures ∙ c.if-is_busy.false) c.sound_tree.result f.0
@@ -86,7 +86,7 @@ returns-in-None c ws e =
 pub returns-in-Some : goal.returns-in-Some
 returns-in-Some c ws e =
     let a = c.args in
-    let p = slot_read a.image.now (some a.pool.now) (some a.scratch.now) (some a.script.now) a.reel c.checks.ensures c.in-Passed.is c.slot_of-slot.ensures in
+    let p = slot_read a.image.now (some a.pool.now) (some a.scratch.now) (some a.script.now) a.reel c.checks.ensures c.in-Ok.is c.slot_of-slot.ensures in
     let f = c.sound_tree.ensures in
     rw (f.1, ← p.checked.scratch_words)
     (tidied _ _ ws _ _ _ p c.if-g-slot.false _ e (sym c.is_busy.ensures ∙ c.if-is_busy.false) c.sound_tree.result f.0

@@ -1,6 +1,6 @@
 // Texts with a number behind each.
-ghost use Rattle.std.specs.Prelude.{◌≡◌, ◌≤◌, length, drop};
-ghost use Rattle.lines.specs.Reading.{number, begins, field};
+ghost use Rattle.std.specs.Prelude.{◌≡◌, length};
+ghost use Rattle.lines.specs.Reading.{number, field};
 ghost use Rattle.lines.specs.Found.{IsDigit, found, texts_in, ReadsAs};
 
 // The digit that bytes begin with, and the bytes behind it.
@@ -32,14 +32,6 @@ fn number(bytes: &[u8]) -> Option<(u64, &[u8])>
         rest = behind;
     }
     Some((value, rest))
-}
-
-// Does a text stand at a place?
-pub fn text_at(line: &[u8], at: usize, text: &[u8]) -> bool
-    requires { at ≤ length line.now }
-    ensures { result ≡ begins text.now (drop at line.now) }
-{
-    line[at..].starts_with(text)
 }
 
 // The number behind a text that bytes begin with, and the bytes behind it.

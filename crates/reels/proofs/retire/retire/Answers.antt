@@ -1,4 +1,4 @@
-use Rattle.std.proofs.Common.{[], ◌∙◌, sym, not, ap, ◌<◌, arith, rules}
+use Rattle.std.proofs.Common.{[], ◌∙◌, sym, not, ap, arith, rules}
 use mathlib.Core.Option.{some}
 use Rattle.operations.specs.Ends.{buffers}
 use Rattle.operations.proofs.Passed.{all_checked}

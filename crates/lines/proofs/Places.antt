@@ -62,16 +62,10 @@ begins_is (a ∷ t) (b ∷ bs) e =
     let w = (and-eq-true_iff (eqb a b) (begins t bs)).0 e in
     rw (eqb-true a b w.0) (ap (λ x. b ∷ x) (begins_is t bs w.1))
 
--- the test of the bytes at the start
-pub begins_test : (t bs : List ℕ) → begins t bs ≡ pointwise eqb t (take (length t) bs)
-unfolding begins
-begins_test [] bs = refl
-begins_test (a ∷ t) [] = refl
-begins_test (a ∷ t) (b ∷ bs) = ap (λ x. eqb a b && x) (begins_test t bs)
-
 eqb_swap : (a b : ℕ) → eqb a b ≡ eqb b a
 eqb_swap a b = elim (ℕ_discrete a b) [ yes e ↦ rw (eq-eqb a b e, eq-eqb b a (sym e)) | no n ↦ rw (ne_eqb a b n, ne_eqb b a (λ e. n (sym e))) ]
 
+-- the test of the bytes at the start
 pub begins_tested : (t bs : List ℕ) → begins t bs ≡ pointwise eqb (take (length t) bs) t
 unfolding begins
 begins_tested [] bs = refl

@@ -28,8 +28,8 @@ pub struct Found {
     pub nodes: u64,
 }
 
-// The end of a walk along a frame's path: its last node, with its level. The first place that holds the frame, and the first clear
-// one if it was sought.
+// The end of a walk along a frame's path: its last node, with its level. The first place that holds the frame, and the first
+// clear one if it was sought.
 #[derive(Clone, Copy)]
 pub struct Trail {
     pub node: usize,
@@ -66,8 +66,8 @@ impl From<Malformed> for NoVacancy {
     }
 }
 
-// The child to which a frame's path goes on from a well-formed node, unless it ends there. Children are inside the pool, so the sum
-// does not wrap.
+// The child to which a frame's path goes on from a well-formed node, unless it ends there. Children are inside the pool, so
+// the sum does not wrap.
 pub fn step_from(image: &[u64], g: Geometry, level: u64, n: usize, frame: u64) -> Option<usize>
     requires { Sized image.now g × (well_formed g (reads image.now) level n ≡ true) }
     ensures { result ≡ step_from g (reads image.now) level n frame }

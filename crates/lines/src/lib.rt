@@ -1,5 +1,4 @@
-// The lines of the bench program: reading them, and collecting them from pieces of input. `field` reads the lines of
-// `cases` too.
+// The lines of the bench program: reading them, and collecting them from pieces of input.
 #![tactic(auto)]
 
 pub mod bytes;

@@ -85,9 +85,16 @@ pub fn reelbook_claim(
         (state image.now map.old heads.old) (buffers [] script.old []) }
 {
     let claimed = claim::claim(image, map, read_heads(heads), script, head, reel, frame);
-    let answer = claimed.answer;
-    *left = claimed.left;
-    hand_over_head(answer, heads, head, used)
+    match claimed {
+        Ok(done) => {
+            *left = done.left;
+            hand_over_head(Ok(done.head), heads, head, used)
+        }
+        Err(why) => {
+            *left = 0;
+            hand_over_head(Err(why), heads, head, used)
+        }
+    }
 }
 
 // Writes the script that puts the frame and its fingerprint in the claimed place.
@@ -171,10 +178,16 @@ pub fn reelbook_has(image: &[u64], reel: u64, frame: u64, yes: &mut u64, nodes: 
         → ended_path result yes.new nodes.new (state image.now pool heads) no_buffers
         ≡ ends (query (has reel frame)) (state image.now pool heads) no_buffers }
 {
-    let had = frames::has(image, reel, frame);
-    let answer = had.answer;
-    *nodes = had.nodes;
-    hand_over(answer, yes)
+    match frames::has(image, reel, frame) {
+        Ok(had) => {
+            *nodes = had.nodes;
+            hand_over(Ok(u64::from(had.yes)), yes)
+        }
+        Err(why) => {
+            *nodes = 0;
+            hand_over(Err(why), yes)
+        }
+    }
 }
 
 // Lists a reel's frames.

@@ -1,4 +1,4 @@
-use Rattle.std.proofs.Common.{[], sym, length}
+use Rattle.std.proofs.Common.{[], sym, length, Ok}
 use Rattle.operations.specs.HeadLists.{heads_after}
 use Rattle.operations.specs.Ends.{buffers, state}
 use Rattle.operations.proofs.HandedOver.{OfHead}
@@ -9,6 +9,6 @@ pub hand_over_head-requires : goal.hand_over_head-requires
 hand_over_head-requires c =
     let a = c.args in
     head_inside (OfHead.claims {map = length a.map.now} {script = length a.script.now} {reel = a.reel} {f = a.frame})
-    (state a.image.now a.map.now a.heads.now) (buffers [] a.script.now []) c.claim-claimed.result.answer
-    {s' = state a.image.now c.claim-claimed.new.pool (heads_after a.heads.now a.head c.claim-claimed.result.answer)}
-    (c.claim-claimed.ensures a.heads.now (sym c.read_heads.ensures))
+    (state a.image.now a.map.now a.heads.now) (buffers [] a.script.now []) (Ok c.in-Ok.done.head)
+    {s' = state a.image.now c.claim-claimed.new.pool (heads_after a.heads.now a.head (Ok c.in-Ok.done.head))}
+    (rw c.in-Ok.is at (c.claim-claimed.ensures a.heads.now (sym c.read_heads.ensures)))

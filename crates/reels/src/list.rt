@@ -4,10 +4,8 @@ ghost use Rattle.book.specs.State.{query, list as list-reel};
 ghost use Rattle.operations.specs.Answers.{answer_of, count_of};
 ghost use Rattle.operations.specs.Ends.{buffers, state, ended, ends};
 
-use nodes::reels::slot_of;
+use crate::begin::slot_checked;
 use operations::answer::{Answer, Refusal};
-use operations::checks::{checks, clear_on_4};
-use pool::pool_map::clear_map;
 use walks::trees::{ListError, list_tree};
 
 // List a reel's frames: all of them, or the list stays as it is. Past the checks the scratch map is all 0 in the end.
@@ -18,19 +16,8 @@ pub fn list(image: &[u64], scratch: &mut [u64], list: &mut [u64], reel: u64) -> 
         ≡ ends (query (list-reel (length scratch.old) (length list.old) reel))
         (state image.now pool ws) (buffers scratch.old [] list.old) }
 {
-    let g = match checks(image, None, Some(scratch.len()), None) {
-        Ok(g) => g,
-        Err(why) => {
-            clear_on_4(scratch, why);
-            return Err(why);
-        }
-    };
-    let slot = slot_of(image, g, reel);
-    if g.slots <= slot {
-        clear_map(scratch);
-        return Err(Refusal::NoReel);
-    }
-    match list_tree(image, scratch, list, g, slot) {
+    let reel = slot_checked(image, None, scratch, None, reel)?;
+    match list_tree(image, scratch, list, reel.g, reel.slot) {
         Err(ListError::Malformed) => Err(Refusal::Malformed),
         Err(ListError::Short) => Err(Refusal::ListShort),
         Ok(frames) => Ok(frames as u64),

@@ -5,10 +5,9 @@ ghost use Rattle.operations.specs.Answers.{answer_of, count_of};
 ghost use Rattle.operations.specs.HeadLists.{heads_in};
 ghost use Rattle.operations.specs.Ends.{buffers, state, ended, ends};
 
+use crate::begin::slot_checked;
 use book::{HEADS, Head};
-use nodes::reels::slot_of;
 use operations::answer::{Answer, Refusal};
-use operations::checks::{checks, clear_on_4};
 use operations::heads::is_busy;
 use pool::pool_map::clear_map;
 use tree::layout::root_at;
@@ -32,30 +31,14 @@ pub fn retire(
         (retire (length pool.old) (length scratch.old) (length script.old) reel)
         (state image.now pool.old ws) (buffers scratch.old script.old []) }
 {
-    let g = match checks(
-        image,
-        Some(pool.len()),
-        Some(scratch.len()),
-        Some(script.len()),
-    ) {
-        Ok(g) => g,
-        Err(why) => {
-            clear_on_4(scratch, why);
-            return Err(why);
-        }
-    };
-    let slot = slot_of(image, g, reel);
-    if g.slots <= slot {
-        clear_map(scratch);
-        return Err(Refusal::NoReel);
-    }
-    if is_busy(heads, slot) {
+    let reel = slot_checked(image, Some(pool.len()), scratch, Some(script.len()), reel)?;
+    if is_busy(heads, reel.slot) {
         clear_map(scratch);
         return Err(Refusal::Busy);
     }
-    if !free_tree(image, pool, scratch, g, slot) {
+    if !free_tree(image, pool, scratch, reel.g, reel.slot) {
         return Err(Refusal::Malformed);
     }
-    put_fenced(script, root_at(slot) as u64, 0);
+    put_fenced(script, root_at(reel.slot) as u64, 0);
     Ok(4)
 }

@@ -5,12 +5,11 @@ ghost use Rattle.operations.specs.Answers.{answer_of, count_of};
 ghost use Rattle.operations.specs.HeadLists.{heads_in};
 ghost use Rattle.operations.specs.Ends.{buffers, state, ended, ends};
 
+use crate::begin::slot_checked;
 use book::{HEADS, Head};
 use groups::group::free_group;
 use groups::search::search_slot;
-use nodes::reels::slot_of;
 use operations::answer::{Answer, Refusal};
-use operations::checks::{checks, clear_on_4};
 use operations::heads::is_busy;
 use pool::pool_map::clear_map;
 use tree::layout::node_at;
@@ -34,35 +33,19 @@ pub fn tidy(
         (tidy (length pool.old) (length scratch.old) (length script.old) reel)
         (state image.now pool.old ws) (buffers scratch.old script.old []) }
 {
-    let g = match checks(
-        image,
-        Some(pool.len()),
-        Some(scratch.len()),
-        Some(script.len()),
-    ) {
-        Ok(g) => g,
-        Err(why) => {
-            clear_on_4(scratch, why);
-            return Err(why);
-        }
-    };
-    let slot = slot_of(image, g, reel);
-    if g.slots <= slot {
-        clear_map(scratch);
-        return Err(Refusal::NoReel);
-    }
-    if is_busy(heads, slot) {
+    let reel = slot_checked(image, Some(pool.len()), scratch, Some(script.len()), reel)?;
+    if is_busy(heads, reel.slot) {
         clear_map(scratch);
         return Err(Refusal::Busy);
     }
-    if !sound_tree(image, scratch, g, slot) {
+    if !sound_tree(image, scratch, reel.g, reel.slot) {
         return Err(Refusal::Malformed);
     }
-    match search_slot(image, g, slot) {
+    match search_slot(image, reel.g, reel.slot) {
         None => Err(Refusal::NoGroup),
         Some(found) => {
-            free_group(image, pool, g, found.node, found.depth);
-            put_fenced(script, node_at(g, found.node) as u64, 0);
+            free_group(image, pool, reel.g, found.node, found.depth);
+            put_fenced(script, node_at(reel.g, found.node) as u64, 0);
             Ok(4)
         }
     }

@@ -1,93 +1,92 @@
 use Rattle.std.proofs.Common.{[], ◌∙◌, sym, not, ap, arith, rules}
+use Rattle.std.proofs.lemmas.Result.{err_from_is_err_and}
 use mathlib.Core.Option.{some}
 use Rattle.operations.specs.Ends.{buffers}
-use Rattle.operations.proofs.Passed.{all_checked}
-use Rattle.operations.proofs.Tested.{filled_slot, check_bad, no_reel}
+use Rattle.operations.proofs.Tested.{filled_slot}
 use Rattle.groups.proofs.Found.{parent_found}
 use Rattle.reels.proofs.IdleReels.{slot_busy}
-use Rattle.reels.proofs.SlotReads.{slot_read}
+use Rattle.reels.proofs.SlotReads.{begun, begun_bad}
 use Rattle.reels.proofs.Tidying.{on_tidy, tree_bad, no_group, tidied}
 use Rattle.reels.proofs.tidy.tidy.Goals as goal
 
-pub returns-in-Err : goal.returns-in-Err
-returns-in-Err c ws e =
+pub returns-in_err-reel : goal.returns-in_err-reel
+returns-in_err-reel c ws e =
     let a = c.args in
-    rw c.clear_on_4.ensures
-    (check_bad (on_tidy a.image.now a.pool.now ws a.scratch.now a.script.now a.reel).tested (buffers a.scratch.now a.script.now [])
-    c.checks.ensures c.in-Err.is)
-
-pub slot_of-slot-requires : goal.slot_of-slot-requires
-slot_of-slot-requires c =
-    (all_checked c.args.image.now (some c.args.pool.now) (some c.args.scratch.now) (some c.args.script.now) c.checks.ensures c.in-Ok.is).sized
-
-pub returns-then-g-slot : goal.returns-then-g-slot
-returns-then-g-slot c ws e =
-    let a = c.args in
-    let p = slot_read a.image.now (some a.pool.now) (some a.scratch.now) (some a.script.now) a.reel c.checks.ensures c.in-Ok.is c.slot_of-slot.ensures in
-    rw c.clear_map.ensures
-    (no_reel (on_tidy a.image.now a.pool.now ws a.scratch.now a.script.now a.reel) (buffers a.scratch.now a.script.now []) p c.if-g-slot.true)
+    let p = err_from_is_err_and c.from_residual.result c.from_residual.ensures.1 in
+    rw (p.1, p.2)
+    (begun_bad (on_tidy a.image.now a.pool.now ws a.scratch.now a.script.now a.reel) (buffers a.scratch.now a.script.now [])
+    c.slot_checked.ensures.slot c.in_err-reel.was c.slot_checked.ensures.scratch_left)
 
 pub returns-then-is_busy : goal.returns-then-is_busy
 returns-then-is_busy c ws e =
     let a = c.args in
-    let p = slot_read a.image.now (some a.pool.now) (some a.scratch.now) (some a.script.now) a.reel c.checks.ensures c.in-Ok.is c.slot_of-slot.ensures in
-    rw c.clear_map-then-is_busy.ensures
-    (slot_busy (on_tidy a.image.now a.pool.now ws a.scratch.now a.script.now a.reel) p c.if-g-slot.false _ e (sym c.is_busy.ensures ∙ c.if-is_busy.true))
+    let b = begun a.image.now (some a.pool.now) (some a.scratch.now) (some a.script.now) a.reel c.slot_checked.ensures.slot c.in_ok-reel.was in
+    let p = b.read in
+    rw (c.clear_map.ensures, rw c.in_ok-reel.was at c.slot_checked.ensures.scratch_left)
+    (slot_busy (on_tidy a.image.now a.pool.now ws a.scratch.now a.script.now a.reel) p b.inside _ e (sym c.is_busy.ensures ∙ c.if-is_busy.true))
 
 pub sound_tree-requires : goal.sound_tree-requires
 sound_tree-requires c =
     let a = c.args in
-    let p = slot_read a.image.now (some a.pool.now) (some a.scratch.now) (some a.script.now) a.reel c.checks.ensures c.in-Ok.is c.slot_of-slot.ensures in
-    (p.checked.sized, filled_slot p c.if-g-slot.false, p.checked.scratch_words)
+    let b = begun a.image.now (some a.pool.now) (some a.scratch.now) (some a.script.now) a.reel c.slot_checked.ensures.slot c.in_ok-reel.was in
+    let p = b.read in
+    (p.checked.sized, filled_slot p b.inside, rw (rw c.in_ok-reel.was at c.slot_checked.ensures.scratch_left) p.checked.scratch_words)
 
 pub returns-then-not-sound_tree : goal.returns-then-not-sound_tree
 returns-then-not-sound_tree c ws e =
     let a = c.args in
-    let p = slot_read a.image.now (some a.pool.now) (some a.scratch.now) (some a.script.now) a.reel c.checks.ensures c.in-Ok.is c.slot_of-slot.ensures in
+    let b = begun a.image.now (some a.pool.now) (some a.scratch.now) (some a.script.now) a.reel c.slot_checked.ensures.slot c.in_ok-reel.was in
+    let p = b.read in
     let f = c.sound_tree.ensures in
     rw (f.1, ← p.checked.scratch_words)
-    (tree_bad _ _ ws _ _ _ p c.if-g-slot.false _ e (sym c.is_busy.ensures ∙ c.if-is_busy.false) c.sound_tree.result f.0 (ap not c.if-not-sound_tree.true))
+    (tree_bad _ _ ws _ _ _ p b.inside _ e (sym c.is_busy.ensures ∙ c.if-is_busy.false) c.sound_tree.result f.0 (ap not c.if-not-sound_tree.true))
 
 pub search_slot-requires : goal.search_slot-requires
 search_slot-requires c =
     let a = c.args in
-    let p = slot_read a.image.now (some a.pool.now) (some a.scratch.now) (some a.script.now) a.reel c.checks.ensures c.in-Ok.is c.slot_of-slot.ensures in
-    (p.checked.sized, filled_slot p c.if-g-slot.false, sym c.sound_tree.ensures.0 ∙ c.if-not-sound_tree.false)
+    let b = begun a.image.now (some a.pool.now) (some a.scratch.now) (some a.script.now) a.reel c.slot_checked.ensures.slot c.in_ok-reel.was in
+    let p = b.read in
+    (p.checked.sized, filled_slot p b.inside, sym c.sound_tree.ensures.0 ∙ c.if-not-sound_tree.false)
 
 pub free_group-requires : goal.free_group-requires
 free_group-requires c =
     let a = c.args in
-    let p = slot_read a.image.now (some a.pool.now) (some a.scratch.now) (some a.script.now) a.reel c.checks.ensures c.in-Ok.is c.slot_of-slot.ensures in
-    let q = parent_found (filled_slot p c.if-g-slot.false) (sym c.sound_tree.ensures.0 ∙ c.if-not-sound_tree.false) c.search_slot.ensures c.in-Some.is in
+    let b = begun a.image.now (some a.pool.now) (some a.scratch.now) (some a.script.now) a.reel c.slot_checked.ensures.slot c.in_ok-reel.was in
+    let p = b.read in
+    let q = parent_found (filled_slot p b.inside) (sym c.sound_tree.ensures.0 ∙ c.if-not-sound_tree.false) c.search_slot.ensures c.in-Some.is in
     (p.checked.sized, q.inside, q.linked, q.children, search (rules, p.checked.map_words_lem))
 
 pub node_at-requires : goal.node_at-requires
 node_at-requires c =
     let a = c.args in
-    let p = slot_read a.image.now (some a.pool.now) (some a.scratch.now) (some a.script.now) a.reel c.checks.ensures c.in-Ok.is c.slot_of-slot.ensures in
-    let q = parent_found (filled_slot p c.if-g-slot.false) (sym c.sound_tree.ensures.0 ∙ c.if-not-sound_tree.false) c.search_slot.ensures c.in-Some.is in
+    let b = begun a.image.now (some a.pool.now) (some a.scratch.now) (some a.script.now) a.reel c.slot_checked.ensures.slot c.in_ok-reel.was in
+    let p = b.read in
+    let q = parent_found (filled_slot p b.inside) (sym c.sound_tree.ensures.0 ∙ c.if-not-sound_tree.false) c.search_slot.ensures c.in-Some.is in
     (p.checked.sized.slots_limit, omega (arith, q.inside, p.checked.sized.nodes_limit))
 
 pub put_fenced-requires : goal.put_fenced-requires
 put_fenced-requires c =
     let a = c.args in
-    let p = slot_read a.image.now (some a.pool.now) (some a.scratch.now) (some a.script.now) a.reel c.checks.ensures c.in-Ok.is c.slot_of-slot.ensures in
+    let b = begun a.image.now (some a.pool.now) (some a.scratch.now) (some a.script.now) a.reel c.slot_checked.ensures.slot c.in_ok-reel.was in
+    let p = b.read in
     search (rules, p.checked.script_words)
 
 pub returns-in-None : goal.returns-in-None
 returns-in-None c ws e =
     let a = c.args in
-    let p = slot_read a.image.now (some a.pool.now) (some a.scratch.now) (some a.script.now) a.reel c.checks.ensures c.in-Ok.is c.slot_of-slot.ensures in
+    let b = begun a.image.now (some a.pool.now) (some a.scratch.now) (some a.script.now) a.reel c.slot_checked.ensures.slot c.in_ok-reel.was in
+    let p = b.read in
     let f = c.sound_tree.ensures in
     rw (f.1, ← p.checked.scratch_words)
-    (no_group _ _ ws _ _ _ p c.if-g-slot.false _ e (sym c.is_busy.ensures ∙ c.if-is_busy.false) c.sound_tree.result f.0
+    (no_group _ _ ws _ _ _ p b.inside _ e (sym c.is_busy.ensures ∙ c.if-is_busy.false) c.sound_tree.result f.0
     (ap not c.if-not-sound_tree.false) c.search_slot.ensures c.in-None.is)
 
 pub returns-in-Some : goal.returns-in-Some
 returns-in-Some c ws e =
     let a = c.args in
-    let p = slot_read a.image.now (some a.pool.now) (some a.scratch.now) (some a.script.now) a.reel c.checks.ensures c.in-Ok.is c.slot_of-slot.ensures in
+    let b = begun a.image.now (some a.pool.now) (some a.scratch.now) (some a.script.now) a.reel c.slot_checked.ensures.slot c.in_ok-reel.was in
+    let p = b.read in
     let f = c.sound_tree.ensures in
     rw (f.1, ← p.checked.scratch_words)
-    (tidied _ _ ws _ _ _ p c.if-g-slot.false _ e (sym c.is_busy.ensures ∙ c.if-is_busy.false) c.sound_tree.result f.0
+    (tidied _ _ ws _ _ _ p b.inside _ e (sym c.is_busy.ensures ∙ c.if-is_busy.false) c.sound_tree.result f.0
     (ap not c.if-not-sound_tree.false) c.search_slot.ensures c.in-Some.is _ c.free_group.ensures _ (rw c.node_at.ensures at c.put_fenced.ensures))

@@ -19,14 +19,14 @@ const IMAGE_WORDS: usize = 1352;
 const SCRIPT_WORDS: usize = 50;
 
 #[derive(Drop)]
-pub struct Book {
+pub(crate) struct Book {
     image: [u64; IMAGE_WORDS],
     map: [u64; 1],
     heads: [u64; HEAD_WORDS],
 }
 
 impl Book {
-    pub fn new() -> Book {
+    pub(crate) fn new() -> Book {
         let mut book = Book {
             image: [0; IMAGE_WORDS],
             map: [0; 1],
@@ -56,14 +56,14 @@ impl Book {
         }
     }
 
-    pub fn open(&mut self, reel: u64) -> Answer {
+    pub(crate) fn open(&mut self, reel: u64) -> Answer {
         let mut script = [0; SCRIPT_WORDS];
         let mut used = 0;
         let number = reelbook_open(&self.image, &mut self.map, &mut script, reel, &mut used);
         self.carry_out(number, &script, used)
     }
 
-    pub fn claim(&mut self, head: u64, reel: u64, frame: u64) -> Answer {
+    pub(crate) fn claim(&mut self, head: u64, reel: u64, frame: u64) -> Answer {
         let mut script = [0; SCRIPT_WORDS];
         let mut used = 0;
         let mut left = 0;
@@ -81,28 +81,28 @@ impl Book {
         self.carry_out(number, &script, used)
     }
 
-    pub fn fill(&mut self, head: u64) -> Answer {
+    pub(crate) fn fill(&mut self, head: u64) -> Answer {
         let mut script = [0; SCRIPT_WORDS];
         let mut used = 0;
         let number = reelbook_fill(&self.image, &mut self.heads, &mut script, head, &mut used);
         self.carry_out(number, &script, used)
     }
 
-    pub fn commit(&mut self, head: u64) -> Answer {
+    pub(crate) fn commit(&mut self, head: u64) -> Answer {
         let mut script = [0; SCRIPT_WORDS];
         let mut used = 0;
         let number = reelbook_commit(&self.image, &mut self.heads, &mut script, head, &mut used);
         self.carry_out(number, &script, used)
     }
 
-    pub fn abandon(&mut self, head: u64) -> Answer {
+    pub(crate) fn abandon(&mut self, head: u64) -> Answer {
         let mut script = [0; SCRIPT_WORDS];
         let mut used = 0;
         let number = reelbook_abandon(&self.image, &mut self.heads, &mut script, head, &mut used);
         self.carry_out(number, &script, used)
     }
 
-    pub fn remove(&mut self, reel: u64, frame: u64) -> Answer {
+    pub(crate) fn remove(&mut self, reel: u64, frame: u64) -> Answer {
         let mut script = [0; SCRIPT_WORDS];
         let mut used = 0;
         let number = reelbook_remove(
@@ -116,7 +116,7 @@ impl Book {
         self.carry_out(number, &script, used)
     }
 
-    pub fn retire(&mut self, reel: u64) -> Answer {
+    pub(crate) fn retire(&mut self, reel: u64) -> Answer {
         let mut scratch = [0; 1];
         let mut script = [0; SCRIPT_WORDS];
         let mut used = 0;
@@ -132,7 +132,7 @@ impl Book {
         self.carry_out(number, &script, used)
     }
 
-    pub fn has(&self, reel: u64, frame: u64) -> Answer {
+    pub(crate) fn has(&self, reel: u64, frame: u64) -> Answer {
         let mut yes = 0;
         let mut nodes = 0;
         let number = reelbook_has(&self.image, reel, frame, &mut yes, &mut nodes);
@@ -144,7 +144,7 @@ impl Book {
     }
 
     // Lists a reel's frames: the answer's value is how many there are.
-    pub fn list(&self, list: &mut [u64], reel: u64) -> Answer
+    pub(crate) fn list(&self, list: &mut [u64], reel: u64) -> Answer
         ensures { result.value ≤ length list.new }
     {
         let mut scratch = [0; 1];

@@ -4,7 +4,7 @@ use std::{io, str};
 
 // A stream that failed, and why.
 #[derive(Drop)]
-pub enum Failure {
+pub(crate) enum Failure {
     Input(io::Error),
     Output(io::Error),
 }
@@ -15,7 +15,7 @@ const ROOM: usize = 320;
 impl Failure {
     // Says on standard error, in one line, which stream failed and why. Where that cannot be written either, nobody is left to be
     // told.
-    pub fn tell(self, rt: &impl Eprint) {
+    pub(crate) fn tell(self, rt: &impl Eprint) {
         let _ = match self {
             Failure::Input(error) => say(rt, "standard input", error),
             Failure::Output(error) => say(rt, "standard output", error),

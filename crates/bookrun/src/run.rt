@@ -14,7 +14,7 @@ const NO_SUCH_LINE: Answer = Answer {
 // The most frames that are listed.
 const FRAMES: usize = 1024;
 
-pub fn run_line(rt: &impl Print, book: &mut Book, bytes: &[u8]) -> Result<(), Failure> {
+pub(crate) fn run_line(rt: &impl Print, book: &mut Book, bytes: &[u8]) -> Result<(), Failure> {
     let answer = match read_line(bytes) {
         Some(Line::Open { reel }) => book.open(reel),
         Some(Line::Claim { head, reel, frame }) => book.claim(head, reel, frame),

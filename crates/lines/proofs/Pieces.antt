@@ -5,13 +5,13 @@ use mathlib.Core.List.{List, [], ◌∷◌, ◌++◌, map, flatten, append-nil}
 use Prim.Native.Nat.{ℕ, suc, ◌-◌, ◌≤◌, ◌<◌}
 use native.Mathlib.Omega.{arith}
 use native.Mathlib.Decide.{dec_le, ℕ_discrete}
-use lib.ListN.{length, drop, length-drop}
-use lib.Seq.{append_snoc}
+use lib.ListN.{length, take, drop, length-drop}
+use lib.Seq.{append_snoc, take-append_seam}
 use borrow.Author.Tests.{eq-eqb, ne_eqb}
 use denote.Ref.{Bor}
 use Rattle.std.specs.Prelude.{cond, eqb, Option, Some, None, MatchOption, IfSome}
 use Rattle.lines.specs.Reading.{longest, line_of}
-use Rattle.lines.specs.Input.{newline, in_front, lines_of, cut, Collected, nothing_yet, line_ended, with_bytes, taken, taken_all, last_line, all_lines, up_to_newline, has_newline, used, Takes}
+use Rattle.lines.specs.Input.{newline, in_front, lines_of, cut, Collected, nothing_yet, line_ended, with_bytes, taken, taken_all, last_line, all_lines, up_to_newline, has_newline, used, Holds, Takes}
 use Rattle.lines.specs.Laws.{InputLaws, PieceLaws}
 use Rattle.lines.proofs.Fields.{too_long}
 use Rattle.lines.proofs.Collect.{cut_again, cut_more, cut_all, cut_length, left_nothing, left_newline, left_byte}
@@ -196,6 +196,9 @@ goes_on piece old rest line w = (shorter rest w.goes_on, rw w.holds (kept_length
     shorter None w = tt
     shorter (Some r) w = rw (w.1, length-drop (used piece) piece) (used_less piece w.0)
 
+held_bytes : (old bytes buffer : List ℕ) (count : ℕ) → Holds old bytes buffer count → take count buffer ≡ bytes
+held_bytes old bytes buffer count w = rw (w.same, w.counted) (take-append_seam bytes (drop (length bytes) old))
+
 pub piece_laws : PieceLaws
 piece_laws = record {
   two_pieces = two_pieces;
@@ -207,6 +210,7 @@ piece_laws = record {
   used_inside = used_inside;
   used_some = used_some;
   used_all = used_all;
+  held_bytes = held_bytes;
   kept_length = kept_length;
   goes_on = goes_on;
 }

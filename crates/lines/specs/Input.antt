@@ -1,5 +1,5 @@
 -- Lines of an input: all of them at once, and collected from its pieces.
-use Rattle.std.specs.Prelude.{◌≡◌, Bool, true, false, cond, ◌||◌, List, [], ◌∷◌, ◌++◌, ℕ, suc, take, drop, eqb, Option, MatchOption}
+use Rattle.std.specs.Prelude.{◌≡◌, Bool, true, false, cond, ◌||◌, List, [], ◌∷◌, ◌++◌, ℕ, suc, length, take, drop, eqb, Option, MatchOption}
 use denote.Ref.{Bor}
 use Rattle.lines.specs.Reading.{longest}
 
@@ -73,6 +73,11 @@ has_newline (b ∷ bs) = eqb b newline || has_newline bs
 unfoldable pub used : List ℕ → ℕ
 used [] = 0
 used (b ∷ bs) = cond (eqb b newline) 1 (suc (used bs))
+
+-- a buffer that held other bytes has these at its start, so many
+pub record Holds (old bytes buffer : List ℕ) (count : ℕ) : Type 0 where
+  pub same : buffer ≡ bytes ++ drop (length bytes) old
+  pub counted : count ≡ length bytes
 
 -- the code took from a piece of input what is left of a line, behind the bytes before it: up to a newline, and the bytes behind that are
 -- handed back, or all of the piece

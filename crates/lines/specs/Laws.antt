@@ -1,11 +1,11 @@
 -- What is proved of this crate's definitions: the statements alone. proofs/Laws.antt has a proof of each record.
-use Rattle.std.specs.Prelude.{◌≡◌, true, false, Option, Some, None, IfSome, ℕ, suc, ◌+◌, ◌/◌, ◌%◌, ◌^◌, ◌≤◌, ◌<◌, length, drop}
+use Rattle.std.specs.Prelude.{◌≡◌, true, false, Option, Some, None, IfSome, ℕ, suc, ◌+◌, ◌/◌, ◌%◌, ◌^◌, ◌≤◌, ◌<◌, length, take, drop}
 use denote.Ref.{Bor}
 use mathlib.Core.List.{List, [], ◌∷◌, ◌++◌, map, flatten}
 use Rattle.lines.specs.Decimal.{decimal}
 use Rattle.lines.specs.Line.{shown, Fits}
 use Rattle.lines.specs.Reading.{longest, line_of}
-use Rattle.lines.specs.Input.{newline, lines_of, cut, Collected, nothing_yet, line_ended, with_bytes, taken, taken_all, all_lines, up_to_newline, has_newline, used, Takes}
+use Rattle.lines.specs.Input.{newline, lines_of, cut, Collected, nothing_yet, line_ended, with_bytes, taken, taken_all, all_lines, up_to_newline, has_newline, used, Holds, Takes}
 use Rattle.lines.specs.declared.line.Line.{Line}
 
 -- ---- numbers
@@ -46,6 +46,8 @@ pub record PieceLaws : Type 0 where
   pub used_inside : (bs : List ℕ) → used bs ≤ length bs
   pub used_some : (bs : List ℕ) → 0 < length bs → 0 < used bs
   pub used_all : (bs : List ℕ) → has_newline bs ≡ false → used bs ≡ length bs
+  -- the bytes that a buffer holds, as many as are counted
+  pub held_bytes : (old bytes buffer : List ℕ) (count : ℕ) → Holds old bytes buffer count → take count buffer ≡ bytes
   pub kept_length : (l : List ℕ) → length (cut l) ≤ suc longest
   -- a call of the code goes on in the piece, and the line keeps inside its buffer
   pub goes_on : (piece old : List ℕ) (rest : Option (Bor (List ℕ))) (line : List ℕ) → Takes piece old rest line

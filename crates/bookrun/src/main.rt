@@ -3,12 +3,12 @@
 // the same.
 #![tactic(auto)]
 
-mod book;
 mod errors;
+mod in_memory;
 mod run;
 
-use book::Book;
 use errors::Failure;
+use in_memory::Book;
 use lines::bytes::Bytes;
 use lines::input::{KEPT, take_piece};
 use run::run_line;

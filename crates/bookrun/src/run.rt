@@ -1,6 +1,6 @@
 // A line run, and its answer printed.
-use crate::book::Book;
 use crate::errors::Failure;
+use crate::in_memory::Book;
 use answer_lines::answer::{Answer, answer_line, frame_line};
 use lines::line::{Line, read_line};
 

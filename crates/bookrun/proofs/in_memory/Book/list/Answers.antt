@@ -1,6 +1,6 @@
 use Rattle.std.proofs.Common.{[], rules}
 use Rattle.reelbook.proofs.Laws.{count_laws}
-use Rattle.bookrun.proofs.book.Book.list.Goals as goal
+use Rattle.bookrun.proofs.in_memory.Book.list.Goals as goal
 
 -- the frames counted are in the list
 pub returns : goal.returns

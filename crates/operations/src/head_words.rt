@@ -18,14 +18,11 @@ fn read_head(words: &[u64; HEAD_WORDS], h: usize) -> HeadState
         place: words[at + 3],
         frame: words[at + 4],
     };
-    let state = words[at];
-    if state == 1 {
-        return HeadState::Claimed(t);
+    match words[at] {
+        1 => HeadState::Claimed(t),
+        2 => HeadState::Filled(t),
+        _ => HeadState::Idle,
     }
-    if state == 2 {
-        return HeadState::Filled(t);
-    }
-    HeadState::Idle
 }
 
 // The state of a head; idle for a number that no head has.

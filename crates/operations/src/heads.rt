@@ -20,8 +20,7 @@ fn names(slot: usize, state: HeadState) -> bool
 {
     match state {
         HeadState::Idle => false,
-        HeadState::Claimed(t) => t.slot == slot as u64,
-        HeadState::Filled(t) => t.slot == slot as u64,
+        HeadState::Claimed(t) | HeadState::Filled(t) => t.slot == slot as u64,
     }
 }
 

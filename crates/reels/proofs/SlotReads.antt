@@ -1,4 +1,4 @@
--- What List, Retire and Tidy begin with: the geometry and the reel's slot, as the code has them then, and how they end where they come no further.
+-- How List, Retire and Tidy begin: the geometry and the reel's slot that the code has then, and how they end before that.
 use mathlib.Core.Path.{◌≡◌, refl, sym, ◌∙◌}
 use mathlib.Core.Bool.{true}
 use mathlib.Core.Logic.{inl, inr}

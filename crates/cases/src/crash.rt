@@ -1,7 +1,6 @@
 // The crashes of a script: power is lost just before a barrier, and of the stores since the barrier before it any are kept and
 // the others lost.
-ghost use Rattle.std.specs.Prelude.{◌*◌, ◌≤◌};
-ghost use Rattle.arrayvec.specs.ArrayVec.{array_vec_len};
+ghost use Rattle.std.specs.Prelude.{◌*◌, ◌≤◌, length};
 
 use crate::buffers::Buffer;
 use crate::driver::{IMAGE_WORDS, LIST_WORDS, SCRIPT_WORDS};
@@ -21,7 +20,9 @@ pub struct Due<'a> {
 }
 
 // A crash just before each barrier, and at the end, that has stores to order.
-pub fn crashes(image: &Buffer<IMAGE_WORDS>, script: &Buffer<SCRIPT_WORDS>, due: &Due) -> Crashes {
+pub fn crashes(image: &Buffer<IMAGE_WORDS>, script: &Buffer<SCRIPT_WORDS>, due: &Due) -> Crashes
+    ensures { 2 * length result ≤ script.now.lent }
+{
     let script = script.lent();
     let entries = script.len() / 2;
     let mut crashes = Crashes::new();

@@ -6,7 +6,7 @@ use crate::buffers::{Buffer, Name};
 use crate::command::Command;
 use crate::crash::{Due, crashes};
 use crate::outcome::{Mistake, Outcome};
-use crate::values::read_values;
+use crate::values::{VALUES, read_values};
 use reelbook::HEAD_WORDS;
 
 // The words of the buffers: an image of 128 nodes, a second one, and its maps; an entry more than the longest script and than its
@@ -71,8 +71,9 @@ impl Driver {
         let text = str::from_utf8(line).map_err(|_| Mistake::Unreadable)?;
         let mut words = text.split(' ');
         let word = words.next().unwrap_or("");
-        let values = read_values(words)?;
-        let command = Command::of(word, values.as_slice()).ok_or(Mistake::Unreadable)?;
+        let mut room = [0; VALUES];
+        let values = read_values(words, &mut room)?;
+        let command = Command::of(word, values).ok_or(Mistake::Unreadable)?;
         self.run(command)
     }
 

@@ -1,11 +1,11 @@
 // What comes out of a line, as it is printed behind it.
-ghost use Rattle.std.specs.Prelude.{◌≡◌, Some, None};
+ghost use Rattle.std.specs.Prelude.{◌≡◌, [], ◌∷◌, ◌++◌, ◌<◌, ◌≤◌, Some, None, length};
 
 use crate::driver::SCRIPT_WORDS;
-use arrayvec::ArrayVec;
 use std::error::Error;
 use std::fmt;
 use std::fmt::Write;
+use std::marker::Model;
 
 // Behind a line that cannot be read, or that names a place which is not there, stands = ?.
 #[derive(Clone, Copy, Debug)]
@@ -93,9 +93,52 @@ impl fmt::Display for Crash {
 }
 
 // One for each entry of a script, at most.
-const MOST_CRASHES: usize = SCRIPT_WORDS / 2;
+pub const MOST_CRASHES: usize = SCRIPT_WORDS / 2;
 
-pub type Crashes = ArrayVec<Crash, MOST_CRASHES>;
+// A list of crashes, with room for so many.
+#[derive(Drop)]
+pub struct Crashes {
+    crashes: [Crash; MOST_CRASHES],
+    count: usize,
+}
+
+impl Model for Crashes {
+    ghost use Rattle.std.specs.Prelude.{List, ◌≤◌, take};
+    ghost use Rattle.cases.specs.declared.outcome.TheConstants.{MOST_CRASHES};
+    ghost use Rattle.cases.specs.declared.outcome.Crash.{Crash};
+
+    ghost Value = { List Crash };
+
+    ghost view = { λ c. take c.count c.crashes };
+
+    ghost invariant = { λ c. c.count ≤ MOST_CRASHES };
+}
+
+impl Crashes {
+    pub fn new() -> Self
+        ensures { result ≡ [] }
+    {
+        Self {
+            crashes: [Crash::default(); MOST_CRASHES],
+            count: 0,
+        }
+    }
+
+    pub fn as_slice(&self) -> &[Crash]
+        ensures value { result.now ≡ self.now }
+        ensures fits { length result.now ≤ MOST_CRASHES }
+    {
+        &self.crashes[..self.count]
+    }
+
+    pub fn push(&mut self, crash: Crash)
+        requires { length self.old < MOST_CRASHES }
+        ensures { self.new ≡ self.old ++ crash ∷ [] }
+    {
+        self.crashes[self.count] = crash;
+        self.count += 1;
+    }
+}
 
 #[derive(Drop)]
 pub enum Outcome<'a> {

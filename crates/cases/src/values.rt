@@ -1,7 +1,8 @@
 // The values of a line.
+ghost use Rattle.std.specs.Prelude.{◌≤◌, IfOk, length};
+
 use crate::buffers::Name;
 use crate::outcome::Mistake;
-use arrayvec::ArrayVec;
 use std::str::Split;
 
 // The most values that a line has.
@@ -9,14 +10,20 @@ pub const VALUES: usize = 8;
 
 pub const ONES: u64 = u64::MAX;
 
-// Reads each of some words as a value.
-pub fn read_values(words: Split<'_, char>) -> Result<ArrayVec<u64, VALUES>, Mistake> {
-    let mut values = ArrayVec::new();
+// Reads each of some words as a value into a room, and answers the part of it that has them.
+pub fn read_values<'a>(
+    words: Split<'_, char>,
+    room: &'a mut [u64; VALUES],
+) -> Result<&'a [u64], Mistake>
+    ensures { IfOk result (λ values. length values.now ≤ VALUES) }
+{
+    let mut count = 0;
     for word in words {
         let value = value_of(word).ok_or(Mistake::Unreadable)?;
-        values.try_push(value).map_err(|_| Mistake::Unreadable)?;
+        *room.get_mut(count).ok_or(Mistake::Unreadable)? = value;
+        count += 1;
     }
-    Ok(values)
+    Ok(&room[..count])
 }
 
 fn value_of(word: &str) -> Option<u64> {

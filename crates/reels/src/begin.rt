@@ -9,7 +9,7 @@ use operations::checks::{checks, clear_on_4};
 use pool::pool_map::clear_map;
 use tree::layout::Geometry;
 
-// A reel's slot in an image that has passed the checks.
+// A reel's slot in an image that has passed the checks, and the image's geometry.
 #[derive(Clone, Copy)]
 pub struct ReelSlot {
     pub g: Geometry,

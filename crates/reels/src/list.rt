@@ -4,7 +4,7 @@ ghost use Rattle.book.specs.State.{query, list as list-reel};
 ghost use Rattle.operations.specs.Answers.{answer_of, count_of};
 ghost use Rattle.operations.specs.Ends.{buffers, state, ended, ends};
 
-use crate::begin::slot_checked;
+use crate::begin::{ReelSlot, slot_checked};
 use operations::answer::{Answer, Refusal};
 use walks::trees::{ListError, list_tree};
 
@@ -16,8 +16,8 @@ pub fn list(image: &[u64], scratch: &mut [u64], list: &mut [u64], reel: u64) -> 
         ≡ ends (query (list-reel (length scratch.old) (length list.old) reel))
         (state image.now pool ws) (buffers scratch.old [] list.old) }
 {
-    let reel = slot_checked(image, None, scratch, None, reel)?;
-    match list_tree(image, scratch, list, reel.g, reel.slot) {
+    let ReelSlot { g, slot } = slot_checked(image, None, scratch, None, reel)?;
+    match list_tree(image, scratch, list, g, slot) {
         Err(ListError::Malformed) => Err(Refusal::Malformed),
         Err(ListError::Short) => Err(Refusal::ListShort),
         Ok(frames) => Ok(frames as u64),

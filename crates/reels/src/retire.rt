@@ -5,7 +5,7 @@ ghost use Rattle.operations.specs.Answers.{answer_of, count_of};
 ghost use Rattle.operations.specs.HeadLists.{heads_in};
 ghost use Rattle.operations.specs.Ends.{buffers, state, ended, ends};
 
-use crate::begin::slot_checked;
+use crate::begin::{ReelSlot, slot_checked};
 use book::{HEADS, Head};
 use operations::answer::{Answer, Refusal};
 use operations::heads::is_busy;
@@ -31,14 +31,20 @@ pub fn retire(
         (retire (length pool.old) (length scratch.old) (length script.old) reel)
         (state image.now pool.old ws) (buffers scratch.old script.old []) }
 {
-    let reel = slot_checked(image, Some(pool.len()), scratch, Some(script.len()), reel)?;
-    if is_busy(heads, reel.slot) {
+    let ReelSlot { g, slot } = slot_checked(
+        image,
+        Some(pool.len()),
+        scratch,
+        Some(script.len()),
+        reel,
+    )?;
+    if is_busy(heads, slot) {
         clear_map(scratch);
         return Err(Refusal::Busy);
     }
-    if !free_tree(image, pool, scratch, reel.g, reel.slot) {
+    if !free_tree(image, pool, scratch, g, slot) {
         return Err(Refusal::Malformed);
     }
-    put_fenced(script, root_at(reel.slot) as u64, 0);
+    put_fenced(script, root_at(slot) as u64, 0);
     Ok(4)
 }

@@ -5,7 +5,7 @@ ghost use Rattle.operations.specs.Answers.{answer_of, count_of};
 ghost use Rattle.operations.specs.HeadLists.{heads_in};
 ghost use Rattle.operations.specs.Ends.{buffers, state, ended, ends};
 
-use crate::begin::slot_checked;
+use crate::begin::{ReelSlot, slot_checked};
 use book::{HEADS, Head};
 use groups::group::free_group;
 use groups::search::search_slot;
@@ -33,19 +33,25 @@ pub fn tidy(
         (tidy (length pool.old) (length scratch.old) (length script.old) reel)
         (state image.now pool.old ws) (buffers scratch.old script.old []) }
 {
-    let reel = slot_checked(image, Some(pool.len()), scratch, Some(script.len()), reel)?;
-    if is_busy(heads, reel.slot) {
+    let ReelSlot { g, slot } = slot_checked(
+        image,
+        Some(pool.len()),
+        scratch,
+        Some(script.len()),
+        reel,
+    )?;
+    if is_busy(heads, slot) {
         clear_map(scratch);
         return Err(Refusal::Busy);
     }
-    if !sound_tree(image, scratch, reel.g, reel.slot) {
+    if !sound_tree(image, scratch, g, slot) {
         return Err(Refusal::Malformed);
     }
-    match search_slot(image, reel.g, reel.slot) {
+    match search_slot(image, g, slot) {
         None => Err(Refusal::NoGroup),
         Some(found) => {
-            free_group(image, pool, reel.g, found.node, found.depth);
-            put_fenced(script, node_at(reel.g, found.node) as u64, 0);
+            free_group(image, pool, g, found.node, found.depth);
+            put_fenced(script, node_at(g, found.node) as u64, 0);
             Ok(4)
         }
     }

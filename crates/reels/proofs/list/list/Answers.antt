@@ -9,25 +9,25 @@ use Rattle.reels.proofs.SlotReads.{begun, begun_bad}
 use Rattle.reels.proofs.Listing.{on_list, list_ended}
 use Rattle.reels.proofs.list.list.Goals as goal
 
-pub returns-in_err-reel : goal.returns-in_err-reel
-returns-in_err-reel c pool ws =
+pub returns-in_err-g : goal.returns-in_err-g
+returns-in_err-g c pool ws =
     let a = c.args in
     let p = err_from_is_err_and c.from_residual.result c.from_residual.ensures.1 in
     rw (p.1, p.2)
     (begun_bad (on_list a.image.now pool ws a.scratch.now a.list.now a.reel) (buffers a.scratch.now [] a.list.now)
-    c.slot_checked.ensures.slot c.in_err-reel.was c.slot_checked.ensures.scratch_left)
+    c.slot_checked.ensures.slot c.in_err-g.was c.slot_checked.ensures.scratch_left)
 
 pub list_tree-requires : goal.list_tree-requires
 list_tree-requires c =
     let a = c.args in
-    let b = begun a.image.now none (some a.scratch.now) none a.reel c.slot_checked.ensures.slot c.in_ok-reel.was in
+    let b = begun a.image.now none (some a.scratch.now) none a.reel c.slot_checked.ensures.slot c.in_ok-g.was in
     let p = b.read in
-    (p.checked.sized, filled_slot p b.inside, rw (rw c.in_ok-reel.was at c.slot_checked.ensures.scratch_left) p.checked.scratch_words)
+    (p.checked.sized, filled_slot p b.inside, rw (rw c.in_ok-g.was at c.slot_checked.ensures.scratch_left) p.checked.scratch_words)
 
 pub returns-in-Err-Malformed : goal.returns-in-Err-Malformed
 returns-in-Err-Malformed c pool ws =
     let a = c.args in
-    let b = begun a.image.now none (some a.scratch.now) none a.reel c.slot_checked.ensures.slot c.in_ok-reel.was in
+    let b = begun a.image.now none (some a.scratch.now) none a.reel c.slot_checked.ensures.slot c.in_ok-g.was in
     let p = b.read in
     let e = c.list_tree.ensures in
     rw (e.2, ← p.checked.scratch_words)
@@ -36,7 +36,7 @@ returns-in-Err-Malformed c pool ws =
 pub returns-in-Err-Short : goal.returns-in-Err-Short
 returns-in-Err-Short c pool ws =
     let a = c.args in
-    let b = begun a.image.now none (some a.scratch.now) none a.reel c.slot_checked.ensures.slot c.in_ok-reel.was in
+    let b = begun a.image.now none (some a.scratch.now) none a.reel c.slot_checked.ensures.slot c.in_ok-g.was in
     let p = b.read in
     let e = c.list_tree.ensures in
     rw (e.2, ← p.checked.scratch_words)
@@ -45,7 +45,7 @@ returns-in-Err-Short c pool ws =
 pub returns-in-Ok : goal.returns-in-Ok
 returns-in-Ok c pool ws =
     let a = c.args in
-    let b = begun a.image.now none (some a.scratch.now) none a.reel c.slot_checked.ensures.slot c.in_ok-reel.was in
+    let b = begun a.image.now none (some a.scratch.now) none a.reel c.slot_checked.ensures.slot c.in_ok-g.was in
     let p = b.read in
     let e = c.list_tree.ensures in
     rw (e.2, ← p.checked.scratch_words)

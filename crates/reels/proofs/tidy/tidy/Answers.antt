@@ -9,33 +9,33 @@ use Rattle.reels.proofs.SlotReads.{begun, begun_bad}
 use Rattle.reels.proofs.Tidying.{on_tidy, tree_bad, no_group, tidied}
 use Rattle.reels.proofs.tidy.tidy.Goals as goal
 
-pub returns-in_err-reel : goal.returns-in_err-reel
-returns-in_err-reel c ws e =
+pub returns-in_err-g : goal.returns-in_err-g
+returns-in_err-g c ws e =
     let a = c.args in
     let p = err_from_is_err_and c.from_residual.result c.from_residual.ensures.1 in
     rw (p.1, p.2)
     (begun_bad (on_tidy a.image.now a.pool.now ws a.scratch.now a.script.now a.reel) (buffers a.scratch.now a.script.now [])
-    c.slot_checked.ensures.slot c.in_err-reel.was c.slot_checked.ensures.scratch_left)
+    c.slot_checked.ensures.slot c.in_err-g.was c.slot_checked.ensures.scratch_left)
 
 pub returns-then-is_busy : goal.returns-then-is_busy
 returns-then-is_busy c ws e =
     let a = c.args in
-    let b = begun a.image.now (some a.pool.now) (some a.scratch.now) (some a.script.now) a.reel c.slot_checked.ensures.slot c.in_ok-reel.was in
+    let b = begun a.image.now (some a.pool.now) (some a.scratch.now) (some a.script.now) a.reel c.slot_checked.ensures.slot c.in_ok-g.was in
     let p = b.read in
-    rw (c.clear_map.ensures, rw c.in_ok-reel.was at c.slot_checked.ensures.scratch_left)
+    rw (c.clear_map.ensures, rw c.in_ok-g.was at c.slot_checked.ensures.scratch_left)
     (slot_busy (on_tidy a.image.now a.pool.now ws a.scratch.now a.script.now a.reel) p b.inside _ e (sym c.is_busy.ensures ∙ c.if-is_busy.true))
 
 pub sound_tree-requires : goal.sound_tree-requires
 sound_tree-requires c =
     let a = c.args in
-    let b = begun a.image.now (some a.pool.now) (some a.scratch.now) (some a.script.now) a.reel c.slot_checked.ensures.slot c.in_ok-reel.was in
+    let b = begun a.image.now (some a.pool.now) (some a.scratch.now) (some a.script.now) a.reel c.slot_checked.ensures.slot c.in_ok-g.was in
     let p = b.read in
-    (p.checked.sized, filled_slot p b.inside, rw (rw c.in_ok-reel.was at c.slot_checked.ensures.scratch_left) p.checked.scratch_words)
+    (p.checked.sized, filled_slot p b.inside, rw (rw c.in_ok-g.was at c.slot_checked.ensures.scratch_left) p.checked.scratch_words)
 
 pub returns-then-not-sound_tree : goal.returns-then-not-sound_tree
 returns-then-not-sound_tree c ws e =
     let a = c.args in
-    let b = begun a.image.now (some a.pool.now) (some a.scratch.now) (some a.script.now) a.reel c.slot_checked.ensures.slot c.in_ok-reel.was in
+    let b = begun a.image.now (some a.pool.now) (some a.scratch.now) (some a.script.now) a.reel c.slot_checked.ensures.slot c.in_ok-g.was in
     let p = b.read in
     let f = c.sound_tree.ensures in
     rw (f.1, ← p.checked.scratch_words)
@@ -44,14 +44,14 @@ returns-then-not-sound_tree c ws e =
 pub search_slot-requires : goal.search_slot-requires
 search_slot-requires c =
     let a = c.args in
-    let b = begun a.image.now (some a.pool.now) (some a.scratch.now) (some a.script.now) a.reel c.slot_checked.ensures.slot c.in_ok-reel.was in
+    let b = begun a.image.now (some a.pool.now) (some a.scratch.now) (some a.script.now) a.reel c.slot_checked.ensures.slot c.in_ok-g.was in
     let p = b.read in
     (p.checked.sized, filled_slot p b.inside, sym c.sound_tree.ensures.0 ∙ c.if-not-sound_tree.false)
 
 pub free_group-requires : goal.free_group-requires
 free_group-requires c =
     let a = c.args in
-    let b = begun a.image.now (some a.pool.now) (some a.scratch.now) (some a.script.now) a.reel c.slot_checked.ensures.slot c.in_ok-reel.was in
+    let b = begun a.image.now (some a.pool.now) (some a.scratch.now) (some a.script.now) a.reel c.slot_checked.ensures.slot c.in_ok-g.was in
     let p = b.read in
     let q = parent_found (filled_slot p b.inside) (sym c.sound_tree.ensures.0 ∙ c.if-not-sound_tree.false) c.search_slot.ensures c.in-Some.is in
     (p.checked.sized, q.inside, q.linked, q.children, search (rules, p.checked.map_words_lem))
@@ -59,7 +59,7 @@ free_group-requires c =
 pub node_at-requires : goal.node_at-requires
 node_at-requires c =
     let a = c.args in
-    let b = begun a.image.now (some a.pool.now) (some a.scratch.now) (some a.script.now) a.reel c.slot_checked.ensures.slot c.in_ok-reel.was in
+    let b = begun a.image.now (some a.pool.now) (some a.scratch.now) (some a.script.now) a.reel c.slot_checked.ensures.slot c.in_ok-g.was in
     let p = b.read in
     let q = parent_found (filled_slot p b.inside) (sym c.sound_tree.ensures.0 ∙ c.if-not-sound_tree.false) c.search_slot.ensures c.in-Some.is in
     (p.checked.sized.slots_limit, omega (arith, q.inside, p.checked.sized.nodes_limit))
@@ -67,14 +67,14 @@ node_at-requires c =
 pub put_fenced-requires : goal.put_fenced-requires
 put_fenced-requires c =
     let a = c.args in
-    let b = begun a.image.now (some a.pool.now) (some a.scratch.now) (some a.script.now) a.reel c.slot_checked.ensures.slot c.in_ok-reel.was in
+    let b = begun a.image.now (some a.pool.now) (some a.scratch.now) (some a.script.now) a.reel c.slot_checked.ensures.slot c.in_ok-g.was in
     let p = b.read in
     search (rules, p.checked.script_words)
 
 pub returns-in-None : goal.returns-in-None
 returns-in-None c ws e =
     let a = c.args in
-    let b = begun a.image.now (some a.pool.now) (some a.scratch.now) (some a.script.now) a.reel c.slot_checked.ensures.slot c.in_ok-reel.was in
+    let b = begun a.image.now (some a.pool.now) (some a.scratch.now) (some a.script.now) a.reel c.slot_checked.ensures.slot c.in_ok-g.was in
     let p = b.read in
     let f = c.sound_tree.ensures in
     rw (f.1, ← p.checked.scratch_words)
@@ -84,7 +84,7 @@ returns-in-None c ws e =
 pub returns-in-Some : goal.returns-in-Some
 returns-in-Some c ws e =
     let a = c.args in
-    let b = begun a.image.now (some a.pool.now) (some a.scratch.now) (some a.script.now) a.reel c.slot_checked.ensures.slot c.in_ok-reel.was in
+    let b = begun a.image.now (some a.pool.now) (some a.scratch.now) (some a.script.now) a.reel c.slot_checked.ensures.slot c.in_ok-g.was in
     let p = b.read in
     let f = c.sound_tree.ensures in
     rw (f.1, ← p.checked.scratch_words)

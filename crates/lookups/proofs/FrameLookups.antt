@@ -14,7 +14,7 @@ use Rattle.tree.specs.Fingerprint.{rule_of}
 use Rattle.tree.specs.Slots.{slot_of}
 use Rattle.tree.specs.Lookup.{path_from, find}
 use Rattle.tree.specs.Subtree.{listed}
-use Rattle.std.specs.Prelude.{Option as Optional, Some, None, Result, Ok, Err}
+use Rattle.std.specs.Prelude.{Option as Optional, Some, None, is_some as holds, Result, Ok, Err}
 use Rattle.paths.specs.declared.descent.Malformed.{Malformed}
 use Rattle.paths.specs.declared.descent.Found.{Found}
 use Rattle.paths.specs.Answers.{on_path, found_on, found_from}
@@ -65,6 +65,11 @@ module _ (g : Geometry) (m : Memory) (s f : ℕ) {x : Result Found Malformed} (e
   found_spot_lem : find (rule_of m) g m s f ≡ spot_in y
   found_spot_lem = rw (sym q ∙ e) (find_spot g m s f)
 
+-- whether it found one, of the code's place or the model's
+held : (z : Optional Spot) → holds z ≡ is_some (spot_of z)
+held None = refl
+held (Some t) = refl
+
 -- a place that it found is inside
 pub found_inside : (g : Geometry) (m : Memory) (s f : ℕ) {x : Result Found Malformed} → x ≡ found_from g m s f
     → {a : Found} {t : Spot} → x ≡ Ok a → a.found ≡ Some t
@@ -100,14 +105,14 @@ module _ (s : State) (reel f : ℕ) where
     has_malformed q =
         rest_bad on_has no_buffers p.slot_read p.present 4 (refused_here _ _ (path_test g (reads s.image) slot f p.answer q)) (omega arith)
 
-    pub has_said : {a : Found} {z : Optional Spot} → x ≡ Ok a → a.found ≡ z
-        → ended_path 0 (one_if (is_some (spot_of z))) a.nodes s no_buffers ≡ ends (query (has reel f)) s no_buffers
+    pub has_said : {a : Found} → x ≡ Ok a
+        → ended_path 0 (one_if (holds a.found)) a.nodes s no_buffers ≡ ends (query (has reel f)) s no_buffers
     unfolding granted listed scratch_after
-    has_said q w =
+    has_said {a = a} q =
         let m = reads s.image in
         let none = refused_later _ _ (path_test g m slot f p.answer q) ∙ passed_all [] tt in
         let read = p.slot_read in
-        rw (← w, ← found_spot_lem g m slot f p.answer q, ← path_length g m slot f p.answer q, read.slot_is, read.checked.geometry)
+        rw (held a.found, ← found_spot_lem g m slot f p.answer q, ← path_length g m slot f p.answer q, read.slot_is, read.checked.geometry)
         (sym (rest_done on_has no_buffers p.slot_read p.present none ∙ no_script (query (has reel f)) _ no_buffers refl))
 
 -- ---- Remove

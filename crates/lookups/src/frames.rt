@@ -41,11 +41,10 @@ pub fn has(image: &[u64], reel: u64, frame: u64) -> Result<Had, Refusal>
     let Ok(path) = find(image, g, slot, frame, fingerprint(image, frame)) else {
         return Err(Refusal::Malformed);
     };
-    let nodes = path.nodes;
-    match path.found {
-        None => Ok(Had { yes: false, nodes }),
-        Some(_) => Ok(Had { yes: true, nodes }),
-    }
+    Ok(Had {
+        yes: path.found.is_some(),
+        nodes: path.nodes,
+    })
 }
 
 // Remove's script: the set word without the place's bit, then the locate word without it.

@@ -1,4 +1,4 @@
-use Rattle.std.proofs.Common.{arith}
+use Rattle.std.proofs.Common.{arith, rules}
 use mathlib.Core.Option.{none}
 use Rattle.std.proofs.lemmas.Result.{err_from_is_err_and}
 use Rattle.operations.specs.Ends.{no_buffers, state}
@@ -35,10 +35,8 @@ pub returns-in_default : goal.returns-in_default
 returns-in_default c pool ws =
     has_malformed (state _ pool ws) _ _ (look (all_checked c.args.image.now none none none c.checks.ensures c.in_ok-g.was) c.slot_of-slot.ensures c.if-g-slot.false c.find.ensures) c.in_default.is
 
-pub returns-in-None : goal.returns-in-None
-returns-in-None c pool ws =
-    has_said (state _ pool ws) _ _ (look (all_checked c.args.image.now none none none c.checks.ensures c.in_ok-g.was) c.slot_of-slot.ensures c.if-g-slot.false c.find.ensures) c.in-Ok.is c.in-None.is
-
-pub returns-in-Some : goal.returns-in-Some
-returns-in-Some c pool ws =
-    has_said (state _ pool ws) _ _ (look (all_checked c.args.image.now none none none c.checks.ensures c.in_ok-g.was) c.slot_of-slot.ensures c.if-g-slot.false c.find.ensures) c.in-Ok.is c.in-Some.is
+pub returns : goal.returns
+returns c pool ws =
+    let s = state c.args.image.now pool ws in
+    let l = look (all_checked c.args.image.now none none none c.checks.ensures c.in_ok-g.was) c.slot_of-slot.ensures c.if-g-slot.false c.find.ensures in
+    search (rules, has_said s c.args.reel c.args.frame l c.in-Ok.is)

@@ -85,16 +85,9 @@ pub fn reelbook_claim(
         (state image.now map.old heads.old) (buffers [] script.old []) }
 {
     let claimed = claim::claim(image, map, read_heads(heads), script, head, reel, frame);
-    match claimed {
-        Ok(done) => {
-            *left = done.left;
-            hand_over_head(Ok(done.head), heads, head, used)
-        }
-        Err(why) => {
-            *left = 0;
-            hand_over_head(Err(why), heads, head, used)
-        }
-    }
+    *left = claimed.map_or(0, |done| done.left);
+    let answer = claimed.map(|done| done.head);
+    hand_over_head(answer, heads, head, used)
 }
 
 // Writes the script that puts the frame and its fingerprint in the claimed place.
@@ -178,16 +171,10 @@ pub fn reelbook_has(image: &[u64], reel: u64, frame: u64, yes: &mut u64, nodes: 
         → ended_path result yes.new nodes.new (state image.now pool heads) no_buffers
         ≡ ends (query (has reel frame)) (state image.now pool heads) no_buffers }
 {
-    match frames::has(image, reel, frame) {
-        Ok(had) => {
-            *nodes = had.nodes;
-            hand_over(Ok(u64::from(had.yes)), yes)
-        }
-        Err(why) => {
-            *nodes = 0;
-            hand_over(Err(why), yes)
-        }
-    }
+    let had = frames::has(image, reel, frame);
+    *nodes = had.map_or(0, |done| done.nodes);
+    let answer = had.map(|done| u64::from(done.yes));
+    hand_over(answer, yes)
 }
 
 // Lists a reel's frames.

@@ -54,8 +54,7 @@ fn nodes_for(room: Room) -> usize
     ensures { result ≡ needs room }
 {
     match room {
-        Room::Clear(_) => 0,
-        Room::ScaleUp { node: _, size: _ } => 0,
+        Room::Clear(_) | Room::ScaleUp { .. } => 0,
         Room::BranchOut { parent: _, depth } => fanout(depth),
     }
 }
@@ -145,12 +144,8 @@ fn locate_then(image: &[u64], g: Geometry, room: Room, node: usize) -> u64
     ensures { result ≡ locate_then g (reads image.now) room node }
 {
     match room {
-        Room::Clear(_) => word_of(image, g, node, LOCATE),
-        Room::ScaleUp { node: _, size: _ } => word_of(image, g, node, LOCATE),
-        Room::BranchOut {
-            parent: _,
-            depth: _,
-        } => 0,
+        Room::Clear(_) | Room::ScaleUp { .. } => word_of(image, g, node, LOCATE),
+        Room::BranchOut { .. } => 0,
     }
 }
 
@@ -191,13 +186,12 @@ pub struct ClaimDone {
     pub left: u64,
 }
 
-// The number of a claim that finds no room on its frame's path.
+// Why a claim is refused that finds no room on its frame's path.
 fn refusal_of(why: NoVacancy) -> Refusal
     ensures { result ≡ refusal_of why }
 {
     match why {
-        NoVacancy::Malformed => Refusal::Malformed,
-        NoVacancy::Full => Refusal::Malformed,
+        NoVacancy::Malformed | NoVacancy::Full => Refusal::Malformed,
         NoVacancy::Held => Refusal::FrameHeld,
     }
 }

@@ -1,4 +1,5 @@
-// Conversion: the image of the other edition, written into a second image part after part, from the first word to the last, each once.
+// Conversion: the image of the other edition, written into a second image part after part, from the first word to the last, each
+// once.
 ghost use Rattle.std.specs.Prelude.{◌≡◌, cond, ℕ, ◌+◌, ◌*◌, ◌≤◌, ◌<◌, length};
 ghost use Rattle.memory.specs.Words.{reads};
 ghost use Rattle.tree.specs.Layout.{Sized, geometry_of, node_at};

@@ -9,14 +9,19 @@ use lines::bytes::Bytes;
 // The most bytes that a printed line has: 23 of text, and three numbers of 20 digits.
 pub const PRINTED: usize = 83;
 
+// The most digits that a number has.
+const MOST_DIGITS: usize = 20;
+
 // Puts a text and the number behind it behind the bytes of a line.
 fn put_part(line: &mut Bytes<PRINTED>, text: &[u8], n: u64)
     requires { length line.old + length text.now + 20 ≤ 83 }
     ensures holds { line.new ≡ line.old ++ text.now ++ decimal n }
     ensures upper_bound { length line.new ≤ length line.old + length text.now + 20 }
 {
+    let mut digits = [0; MOST_DIGITS];
+    let count = put_decimal(&mut digits, n);
     line.append(text);
-    put_decimal(line, n);
+    line.append(&digits[..count]);
 }
 
 // The answer to a line: its number, how many stores its script had, and a value.

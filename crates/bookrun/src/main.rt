@@ -10,7 +10,7 @@ mod run;
 use errors::Failure;
 use in_memory::Book;
 use lines::bytes::Bytes;
-use lines::input::{KEPT, take_piece};
+use lines::input::{KEPT, take_line};
 use run::run_line;
 use std::io::Read;
 
@@ -48,7 +48,7 @@ fn run_piece(
     piece: &[u8],
 ) -> Result<(), Failure> {
     let mut rest = piece;
-    while let Some(behind) = take_piece(line, rest) {
+    while let Some(behind) = take_line(line, rest) {
         run_line(rt, book, line.as_slice())?;
         line.clear();
         rest = behind;

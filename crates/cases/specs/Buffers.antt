@@ -1,5 +1,5 @@
 -- The buffers' names: their numbers as values, and the words that stand for them.
-use Rattle.std.specs.Prelude.{◌≡◌, ℕ, ◌<◌, List, Result, IfOk, MatchResult, codes}
+use Rattle.std.specs.Prelude.{◌≡◌, ℕ, ◌<◌, List, [], ◌∷◌, None, Result, MatchResult, codes, bytes_eq, find}
 use Rattle.cases.specs.declared.buffers.Name.{Name}
 use Rattle.cases.specs.declared.buffers.Name.TheVariants.{Image, Map, Heads, Scratch, Script, List as ListBuffer, Table, Copy, Module}
 use Rattle.cases.specs.declared.outcome.Mistake.{Mistake}
@@ -30,6 +30,10 @@ word_of Module = codes "module"
 abbrev pub Numbered : ℕ → Result Name Mistake → Type 0
 Numbered n r = MatchResult r (λ name. number_of name ≡ n) (λ _. 8 < n)
 
--- the buffer that this text names
+-- the buffers, in the sequence of their numbers
+abbrev pub names : List Name
+names = Image ∷ Map ∷ Heads ∷ Scratch ∷ Script ∷ ListBuffer ∷ Table ∷ Copy ∷ Module ∷ []
+
+-- the buffer that this text names, or a mistake where it names none
 abbrev pub Spelled : List ℕ → Result Name Mistake → Type 0
-Spelled text r = IfOk r (λ name. word_of name ≡ text)
+Spelled text r = MatchResult r (λ name. word_of name ≡ text) (λ _. find (λ name. bytes_eq text (word_of name)) names ≡ None)

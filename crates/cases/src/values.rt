@@ -1,8 +1,10 @@
 // The values of a line.
-ghost use Rattle.std.specs.Prelude.{◌≤◌, IfOk, length};
+ghost use Rattle.std.specs.Prelude.{◌≡◌, ◌≤◌, IfOk, length};
+ghost use Rattle.cases.specs.Values.{number_behind, number, power, named, value_of};
 
 use crate::buffers::Name;
 use crate::outcome::Mistake;
+use lines::field::read_fields;
 use std::str::Split;
 
 // The most values that a line has.
@@ -26,24 +28,37 @@ pub fn read_values<'a>(
     Ok(&room[..count])
 }
 
-fn value_of(word: &str) -> Option<u64> {
+fn value_of(word: &str) -> Option<u64>
+    ensures { result ≡ value_of word.now }
+{
     number(word).or_else(|| power(word)).or_else(|| named(word))
 }
 
-// A decimal number: `parse` takes a sign and zeros in front too.
-fn number(word: &str) -> Option<u64> {
-    if word.starts_with('+') || (word.starts_with('0') && word.len() > 1) {
-        return None;
-    }
-    word.parse().ok()
+// A decimal number.
+fn number(word: &str) -> Option<u64>
+    ensures { result ≡ number word.now }
+{
+    number_behind(b"", word)
 }
 
-fn power(word: &str) -> Option<u64> {
-    let exponent = number(word.strip_prefix("2^")?)?;
+fn power(word: &str) -> Option<u64>
+    ensures { result ≡ power word.now }
+{
+    let exponent = number_behind(b"2^", word)?;
     1u64.checked_shl(u32::try_from(exponent).ok()?)
 }
 
-fn named(word: &str) -> Option<u64> {
+// The number behind a text, where the word has nothing else.
+fn number_behind(text: &[u8], word: &str) -> Option<u64>
+    ensures { result ≡ number_behind text.now word.now }
+{
+    let [number] = read_fields::<1>(word.as_bytes(), &[text])?;
+    Some(number)
+}
+
+fn named(word: &str) -> Option<u64>
+    ensures { result ≡ named word.now }
+{
     if word == "ones" {
         return Some(ONES);
     }

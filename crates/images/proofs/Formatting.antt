@@ -67,7 +67,7 @@ module _ (at word : ℕ → ℕ) where
 abbrev pub header_stores : Geometry → List Store
 header_stores g = (0, 2) ∷ (1, g.slots) ∷ (2, g.nodes) ∷ zeros (λ i. i) (range 3 61)
 
-header_first : (g : Geometry) (im : List ℕ)
+pub header_first : (g : Geometry) (im : List ℕ)
     → apply (set (set (set im 0 2) 1 g.slots) 2 g.nodes) (stores (zeros (λ i. i) (range 3 61))) ≡ apply im (stores (header_stores g))
 header_first g im =
     segment_laws.apply_stores (set (set (set im 0 2) 1 g.slots) 2 g.nodes) (zeros (λ i. i) (range 3 61))

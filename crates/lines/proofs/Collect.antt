@@ -6,15 +6,15 @@ use Prim.Native.Nat.{ℕ, zero, suc, ◌+◌, ◌≤◌, min}
 use native.Mathlib.Omega.{arith}
 use native.Mathlib.Numerals.{add-one}
 use native.Mathlib.Decide.{ℕ_discrete}
-use lib.ListN.{length, take, drop, length-take}
-use lib.Seq.{take_all, take-append-add, append_snoc}
+use lib.ListN.{length, take, drop, length-append, length-take, length-drop}
+use lib.Seq.{take_all, take-append-add, take-append_seam, append_snoc}
 use borrow.Author.Tests.{eq-eqb, ne_eqb}
 use denote.Ref.{Bor}
 use Rattle.std.specs.Prelude.{◌==◌, Option, Some, None, MatchOption, position}
 use Rattle.std.specs.List.{position_from}
 use Rattle.std.proofs.lemmas.List.{take_min}
 use Rattle.std.proofs.lemmas.Iterator.Adapters.{position_from-zero}
-use Rattle.lines.specs.Input.{cut, newline, up_to_newline, has_newline, used, Takes}
+use Rattle.lines.specs.Input.{cut, newline, up_to_newline, has_newline, used, Holds, TakesLine}
 
 -- ---- what is kept
 
@@ -45,6 +45,15 @@ unfolding cut
 keep_more xs bs n room h e =
     let all : length xs + room ≡ 81 = omega arith in
     rw (e, take_min room bs) (sym (take-append-add xs bs room) ∙ ap (λ m. take m (xs ++ bs)) all)
+
+-- ---- a buffer that holds bytes
+
+module _ (old bytes buffer : List ℕ) (count : ℕ) (w : Holds old bytes buffer count) where
+  pub held_bytes : take count buffer ≡ bytes
+  held_bytes = rw (w.same, w.counted) (take-append_seam bytes (drop (length bytes) old))
+
+  pub holds_length : count ≤ length old → length buffer ≡ length old
+  holds_length h = rw (w.same, length-append, length-drop) (omega (arith, w.counted))
 
 -- ---- what the next byte tells
 
@@ -95,9 +104,9 @@ newline_at bs r e = go r (rw (e, position_from-zero (λ b. b == newline) bs) (ne
 
 -- ---- what the code takes
 
-pub takes_all : (piece old line : List ℕ) → Left piece piece false (length piece) → line ≡ cut (old ++ piece) → Takes piece old None line
+pub takes_all : (piece old line : List ℕ) → Left piece piece false (length piece) → line ≡ cut (old ++ piece) → TakesLine piece old None line
 takes_all piece old line l e = record { holds = rw (l.0) e; goes_on = l.1 }
 
 pub takes_some : (piece old line : List ℕ) (n : ℕ) (rest : Bor (List ℕ)) → Left piece (take n piece) true (n + 1) → line ≡ cut (old ++ take n piece)
-    → rest.now ≡ drop (n + 1) piece → Takes piece old (Some rest) line
+    → rest.now ≡ drop (n + 1) piece → TakesLine piece old (Some rest) line
 takes_some piece old line n rest l e f = record { holds = rw (l.0) e; goes_on = (l.1, rw (l.2) f) }

@@ -1,11 +1,12 @@
 -- Numbers in decimal: one digit, more digits, and how many.
-use mathlib.Core.Path.{◌≡◌, sym, ◌∙◌, ap}
-use mathlib.Core.List.{[], ◌∷◌, ◌++◌}
+use mathlib.Core.Path.{◌≡◌, refl, sym, ◌∙◌, ap}
+use mathlib.Core.List.{List, [], ◌∷◌, ◌++◌}
 use Prim.Native.Nat.{ℕ, zero, suc, ◌+◌, ◌/◌, ◌%◌, ◌^◌, ◌≤◌, ◌<◌}
 use native.Mathlib.Nat.{pow-suc}
 use native.Mathlib.Omega.{arith}
 use native.Mathlib.Decide.{dec_lt}
-use lib.ListN.{length, length-append}
+use lib.ListN.{length, get_or, drop, set, length-append}
+use lib.Seq.{append_snoc, drop-cons, set_at, set_split}
 use borrow.Author.Tests.{lt-ltb, le-ltb}
 use Rattle.lines.specs.Decimal.{digits, decimal}
 use Rattle.lines.specs.Laws.{DecimalLaws}
@@ -50,9 +51,24 @@ at_most (suc (suc k)) n p h =
 at_most_20 : (n : ℕ) → n < 2 ^ 64 → length (decimal n) ≤ 20
 at_most_20 n h = at_most 20 n (omega arith) (omega arith)
 
+-- ---- digits written at the start of a buffer
+
 -- a number of 64 bits has at most 20 digits, so without its last at most 19
 pub one_less : (n : ℕ) → n < 2 ^ 64 → length (decimal (n / 10)) < 20
 one_less n h = let s = at_most 19 (n / 10) (omega arith) (omega arith) in omega arith
+
+pub put_one : (n : ℕ) (buffer : List ℕ) → n < 10 → 0 < length buffer
+    → (set buffer 0 (48 + n) ≡ decimal n ++ drop (length (decimal n)) buffer) × (1 ≡ length (decimal n))
+put_one n buffer h r = rw (one_digit n h) (set_split buffer 0 (48 + n) r, refl)
+
+pub put_more : (n k : ℕ) (buffer now : List ℕ) → 10 ≤ n → k < length buffer → now ≡ decimal (n / 10) ++ drop (length (decimal (n / 10))) buffer
+    → k ≡ length (decimal (n / 10)) → (set now k (48 + n % 10) ≡ decimal n ++ drop (length (decimal n)) buffer) × (k + 1 ≡ length (decimal n))
+put_more n k buffer now h r e q =
+    let len : length (decimal n) ≡ suc k = rw (more_digits n h, length-append, ← q) (omega arith) in
+    let left = drop (suc k) buffer in
+    let a = 48 + n % 10 in
+    let done = ap (λ ds. ds ++ left) (more_digits n h) ∙ append_snoc (decimal (n / 10)) a left in
+    (rw (len, e, ← q, drop-cons buffer k 0 r) (set_at (decimal (n / 10)) (get_or buffer k 0) left a k (sym q) ∙ sym done), rw len (omega arith))
 
 pub decimal_laws : DecimalLaws
 decimal_laws = record { one_digit = one_digit; more_digits = more_digits; at_most = at_most; at_most_20 = at_most_20 }

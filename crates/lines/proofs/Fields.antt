@@ -58,10 +58,14 @@ unfolding read_on read_as
 on_ended [] l i ns h = let none : length ns ≤ i = omega arith in rw (drop_of_length-le ns none) refl
 on_ended (t ∷ ts) f i ns h = rw (drop-cons ns i 0 (omega arith), ← add-one i) (on_ended ts (f (get_or ns i 0)) (i + 1) ns (omega arith))
 
+pub more_left : (line : List ℕ) (next : ℕ) (l : Line) → next < length line → read_as [] l (drop next line) ≡ None
+unfolding read_as
+more_left line next l h = rw (drop-cons line next 0 h)
+
 on_more : (texts : List (List ℕ)) (f : Awaits texts) (ns bs : List ℕ) → length ns ≡ length texts → 0 < length bs → read_on texts f ns bs ≡ None
 unfolding read_on read_as
 on_more texts f ns [] h g = absurd (omega arith)
-on_more [] f [] (b ∷ bs) h g = refl
+on_more [] f [] (b ∷ bs) h g = more_left (b ∷ bs) 0 f g
 on_more [] f (n ∷ ns) (b ∷ bs) h g = refl
 on_more (t ∷ ts) f [] (b ∷ bs) h g = absurd (omega arith)
 on_more (t ∷ ts) f (n ∷ ns) (b ∷ bs) h g = on_more ts (f n) ns (b ∷ bs) (omega arith) g
@@ -92,7 +96,7 @@ all_found texts f numbers (b ∷ rest) i e h = rw (take_all i numbers h, eqb-suc
 -- ---- kinds in turn
 
 module _ (k : Kind) (ks : List Kind) (bs : List ℕ) where
-  not_this : read_as k.texts k.line bs ≡ None → read_first (k ∷ ks) bs ≡ read_first ks bs
+  pub not_this : read_as k.texts k.line bs ≡ None → read_first (k ∷ ks) bs ≡ read_first ks bs
   unfolding read_first
   not_this e = rw e
 
@@ -113,7 +117,7 @@ pub too_long : (bs : List ℕ) → longest < length bs → line_of bs ≡ None
 unfolding line_of
 too_long bs h = rw (lt-ltb longest (length bs) h)
 
-not_too_long : (bs : List ℕ) → length bs ≤ longest → line_of bs ≡ read_first kinds bs
+pub not_too_long : (bs : List ℕ) → length bs ≤ longest → line_of bs ≡ read_first kinds bs
 unfolding line_of
 not_too_long bs h = rw (le-ltb longest (length bs) h)
 

@@ -6,15 +6,16 @@ use Prim.Native.Nat.{ℕ, suc, ◌-◌, ◌≤◌, ◌<◌}
 use native.Mathlib.Omega.{arith}
 use native.Mathlib.Decide.{dec_le, ℕ_discrete}
 use lib.ListN.{length, take, drop, length-drop}
-use lib.Seq.{append_snoc, take-append_seam}
+use lib.Seq.{append_snoc}
 use borrow.Author.Tests.{eq-eqb, ne_eqb}
 use denote.Ref.{Bor}
 use Rattle.std.specs.Prelude.{cond, eqb, Option, Some, None, MatchOption, IfSome}
 use Rattle.lines.specs.Reading.{longest, line_of}
-use Rattle.lines.specs.Input.{newline, in_front, lines_of, cut, Collected, nothing_yet, line_ended, with_bytes, taken, taken_all, last_line, all_lines, up_to_newline, has_newline, used, Holds, Takes}
+use Rattle.lines.specs.Input.{newline, in_front, lines_of, cut, Collected, nothing_yet, line_ended, with_bytes, taken, taken_all, last_line, all_lines, up_to_newline, has_newline, used, Holds, Takes, TakesLine}
+use Rattle.lines.specs.declared.input.Taken.{Taken}
 use Rattle.lines.specs.Laws.{InputLaws, PieceLaws}
 use Rattle.lines.proofs.Fields.{too_long}
-use Rattle.lines.proofs.Collect.{cut_again, cut_more, cut_all, cut_length, left_nothing, left_newline, left_byte}
+use Rattle.lines.proofs.Collect.{cut_again, cut_more, cut_all, cut_length, held_bytes, holds_length, left_nothing, left_newline, left_byte}
 
 -- ---- the lines of an input
 
@@ -186,9 +187,19 @@ used_all : (bs : List ℕ) → has_newline bs ≡ false → used bs ≡ length b
 used_all [] e = left_nothing.2
 used_all (b ∷ bs) e = (left_byte b bs (first_other b bs e)).2 ∙ ap suc (used_all bs (rest_without b bs e))
 
-goes_on : (piece old : List ℕ) (rest : Option (Bor (List ℕ))) (line : List ℕ) → Takes piece old rest line
+goes_on : (piece : List ℕ) (at : ℕ) (old : List ℕ) (held : ℕ) (r : Taken) (buffer : List ℕ)
+    → at ≤ length piece → suc longest ≤ length old → Takes piece at old held r buffer
+    → (r.next ≤ length piece) × (at < length piece → at < r.next) × (r.count ≤ suc longest) × (length buffer ≡ length old)
+goes_on piece at old held r buffer i n w =
+    let bs = drop at piece in
+    let l = length-drop at piece in
+    let kept = cut (take held old ++ up_to_newline bs) in
+    let k : r.count ≤ 81 = omega (arith, w.holds.counted, kept_length (take held old ++ up_to_newline bs)) in
+    (omega (arith, w.goes_on, used_inside bs), λ h. omega (arith, w.goes_on, used_some bs (omega arith)), k, holds_length old kept buffer r.count w.holds (omega arith))
+
+line_goes_on : (piece old : List ℕ) (rest : Option (Bor (List ℕ))) (line : List ℕ) → TakesLine piece old rest line
     → IfSome rest (λ r. length r.now < length piece) × (length line ≤ suc longest)
-goes_on piece old rest line w = (shorter rest w.goes_on, rw w.holds (kept_length (old ++ up_to_newline piece)))
+line_goes_on piece old rest line w = (shorter rest w.goes_on, rw w.holds (kept_length (old ++ up_to_newline piece)))
   where
     shorter : (rest : Option (Bor (List ℕ)))
         → MatchOption rest (has_newline piece ≡ false) (λ r. (has_newline piece ≡ true) × (r.now ≡ drop (used piece) piece))
@@ -196,8 +207,26 @@ goes_on piece old rest line w = (shorter rest w.goes_on, rw w.holds (kept_length
     shorter None w = tt
     shorter (Some r) w = rw (w.1, length-drop (used piece) piece) (used_less piece w.0)
 
-held_bytes : (old bytes buffer : List ℕ) (count : ℕ) → Holds old bytes buffer count → take count buffer ≡ bytes
-held_bytes old bytes buffer count w = rw (w.same, w.counted) (take-append_seam bytes (drop (length bytes) old))
+-- ---- a line in a buffer
+
+-- taken from a place of a piece on, it stands at the start of the buffer that had the bytes before it
+module _ (piece old line : List ℕ) (at held : ℕ) (h : at ≤ length piece) where
+  in_buffer : (rest : Option (Bor (List ℕ))) → TakesLine (drop at piece) (take held old) rest line
+      → Holds old (cut (take held old ++ up_to_newline (drop at piece))) (line ++ drop (length line) old) (length line)
+  in_buffer rest w = rw w.holds (record { same = refl; counted = refl })
+
+  pub takes_to_newline : (rest : Bor (List ℕ)) → TakesLine (drop at piece) (take held old) (Some rest) line
+      → Takes piece at old held (record { count = length line; next = length piece - length rest.now; ended = true }) (line ++ drop (length line) old)
+  takes_to_newline rest w =
+      let bs = drop at piece in
+      let l : length rest.now ≡ length bs - used bs = rw (w.goes_on.1, length-drop (used bs) bs) refl in
+      record { holds = in_buffer (Some rest) w; has_ended = sym w.goes_on.0; goes_on = omega (arith, l, length-drop at piece, used_inside bs) }
+
+  pub takes_to_end : TakesLine (drop at piece) (take held old) None line
+      → Takes piece at old held (record { count = length line; next = length piece; ended = false }) (line ++ drop (length line) old)
+  takes_to_end w =
+      let bs = drop at piece in
+      record { holds = in_buffer None w; has_ended = sym w.goes_on; goes_on = omega (arith, length-drop at piece, used_all bs w.goes_on) }
 
 pub piece_laws : PieceLaws
 piece_laws = record {
@@ -213,4 +242,5 @@ piece_laws = record {
   held_bytes = held_bytes;
   kept_length = kept_length;
   goes_on = goes_on;
+  line_goes_on = line_goes_on;
 }

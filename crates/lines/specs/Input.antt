@@ -1,7 +1,8 @@
 -- Lines of an input: all of them at once, and collected from its pieces.
-use Rattle.std.specs.Prelude.{◌≡◌, Bool, true, false, cond, ◌||◌, List, [], ◌∷◌, ◌++◌, ℕ, suc, length, take, drop, eqb, Option, MatchOption}
+use Rattle.std.specs.Prelude.{◌≡◌, Bool, true, false, cond, ◌||◌, List, [], ◌∷◌, ◌++◌, ℕ, suc, ◌+◌, length, take, drop, eqb, Option, MatchOption}
 use denote.Ref.{Bor}
 use Rattle.lines.specs.Reading.{longest}
+use Rattle.lines.specs.declared.input.Taken.{Taken}
 
 abbrev pub newline : ℕ
 newline = 10
@@ -79,8 +80,14 @@ pub record Holds (old bytes buffer : List ℕ) (count : ℕ) : Type 0 where
   pub same : buffer ≡ bytes ++ drop (length bytes) old
   pub counted : count ≡ length bytes
 
+-- the code took from a piece of input, at a place, what is left of a line, into a buffer that had the bytes before it
+pub record Takes (piece : List ℕ) (at : ℕ) (old : List ℕ) (held : ℕ) (r : Taken) (buffer : List ℕ) : Type 0 where
+  pub holds : Holds old (cut (take held old ++ up_to_newline (drop at piece))) buffer r.count
+  pub has_ended : r.ended ≡ has_newline (drop at piece)
+  pub goes_on : r.next ≡ at + used (drop at piece)
+
 -- the code took from a piece of input what is left of a line, behind the bytes before it: up to a newline, and the bytes behind that are
 -- handed back, or all of the piece
-pub record Takes (piece old : List ℕ) (rest : Option (Bor (List ℕ))) (line : List ℕ) : Type 0 where
+pub record TakesLine (piece old : List ℕ) (rest : Option (Bor (List ℕ))) (line : List ℕ) : Type 0 where
   pub holds : line ≡ cut (old ++ up_to_newline piece)
   pub goes_on : MatchOption rest (has_newline piece ≡ false) (λ r. (has_newline piece ≡ true) × (r.now ≡ drop (used piece) piece))

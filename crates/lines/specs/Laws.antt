@@ -5,7 +5,8 @@ use mathlib.Core.List.{List, [], ◌∷◌, ◌++◌, map, flatten}
 use Rattle.lines.specs.Decimal.{decimal}
 use Rattle.lines.specs.Line.{shown, Fits}
 use Rattle.lines.specs.Reading.{longest, line_of}
-use Rattle.lines.specs.Input.{newline, lines_of, cut, Collected, nothing_yet, line_ended, with_bytes, taken, taken_all, all_lines, up_to_newline, has_newline, used, Holds, Takes}
+use Rattle.lines.specs.Input.{newline, lines_of, cut, Collected, nothing_yet, line_ended, with_bytes, taken, taken_all, all_lines, up_to_newline, has_newline, used, Holds, Takes, TakesLine}
+use Rattle.lines.specs.declared.input.Taken.{Taken}
 use Rattle.lines.specs.declared.line.Line.{Line}
 
 -- ---- numbers
@@ -49,6 +50,10 @@ pub record PieceLaws : Type 0 where
   -- the bytes that a buffer holds, as many as are counted
   pub held_bytes : (old bytes buffer : List ℕ) (count : ℕ) → Holds old bytes buffer count → take count buffer ≡ bytes
   pub kept_length : (l : List ℕ) → length (cut l) ≤ suc longest
-  -- a call of the code goes on in the piece, and the line keeps inside its buffer
-  pub goes_on : (piece old : List ℕ) (rest : Option (Bor (List ℕ))) (line : List ℕ) → Takes piece old rest line
+  -- a call of the code goes on in the piece, stays inside it and inside the buffer
+  pub goes_on : (piece : List ℕ) (at : ℕ) (old : List ℕ) (held : ℕ) (r : Taken) (buffer : List ℕ)
+      → at ≤ length piece → suc longest ≤ length old → Takes piece at old held r buffer
+      → (r.next ≤ length piece) × (at < length piece → at < r.next) × (r.count ≤ suc longest) × (length buffer ≡ length old)
+  -- so does one that lends the bytes behind the newline, and the line keeps inside its room
+  pub line_goes_on : (piece old : List ℕ) (rest : Option (Bor (List ℕ))) (line : List ℕ) → TakesLine piece old rest line
       → IfSome rest (λ r. length r.now < length piece) × (length line ≤ suc longest)

@@ -7,7 +7,8 @@ use mathlib.Core.List.{List, [], ◌∷◌}
 use Prim.Native.Nat.{ℕ, zero, suc, ◌+◌, ◌%◌, ◌^◌, ◌≤◌, ◌<◌}
 use native.Mathlib.Omega.{arith}
 use native.Mathlib.Decide.{dec_lt, ℕ_discrete}
-use lib.ListN.{length, get_or, set, length-set}
+use lib.ListN.{length, get_or, drop, set, length-set}
+use lib.Seq.{drop-cons}
 use lib.Dec.{eqb, ltb}
 use borrow.Author.Tests.{eq-eqb, ne_eqb, lt-ltb, le-ltb}
 use Rattle.std.specs.Prelude.{All, Any, count_by}
@@ -146,10 +147,23 @@ made_last m (i ∷ v ∷ ws) h = absurd (omega arith)
 
 -- ---- the count
 
--- a store, where the first word is below the two marks
-stored : (i rest : ℕ) → i < 2 ^ 64 → cond (ltb i flush_word) 1 0 + rest ≡ cond (eqb i barrier_word) rest (cond (eqb i flush_word) rest (1 + rest))
-stored i rest u = elim (dec_lt i flush_word) [
-  | yes l ↦ rw (lt-ltb i flush_word l, ne_eqb i barrier_word (λ q. omega arith), ne_eqb i flush_word (λ q. omega arith)) refl
+count_step : (at : ℕ) (ws : List ℕ) → at + 1 < length ws
+    → let rest = stores_in (drop (at + 2) ws) in
+    stores_in (drop at ws) ≡ cond (eqb (get_or ws at 0) barrier_word) rest (cond (eqb (get_or ws at 0) flush_word) rest (1 + rest))
+unfolding stores_in
+count_step at ws h =
+    let two : at + 2 ≡ suc (suc at) = omega arith in
+    rw (two, drop-cons ws at 0 (omega arith), drop-cons ws (suc at) 0 (omega arith)) refl
+
+-- an entry is a store, where its first word is below the two marks
+pub count_store : (at : ℕ) (ws : List ℕ) → at + 1 < length ws → get_or ws at 0 < flush_word → stores_in (drop at ws) ≡ 1 + stores_in (drop (at + 2) ws)
+count_store at ws h b =
+    count_step at ws h ∙ rw (ne_eqb (get_or ws at 0) barrier_word (λ q. omega arith), ne_eqb (get_or ws at 0) flush_word (λ q. omega arith)) refl
+
+stored : (i v : ℕ) (ws : List ℕ) → i < 2 ^ 64 → cond (ltb i flush_word) 1 0 + stores_in ws ≡ stores_in (i ∷ v ∷ ws)
+unfolding stores_in
+stored i v ws u = elim (dec_lt i flush_word) [
+  | yes l ↦ rw (lt-ltb i flush_word l) (sym (count_store 0 (i ∷ v ∷ ws) (omega arith) l))
   | no g ↦ elim (ℕ_discrete i barrier_word) [
     | yes q ↦ rw (le-ltb i flush_word (omega arith), eq-eqb i barrier_word q) (omega arith)
     | no q ↦ rw (le-ltb i flush_word (omega arith), ne_eqb i barrier_word q, eq-eqb i flush_word (omega arith)) (omega arith)
@@ -164,7 +178,7 @@ unfolding stores_in
 count_pairs none u = refl
 count_pairs half u = refl
 count_pairs (pair {i = i} {v = v} {ws = ws} {ps = ps} p) u =
-    sum_by-cons (λ (w : List ℕ). cond (stores_word w) 1 0) (i ∷ v ∷ []) ps ∙ rw (count_pairs p (λ k. u (suc (suc k)))) (stored i (stores_in ws) (u 0))
+    sum_by-cons (λ (w : List ℕ). cond (stores_word w) 1 0) (i ∷ v ∷ []) ps ∙ rw (count_pairs p (λ k. u (suc (suc k)))) (stored i v ws (u 0))
 
 -- ---- both passes
 

@@ -80,12 +80,12 @@ lowest_clear w h =
 
 -- below n it is the search's answer; from n on there is none below n, and n is
 module _ (w n : ℕ) (h : w < 2 ^ 64) (l : n ≤ 64) where
-  clear_below : count_trailing_zeros 64 (2 ^ 64 - 1 - w) < n → count_trailing_zeros 64 (2 ^ 64 - 1 - w) ≡ first (clear_in w) n
+  pub clear_below : count_trailing_zeros 64 (2 ^ 64 - 1 - w) < n → count_trailing_zeros 64 (2 ^ 64 - 1 - w) ≡ first (clear_in w) n
   clear_below u =
       let s = first_laws (clear_in w) 64 in
       rw (lowest_clear w h) ((first_laws (clear_in w) n).stops (first (clear_in w) 64) (omega (arith, lowest_clear w h)) s.none_before (λ v. s.holds (omega arith)))
 
-  clear_none : n ≤ count_trailing_zeros 64 (2 ^ 64 - 1 - w) → n ≡ first (clear_in w) n
+  pub clear_none : n ≤ count_trailing_zeros 64 (2 ^ 64 - 1 - w) → n ≡ first (clear_in w) n
   clear_none u =
       let s = first_laws (clear_in w) 64 in
       (first_laws (clear_in w) n).stops n (omega arith) (λ k v. s.none_before k (omega (arith, lowest_clear w h))) (λ v. absurd (omega arith))

@@ -8,7 +8,8 @@ pub fn lowest_clear(w: u64, n: u32) -> u32
     requires { n ≤ 64 }
     ensures { result ≡ first (λ (k : ℕ). not (is_set w k)) n }
 {
-    u32::min(w.trailing_ones(), n)
+    let clear = u64::trailing_zeros(!w);
+    u32::min(clear, n)
 }
 
 // The lowest clear bit below n of a bitmap, or n: a step for each word. The last word may have one past n, whose number does not

@@ -1,17 +1,16 @@
 -- What the loops over the pool map ask: marks made or taken away in turn, runs found and passed over, used nodes found.
 use mathlib.Core.Path.{◌≡◌, refl, sym, ap, ◌∙◌}
-use mathlib.Core.Bool.{true, false, not}
+use mathlib.Core.Bool.{true, false}
 use mathlib.Core.Logic.{inl, inr, ◌≢◌}
 use mathlib.Core.List.{List, [], ◌∷◌}
-use Rattle.std.specs.List.{list_all, range_with_len}
-use Rattle.std.specs.Prelude.{min, ◌↔◌}
+use Rattle.std.specs.Prelude.{min}
 use Rattle.std.specs.Ordering.{ord_min, nat_cmp}
 use Rattle.std.proofs.lemmas.Grind.{common_steps}
 use Prim.Native.Nat.{ℕ, zero, suc, ◌+◌, ◌-◌, ◌*◌, ◌/◌, ◌%◌, ◌^◌, ◌≤◌, ◌<◌}
 use native.Mathlib.Omega.{arith}
 use native.Mathlib.Decide.{dec_lt}
 use lib.Count.{count_trailing_zeros, trailing_le}
-use borrow.Author.Tests.{not-false as is_true, not-true}
+use borrow.Author.Tests.{not-false as is_true}
 use Rattle.memory.specs.Words.{Memory, reads, is_set, marked}
 use Rattle.memory.specs.Search.{first}
 use Rattle.memory.specs.Laws.{NoneBelow}
@@ -21,7 +20,7 @@ use Rattle.tree.specs.Lists.{range}
 use Rattle.tree.specs.Lookup.{is_free_run, free_run}
 use Rattle.tree.specs.Pool.{used, next_used, mark, unmark, mark_all, unmark_all}
 use Rattle.tree.specs.PoolLaws.{NoneUsed}
-use Rattle.tree.proofs.Cases.{test, true_not_false, not-false, same_test, and-true, true_and}
+use Rattle.tree.proofs.Cases.{test, true_not_false, not-false}
 use Rattle.tree.proofs.Pool.{pool_laws}
 use Rattle.tree.proofs.Runs.{run_laws}
 use Rattle.tree.proofs.Bits.{high_of, high_kept, low_cleared}
@@ -84,30 +83,15 @@ module _ (g : Geometry) (m : Memory) (k : ℕ) where
         run_used j 0 o (rw (q, full) (full_bit ((j + 0) % 64) (omega arith)))
   ]
 
-  -- what the test of a run computes
-  all_free : (s n : ℕ) → (list_all (λ j. not (marked m j)) (range_with_len s n) ≡ true) ↔ ((i : ℕ) → i < n → marked m (s + i) ≡ false)
-  all_free s zero = (λ e i l. absurd (omega arith), λ h. refl)
-  all_free s (suc n) = (
-    λ e i l. let t = and-true (not (marked m s)) _ e in elim (dec_lt i 1) [
-      | yes z ↦ let q : s + i ≡ s = omega arith in ap (marked m) q ∙ not-true (marked m s) t.0
-      | no z ↦ let q : s + i ≡ s + 1 + (i - 1) = omega arith in ap (marked m) q ∙ (all_free (s + 1) n).0 t.1 (i - 1) (omega arith)
-    ],
-    λ h.
-        let here : marked m s ≡ false = ap (marked m) (omega arith) ∙ h 0 (omega arith) in
-        true_and (rw here refl) ((all_free (s + 1) n).1 (λ i l. let q : s + 1 + i ≡ s + (i + 1) = omega arith in ap (marked m) q ∙ h (i + 1) (omega arith))),
-  )
-
-  pub run_tested : (s : ℕ) → s + k ≤ g.nodes → list_all (λ j. not (marked m j)) (range_with_len s k) ≡ is_free_run g m k s
-  run_tested s l = same_test (
-    λ e. ((run_laws g m k).free s).1 (record { inside = l; free = (all_free s k).0 e }),
-    λ e. (all_free s k).1 (((run_laws g m k).free s).0 e).free,
-  )
-
   -- the search ends at s: with a run, or where none can end inside the pool
-  pub run_found : (s : ℕ) → 0 < k → NoneBelow (is_free_run g m k) s → is_free_run g m k s ≡ true → s ≡ free_run g m k
+  pub run_found : (s : ℕ) → s + k ≤ g.nodes → NoneBelow (is_free_run g m k) s → ((i : ℕ) → i < k → marked m (s + i) ≡ false) → s ≡ free_run g m k
   unfolding free_run
-  run_found s o below e =
-      (first_laws (is_free_run g m k) g.nodes).stops s (omega (arith, (((run_laws g m k).free s).0 e).inside)) below (λ b. e)
+  run_found s l below free =
+      (first_laws (is_free_run g m k) g.nodes).stops s (omega arith) below (λ b. ((run_laws g m k).free s).1 (record { inside = l; free = free }))
+
+  -- past starts from which no run would end inside the pool
+  pub none_outside : (s e : ℕ) → g.nodes < s + k → NoneBelow (is_free_run g m k) s → NoneBelow (is_free_run g m k) e
+  none_outside s e l below j b = elim (dec_lt j s) [ yes h ↦ below j h | no h ↦ run_outside j (omega arith) ]
 
   pub run_missing : (s : ℕ) → g.nodes < s + k → NoneBelow (is_free_run g m k) s → g.nodes ≡ free_run g m k
   unfolding free_run
@@ -160,17 +144,29 @@ passed_all {pool} {from} {i} bound t l h =
 lesser : (a b : ℕ) → ord_min nat_cmp a b ≡ min a b
 lesser a b = grind (arith, common_steps)
 
-module _ {pool : List ℕ} {from i below : ℕ} (t : Passed pool from i) (fits : reads pool i < 2 ^ 64) (is : below ≡ from - 64 * i) where
-  abbrev rest : ℕ
-  rest = high_of (reads pool i) below
+-- at word i: below it no node from `from` on is used, and of its bits those of nodes from there on are left
+pub record Searched (pool : List ℕ) (from i rest : ℕ) : Type 0 where
+  pub onward : from < 64 * i + 64
+  pub none : (k : ℕ) → from ≤ k → k < 64 * i → used pool k ≡ false
+  pub fits : rest < 2 ^ 64
+  pub ahead : (j : ℕ) → j < 64 → from ≤ 64 * i + j → is_set rest j ≡ used pool (64 * i + j)
+  pub behind : (j : ℕ) → 64 * i + j < from → is_set rest j ≡ false
 
-  -- of the word's bits those of nodes from `from` on are left
-  ahead : (j : ℕ) → j < 64 → from ≤ 64 * i + j → is_set rest j ≡ used pool (64 * i + j)
-  ahead j b l = high_kept (reads pool i) below fits j (omega arith) ∙ in_word pool i j b
+pub searched : {pool : List ℕ} {from i below : ℕ} → Passed pool from i → reads pool i < 2 ^ 64 → below ≡ from - 64 * i
+    → Searched pool from i (high_of (reads pool i) below)
+searched {pool} {from} {i} {below} t h is = record {
+  onward = t.onward;
+  none = t.none;
+  fits = omega arith;
+  ahead = λ j b l. high_kept (reads pool i) below h j (omega arith) ∙ in_word pool i j b;
+  behind = λ j l. low_cleared (reads pool i) below h j (omega arith);
+}
 
-  behind : (j : ℕ) → 64 * i + j < from → is_set rest j ≡ false
-  behind j l = low_cleared (reads pool i) below fits j (omega arith)
+pub search_starts : (pool : List ℕ) (from : ℕ) → reads pool (from / 64) < 2 ^ 64
+    → Searched pool from (from / 64) (high_of (reads pool (from / 64)) (from % 64))
+search_starts pool from h = searched (passed_none pool from) h (omega arith)
 
+module _ {pool : List ℕ} {from i rest : ℕ} (t : Searched pool from i rest) where
   -- no bit of the word below the lowest that is left
   none_onto : (n : ℕ) → from ≤ 64 * i + n → n ≤ 64 → NoneBelow (is_set rest) n → NoneUsed pool from (64 * i + n)
   none_onto n l h clear = record {
@@ -179,7 +175,7 @@ module _ {pool : List ℕ} {from i below : ℕ} (t : Passed pool from i) (fits :
       | yes u ↦ t.none k a u
       | no u ↦
           let q : k ≡ 64 * i + (k - 64 * i) = omega arith in
-          ap (used pool) q ∙ sym (ahead (k - 64 * i) (omega arith) (omega arith)) ∙ clear (k - 64 * i) (omega arith)
+          ap (used pool) q ∙ sym (t.ahead (k - 64 * i) (omega arith) (omega arith)) ∙ clear (k - 64 * i) (omega arith)
     ];
   }
 
@@ -194,11 +190,8 @@ module _ {pool : List ℕ} {from i below : ℕ} (t : Passed pool from i) (fits :
     abbrev low : ℕ
     low = count_trailing_zeros 64 rest
 
-    small : rest < 2 ^ 64
-    small = omega arith
-
     low_onward : from ≤ 64 * i + low
-    low_onward = elim (dec_lt (64 * i + low) from) [ yes l ↦ absurd (true_not_false (lowest_set rest o small) (behind low l)) | no l ↦ omega arith ]
+    low_onward = elim (dec_lt (64 * i + low) from) [ yes l ↦ absurd (true_not_false (lowest_set rest o t.fits) (t.behind low l)) | no l ↦ omega arith ]
 
     none_low : NoneUsed pool from (64 * i + low)
     none_low = none_onto low low_onward (trailing_le 64 rest) (rw (trailing_first 64 rest) (first_laws (is_set rest) 64).none_before)
@@ -208,6 +201,6 @@ module _ {pool : List ℕ} {from i below : ℕ} (t : Passed pool from i) (fits :
       | yes l ↦
           let q : min (64 * i + low) bound ≡ 64 * i + low = omega arith in
           q ∙ pool_laws.next_is pool from bound (64 * i + low)
-          (record { none_before = none_low; within = omega arith; is_used = λ b. sym (ahead low (lowest_in rest o small) low_onward) ∙ lowest_set rest o small })
+          (record { none_before = none_low; within = omega arith; is_used = λ b. sym (t.ahead low (lowest_in rest o t.fits) low_onward) ∙ lowest_set rest o t.fits })
       | no l ↦ let q : min (64 * i + low) bound ≡ bound = omega arith in q ∙ next_missing bound none_low h (omega arith)
     ]

@@ -1,10 +1,10 @@
 // The pool map: bit n % 64 of word n / 64 is 1 if node n is used.
-ghost use Rattle.std.specs.Prelude.{◌≡◌, ◌+◌, ◌-◌, ◌*◌, ◌^◌, ◌≤◌, ◌<◌, length};
+ghost use Rattle.std.specs.Prelude.{◌≡◌, ◌+◌, ◌-◌, ◌*◌, ◌≤◌, ◌<◌, length};
 ghost use Rattle.std.specs.Iterator.{at_most};
 ghost use Rattle.pool.specs.UsedNodes.{NextUsed};
 ghost use Rattle.memory.specs.Words.{reads};
 ghost use Rattle.tree.specs.Lists.{range};
-ghost use Rattle.tree.specs.Lookup.{free_run, is_free_run};
+ghost use Rattle.tree.specs.Lookup.{free_run};
 ghost use Rattle.tree.specs.Pool.{used, next_used, mark, unmark, mark_all, unmark_all, clear_map};
 
 use memory::search::lowest_unmarked;
@@ -128,15 +128,7 @@ pub fn free_node(pool: &[u64], g: Geometry) -> usize
     lowest_unmarked(pool, g.nodes)
 }
 
-// Are k adjacent nodes from s on inside the pool and free?
-fn is_free_run(pool: &[u64], g: Geometry, s: usize, k: usize) -> bool
-    requires { (g.nodes ≤ 64 * length pool.now) × (g.nodes ≤ 65536) × (k ≤ 4) × (s + k < 2 ^ 64) }
-    ensures { result ≡ is_free_run g (reads pool.now) k s }
-{
-    s + k <= g.nodes && (s..s + k).all(|n| !is_used(pool, n))
-}
-
-// The lowest run of k adjacent free nodes, or the number of nodes. No run starts in a full word.
+// The lowest run of k adjacent free nodes, or the number of nodes. No run starts in a full word, nor too near to the pool's end.
 pub fn free_run(pool: &[u64], g: Geometry, k: usize) -> usize
     requires { (g.nodes ≤ 64 * length pool.now) × (g.nodes ≤ 65536) × (1 ≤ k) × (k ≤ 4) }
     ensures { result ≡ free_run g (reads pool.now) k }
@@ -145,10 +137,13 @@ pub fn free_run(pool: &[u64], g: Geometry, k: usize) -> usize
         if *word == FULL {
             continue;
         }
-        for s in 64 * i..64 * i + 64 {
-            if is_free_run(pool, g, s, k) {
-                return s;
+        'search: for s in 64 * i..min(64 * i + 64, (g.nodes + 1).saturating_sub(k)) {
+            for n in s..s + k {
+                if is_used(pool, n) {
+                    continue 'search;
+                }
             }
+            return s;
         }
     }
     g.nodes

@@ -17,6 +17,7 @@ pub struct ReelSlot {
 }
 
 // 1 to 4, then 5 where the reel has no slot. Past 3 a refusal leaves the scratch map all 0; else it stays.
+#[inline(always)]
 pub fn slot_checked(
     image: &[u64],
     map: Option<usize>,

@@ -97,17 +97,17 @@ module _ {op : Operation} {s : State} {script : List ℕ} {h : ℕ} {wrong : Boo
   borrowed = buffers [] script []
 
   module _ {g : Geometry} (p : Checked s.image none none (some script) g) where
-    number_bad : head_count ≤ h → ended 11 0 s borrowed ≡ ends op s borrowed
+    pub number_bad : head_count ≤ h → ended 11 0 s borrowed ≡ ends op s borrowed
     number_bad l = refused_past o.tested borrowed p 11 (refused_here _ _ (le-leb head_count h l)) (omega arith)
 
     module _ (l : h < head_count) where
       past_number : refusal (later h wrong t g) ≡ refusal ((is wrong gives 12) ∷ (outside g t gives 4) ∷ [])
       past_number = refused_later _ _ (lt-leb head_count h l)
 
-      state_bad : wrong ≡ true → ended 12 0 s borrowed ≡ ends op s borrowed
+      pub state_bad : wrong ≡ true → ended 12 0 s borrowed ≡ ends op s borrowed
       state_bad w = refused_past o.tested borrowed p 12 (past_number ∙ refused_here _ _ w) (omega arith)
 
-      target_bad : wrong ≡ false → holds (outside g t) ≡ true → ended 4 0 s borrowed ≡ ends op s borrowed
+      pub target_bad : wrong ≡ false → holds (outside g t) ≡ true → ended 4 0 s borrowed ≡ ends op s borrowed
       target_bad w q = refused_past o.tested borrowed p 4 (past_number ∙ refused_later _ _ w ∙ refused_here _ _ q) (omega arith)
 
       pub all_done : (n : ℕ) (words : List ℕ) → wrong ≡ false → holds (outside g t) ≡ false

@@ -1,4 +1,4 @@
 use Rattle.answer_lines.proofs.decimal.+put_decimal.Given as goal
 
 abbrev pub decreases-put_decimal : goal.decreases-put_decimal
-decreases-put_decimal g l = l.n
+decreases-put_decimal l = l.n
